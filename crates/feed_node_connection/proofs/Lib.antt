@@ -3,3 +3,5 @@ pub mod Found
 pub mod Unavailable
 pub mod States
 pub mod Steps
+pub mod Waits
+pub mod Phases

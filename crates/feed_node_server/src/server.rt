@@ -195,7 +195,6 @@ impl Server {
         outcome
     }
 
-    #[tactic(auto, using(feed_node_machine::proofs::Later::later_after))]
     fn run_turn<K: Keep + Drop, S: FeedRespond + Drop, L: Log>(
         &mut self,
         rt: &impl Clock,
@@ -205,19 +204,36 @@ impl Server {
     ) -> io::Result<()>
         ensures { IsLater S.wanted S.replies node.old node.new }
     {
-        let may_block = node.table().ready_len() == 0 && !self.has_more_work;
-        let wait = if may_block { TICK } else { 0 };
-        self.poll.poll(events, Some(Duration::from_millis(wait)))?;
-        self.read_clock(rt)?;
+        self.wait(rt, node.table().ready_len(), events)?;
         for event in events.iter() {
             self.on_event(node, event.token());
         }
         self.serve_ready(rt, node, log)?;
         let has_more_work = self.accept_waiting(rt, node, log)?;
+        self.end_turn(node, has_more_work, log);
+        Ok(())
+    }
+
+    // Waits for the sockets, unless a connection is ready or work is left, and reads the clock.
+    fn wait(&mut self, rt: &impl Clock, ready: usize, events: &mut Events) -> io::Result<()> {
+        let may_block = ready == 0 && !self.has_more_work;
+        let wait = if may_block { TICK } else { 0 };
+        self.poll.poll(events, Some(Duration::from_millis(wait)))?;
+        self.read_clock(rt)
+    }
+
+    // Advances all but the connections: the request to another server, the streamed replies, and the clocks.
+    fn end_turn<K: Keep + Drop, S: FeedRespond + Drop, L: Log>(
+        &mut self,
+        node: &mut ServedNode<'_, K, S>,
+        has_more_work: bool,
+        log: &mut L,
+    )
+        ensures { IsLater S.wanted S.replies node.old node.new }
+    {
         self.has_more_work = self.advance_outgoing() || has_more_work;
         self.advance_streams();
         self.advance_clock(node, log);
-        Ok(())
     }
 
     fn on_event<K: Keep + Drop, S: FeedRespond + Drop>(
@@ -236,7 +252,6 @@ impl Server {
 
     // Gives each connection that is ready one share of the turn, the last one first: one that has more to do is added
     // at the end, for the next turn.
-    #[tactic(auto, using(feed_node_machine::proofs::Later::later_after))]
     fn serve_ready<K: Keep + Drop, S: FeedRespond + Drop, L: Log>(
         &mut self,
         rt: &impl Clock,
@@ -332,7 +347,6 @@ impl Server {
 
     // Accepts connections until none waits or the system refuses one. If it has no descriptor left, a connection is
     // closed for the next one. A flood gets a bounded share of a turn. Returns whether it used all of it.
-    #[tactic(auto, using(feed_node_machine::proofs::Later::later_after))]
     fn accept_waiting<K: Keep + Drop, S: FeedRespond + Drop, L: Log>(
         &mut self,
         rt: &impl Clock,
@@ -382,7 +396,6 @@ impl Server {
 
     // Begins a new connection, and serves it at once: its client may have sent a request already. If it remains open,
     // its socket is registered with the poll. If that fails, the connection is removed.
-    #[tactic(auto, using(feed_node_machine::proofs::Later::later_after))]
     fn admit<K: Keep + Drop, S: FeedRespond + Drop, L: Log>(
         &mut self,
         rt: &impl Clock,
@@ -399,10 +412,25 @@ impl Server {
         let Some(key) = node.accept(socket, addr, self.limits, self.now, log) else {
             return Ok(());
         };
-        if self.serve(rt, node, key, log)? && !node.register(key, self.poll.registry()) {
+        if !self.serve(rt, node, key, log)? {
+            return Ok(());
+        }
+        self.watch(node, key, log);
+        Ok(())
+    }
+
+    // Registers the socket of a connection with the poll. If that fails, the connection is removed.
+    fn watch<K: Keep + Drop, S: FeedRespond + Drop, L: Log>(
+        &self,
+        node: &mut ServedNode<'_, K, S>,
+        key: usize,
+        log: &mut L,
+    )
+        ensures { IsLater S.wanted S.replies node.old node.new }
+    {
+        if !node.register(key, self.poll.registry()) {
             let _ = node.remove(key, CloseCause::PeerClosed, self.now, log);
         }
-        Ok(())
     }
 
     // Advances the clocks, at most once in 250 ms.

@@ -11,7 +11,7 @@ const SPARE_BYTES: usize = 65_536;
 const UNSIZED_LIMIT: usize = 8_388_608;
 
 /// The next step of a node, by the bytes of a reply that have arrived.
-#[derive(Clone, Copy, Debug, PartialEq, Eq)]
+#[derive(Clone, Copy)]
 pub enum Arrival {
     /// Waits for more of them.
     Unfinished,
@@ -30,7 +30,7 @@ pub enum Arrival {
 }
 
 /// A part of a whole file whose length the reply stated.
-#[derive(Clone, Copy, Debug, PartialEq, Eq)]
+#[derive(Clone, Copy)]
 pub struct WholePart {
     /// Where the part begins and ends in the bytes of the reply that are kept.
     pub from: usize,
@@ -42,7 +42,7 @@ pub struct WholePart {
 }
 
 // A whole file that is taken part by part.
-#[derive(Clone, Copy, Debug)]
+#[derive(Clone, Copy)]
 struct ArrivingWhole {
     /// Where its next byte is in the bytes of the reply that are kept.
     from: usize,
@@ -81,7 +81,7 @@ impl ArrivingWhole {
 }
 
 /// The reply to one request of a fetch, while it arrives.
-#[derive(Clone, Copy, Debug)]
+#[derive(Clone, Copy)]
 pub struct Exchange {
     scan: ReplyScan,
     /// How many places the request may ask for.

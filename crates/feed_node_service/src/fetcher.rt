@@ -73,6 +73,19 @@ enum Step {
     End(FetchEnd),
 }
 
+// What has arrived of a reply.
+#[derive(Drop)]
+enum Arrived {
+    /// Nothing that the feed takes.
+    Step(Step),
+    /// A part of a whole file.
+    Part(WholePart),
+    /// The whole reply, or why there is none.
+    Reply(Result<Got, RequestFault>),
+    /// More than 8,388,608 bytes of a whole file whose length the reply does not state.
+    NoRanges,
+}
+
 impl<'a> Fetcher<'a> {
     pub fn new(
         rt: &'a HostRuntime,
@@ -261,34 +274,39 @@ impl<'a> Fetcher<'a> {
     ) -> Step
         ensures { IsLaterNode node.old node.new }
     {
-        if outgoing.is_over() && !outgoing.has_sent() {
-            return Step::Retry;
-        }
-        match running.exchange.look(outgoing.reply(), outgoing.is_over()) {
-            Arrival::Unfinished => {
-                outgoing.set_reply_limit(running.exchange.limit());
-                Step::Wait
-            }
-            Arrival::Part(part) => take_part(node, running, outgoing, part, lines),
-            Arrival::Whole { is_new: true } => Step::Send,
-            Arrival::Whole { is_new: false } => Step::End(FetchEnd::Stopped(Stop::NoProgress)),
-            Arrival::Complete => {
-                let reply = self.parse_reply(running.exchange.method(), outgoing);
-                take_reply(node, &reply, lines)
-            }
-            Arrival::Cut => {
-                let fault = match outgoing.fault() {
-                    Some(_) => HttpFault::Read,
-                    None => HttpFault::Short,
-                };
-                take_reply(node, &Err(RequestFault::Http(fault)), lines)
-            }
-            Arrival::TooLong(fault) => { take_reply(node, &Err(RequestFault::Http(fault)), lines) }
-            Arrival::NoRanges => {
+        match self.arrived(running, outgoing) {
+            Arrived::Step(step) => step,
+            Arrived::Part(part) => take_part(node, running, outgoing, part, lines),
+            Arrived::Reply(reply) => take_reply(node, &reply, lines),
+            Arrived::NoRanges => {
                 let fault = RequestFault::Http(HttpFault::BodyTooLong);
                 let _ = take_reply(node, &Err(fault), lines);
                 Step::End(FetchEnd::NoRanges)
             }
+        }
+    }
+
+    // Returns what has arrived of the reply to the last request.
+    fn arrived(&self, running: &mut RunningExchange, outgoing: &mut OutgoingRequest) -> Arrived {
+        if outgoing.is_over() && !outgoing.has_sent() {
+            return Arrived::Step(Step::Retry);
+        }
+        match running.exchange.look(outgoing.reply(), outgoing.is_over()) {
+            Arrival::Unfinished => {
+                outgoing.set_reply_limit(running.exchange.limit());
+                Arrived::Step(Step::Wait)
+            }
+            Arrival::Part(part) => Arrived::Part(part),
+            Arrival::Whole { is_new: true } => Arrived::Step(Step::Send),
+            Arrival::Whole { is_new: false } => {
+                Arrived::Step(Step::End(FetchEnd::Stopped(Stop::NoProgress)))
+            }
+            Arrival::Complete => {
+                Arrived::Reply(self.parse_reply(running.exchange.method(), outgoing))
+            }
+            Arrival::Cut => Arrived::Reply(Err(RequestFault::Http(cut_fault(outgoing)))),
+            Arrival::TooLong(fault) => Arrived::Reply(Err(RequestFault::Http(fault))),
+            Arrival::NoRanges => Arrived::NoRanges,
         }
     }
 
@@ -298,6 +316,14 @@ impl<'a> Fetcher<'a> {
             Ok(got) => Ok(got),
             Err(fault) => Err(RequestFault::Http(fault)),
         }
+    }
+}
+
+// Returns why a reply ended before it was complete.
+fn cut_fault(outgoing: &OutgoingRequest) -> HttpFault {
+    match outgoing.fault() {
+        Some(_) => HttpFault::Read,
+        None => HttpFault::Short,
     }
 }
 

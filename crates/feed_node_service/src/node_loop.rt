@@ -1,5 +1,6 @@
 //! Runs a node: the loop that ends only when its sockets, its log or the file of its database fail.
-ghost use Rattle.std.specs.Prelude.{◌≡◌};
+ghost use Rattle.std.specs.Prelude.{◌≡◌, IfOk};
+ghost use Rattle.feed_node_table.specs.Tables.{size_of};
 ghost use Rattle.feed_node_service.specs.Runs.{HasGoneOn, IsLaterNode};
 
 use crate::access_log::{AccessLog, LogSettings};
@@ -11,11 +12,12 @@ use crate::today::{day_number, today};
 use crate::watched_file::WatchedFile;
 use feed_keep::Keep;
 use feed_node_machine::NodeMachine;
-use feed_node_server::Server;
+use feed_node_server::{Server, Socket};
 use feed_node_table::Table;
 use feed_releases::Feed;
 use feed_resolver_tag::Site;
 use mio::Events;
+use std::alloc::{AllocError, Global};
 use std::io;
 use std::io::Write;
 use std::time::Instant;
@@ -58,28 +60,50 @@ pub fn run<K: Keep + Drop, O: Write>(
 ) -> (End, K)
     ensures { HasGoneOn feed result }
 {
-    let alloc = rt.alloc();
-    let Ok(state) = NodeState::new(alloc) else {
+    let Ok((state, table)) = allocate(rt.alloc(), server.clients()) else {
         return (End::Memory, feed.restart());
     };
-    let Ok(table) = Table::new(alloc, server.clients()) else {
-        return (End::Memory, feed.restart());
-    };
+    run_over(rt, feed, server, setup, file, out, &state, table)
+}
+
+// Allocates the state that the parts of a node share, and a table without connections.
+fn allocate(alloc: Global, clients: usize) -> Result<(NodeState, Table<Socket>), AllocError>
+    ensures { IfOk result (λ made. size_of made.1 ≡ 0) }
+{
+    let state = NodeState::new(alloc)?;
+    let table = Table::new(alloc, clients)?;
+    Ok((state, table))
+}
+
+// Runs a node over its state and its table.
+fn run_over<'a, K: Keep + Drop, O: Write>(
+    rt: &'a HostRuntime,
+    feed: Feed<K>,
+    server: &mut Server,
+    setup: NodeSetup<'a>,
+    file: WatchedFile<'a>,
+    out: &'a mut O,
+    state: &'a NodeState,
+    table: Table<Socket>,
+) -> (End, K)
+    requires { size_of table ≡ 0 }
+    ensures { HasGoneOn feed result }
+{
     let responder = FeedResponder {
-        state: &state,
+        state,
         site: setup.site,
         version: setup.version.as_bytes(),
         has_open_reports: setup.log.has_open_reports,
     };
     let token = token_of(setup.source);
     let day = day_number(rt);
-    let mut node = NodeMachine::new(alloc, table, feed, responder, token, today(day));
+    let mut node = NodeMachine::new(rt.alloc(), table, feed, responder, token, today(day));
     let _ = node.keep_releases();
     let mut running = RunningNode {
         rt,
-        state: &state,
-        fetcher: Fetcher::new(rt, setup.source, setup.addrs, file, &state),
-        log: AccessLog::new(rt, out, &state, setup.log),
+        state,
+        fetcher: Fetcher::new(rt, setup.source, setup.addrs, file, state),
+        log: AccessLog::new(rt, out, state, setup.log),
         day,
         switched: None,
     };

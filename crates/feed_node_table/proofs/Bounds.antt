@@ -1,12 +1,12 @@
 -- A connection holds at most what it held before its share of a turn, or the longest reply.
-use Rattle.std.proofs.Common.{◌≡◌, ◌≢◌, ◌+◌, ◌≤◌, ◌⊎◌, max, ℕ, Bool, true, false, List, [], ◌∷◌, ◌++◌, length, drop, Some, None, refl, sym, ap, subst, arith, length-append, length-drop, inl, inr}
+use Rattle.std.proofs.Common.{◌≡◌, ◌≢◌, ◌≤◌, ◌⊎◌, max, ℕ, true, false, List, [], ◌∷◌, ◌++◌, length, refl, ap, arith, length-append, length-drop, inl, inr}
 use Rattle.feed_node_connection.specs.declared.connection.Connection.{Connection}
 use Rattle.feed_node_connection.specs.declared.connection.Phase.{Phase}
 use Rattle.feed_node_connection.specs.declared.connection.Phase.TheVariants.{Idle, Receiving, Parsing, Sending, Answered, Lingering, Complete, Aborted}
 use Rattle.feed_node_connection.specs.declared.connection.Wants.TheVariants as wants
 use Rattle.feed_node_connection.specs.Events.{Event, Received, Sent, Replied, Continued, Resumed, Elapsed, sent_bytes, reply_bytes, last_reply, continue_text}
 use Rattle.feed_node_connection.specs.Requests.{Request, Persistent, Last, Invalid}
-use Rattle.feed_node_connection.specs.Replies.{Replies, IsRepliedTo, IsReplyOf, unavailable}
+use Rattle.feed_node_connection.specs.Replies.{Replies, IsReplyOf, unavailable}
 use Rattle.feed_node_connection.specs.States.{HasState, HasStateIn, pending_in, wants_in}
 use Rattle.feed_node_connection.specs.Streams.{AreReplies}
 use Rattle.feed_node_table.specs.Connections.{AreWithin, short_len, unsent_bytes}

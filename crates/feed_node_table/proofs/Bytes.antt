@@ -1,15 +1,12 @@
 -- The bytes of replies that a connection holds.
-use Rattle.std.proofs.Common.{◌≡◌, ◌≢◌, ◌+◌, ◌≤◌, ◌<◌, ℕ, zero, suc, Bool, true, false, List, [], ◌∷◌, ◌++◌, length, drop, Some, None, refl, sym, ap, ◌∙◌, ◌⊎◌, arith, length-append, append_assoc}
-use Rattle.std.proofs.Math.Logic.{∥∥₁_map, ∥∥₁_elim}
-use Rattle.std.proofs.Math.Bridge.{le_prop}
+use Rattle.std.proofs.Common.{◌≡◌, ◌≢◌, ◌+◌, ◌≤◌, ℕ, List, [], length, drop, refl, sym, ap, ◌∙◌, arith, length-append}
 use Rattle.feed_node_connection.specs.declared.connection.Connection.{Connection}
 use Rattle.feed_node_connection.specs.declared.connection.Phase.{Phase}
 use Rattle.feed_node_connection.specs.declared.connection.Phase.TheVariants.{Idle, Receiving, Parsing, Sending, Answered, Lingering, Complete, Aborted}
 use Rattle.feed_node_connection.specs.declared.connection.Wants.TheVariants as wants
-use Rattle.feed_node_connection.specs.declared.streams.Share.{Share}
-use Rattle.feed_node_connection.specs.Events.{Event, Received, Sent, Replied, Resumed, Elapsed, sent_bytes, reply_bytes, requests_in}
+use Rattle.feed_node_connection.specs.Events.{Event, sent_bytes, reply_bytes}
 use Rattle.feed_node_connection.specs.States.{HasState, HasStateIn, pending_in, wants_in}
-use Rattle.feed_node_table.specs.Connections.{IsConnection, HasMoved, unsent_bytes}
+use Rattle.feed_node_table.specs.Connections.{unsent_bytes}
 
 -- the bytes sent and those that are not yet sent are at most those of the replies
 pub held_at_most : (phase : Phase) (connection : Connection) (history : List Event) → HasStateIn phase connection history

@@ -1,5 +1,5 @@
 -- The connections that are out of time, as far as they were looked at.
-use Rattle.std.proofs.Common.{◌≡◌, ◌≢◌, ◌+◌, ◌<◌, ◌≤◌, ◌⊎◌, ℕ, length, get_or, Option, Some, None, IsSome, refl, sym, subst, ap, ◌∙◌, arith, inl, inr}
+use Rattle.std.proofs.Common.{◌≡◌, ◌+◌, ◌<◌, ◌≤◌, ℕ, length, Option, Some, None, IsSome, refl, sym, subst, ap, ◌∙◌, arith, inl, inr}
 use Rattle.std.proofs.lemmas.Bool.{cases_eq, cases_lt}
 use Rattle.std.proofs.lemmas.List.{get_or_past}
 use Rattle.feed_node_table.specs.declared.peer.Peer.{Peer}

@@ -1,5 +1,5 @@
 -- The table stays as its fields say.
-use Rattle.std.proofs.Common.{◌≡◌, ◌≢◌, ◌+◌, ◌-◌, ◌*◌, ◌<◌, ◌≤◌, ◌⊎◌, max, ℕ, Bool, true, false, List, length, get_or}
+use Rattle.std.proofs.Common.{◌≡◌, ◌≢◌, ◌+◌, ◌-◌, ◌*◌, ◌<◌, ◌≤◌, max, ℕ, Bool, true, false, List, cond, get_or}
 use Rattle.std.proofs.Common.{set, Option, Some, None, is_some, IsSome, sum_by, count_by, refl, sym, ap, subst, ◌∙◌, arith, inl, inr}
 use Rattle.std.specs.Prelude.{nat_lt}
 use Rattle.std.proofs.lemmas.Bool.{cases_eq, false≢true, ltb-true}
@@ -26,6 +26,18 @@ some_fits replies longest within head body persists reply (inl made) = within he
 some_fits replies longest within head body persists reply (inr none) = absurd (false≢true (sym none.0))
 
 module _ {T : Type 0} where
+  pub never_none : {A : Type 0} (slot : Option (Peer T)) (peer : Peer T) → slot ≡ Some peer → slot ≡ None → A
+  never_none slot peer some none = absurd (cc)
+
+  -- a connection changed: there are as many as there were, and the others are as they were
+  pub size_after_write : (slots : List (Option (Peer T))) (key : ℕ) (old new : Peer T) → get_or slots key None ≡ Some old
+      → count_by is_some (set slots key (Some new)) ≡ count_by is_some slots
+  size_after_write slots key old new there = omega (arith, sum_of_write (λ slot. cond (is_some slot) 1 0) refl slots key old (Some new) there)
+
+  pub others_after_write : (slab : Slab (Peer T)) (key : ℕ) (old new : Peer T) → get slab key ≡ Some old
+      → (other : ℕ) → other ≢ key → get (with_value slab key new) other ≡ get slab other
+  others_after_write slab key old new there = (Updates-with_value slab key new (subst (λ slot. IsSome slot) (sym there) refl)).others
+
   -- a connection changed
   pub counted_after_write : (slots : List (Option (Peer T))) (key : ℕ) (old new : Peer T) (unsent before after : ℕ) → get_or slots key None ≡ Some old
       → unsent ≡ sum_by unsent_in slots → before ≡ unsent_bytes old.connection → after ≡ (unsent - before) + unsent_bytes new.connection
@@ -40,6 +52,32 @@ module _ {T : Type 0} where
   pub less_is_within : (slots : List (Option (Peer T))) (key : ℕ) (old : Peer T) (unsent before after : ℕ) → get_or slots key None ≡ Some old
       → unsent ≡ sum_by unsent_in slots → before ≡ unsent_bytes old.connection → before - after ≤ unsent
   less_is_within slots key old unsent before after there counted was =
+      let least : unsent_bytes old.connection ≤ sum_by unsent_in slots = sum_of_slot unsent_in refl slots key old there in
+      omega (arith, least, counted, was)
+
+  pub there_after_write : (slab : Slab (Peer T)) (key : ℕ) (old new : Peer T) → get slab key ≡ Some old → IsSome (get (with_value slab key new) key)
+  there_after_write slab key old new there =
+      subst (λ slot. IsSome slot) (sym (Updates-with_value slab key new (subst (λ slot. IsSome slot) (sym there) refl)).changed) refl
+
+  -- a connection changed, and holds as much as it held
+  pub counted_after_same : (slots : List (Option (Peer T))) (key : ℕ) (old new : Peer T) (unsent : ℕ) → get_or slots key None ≡ Some old
+      → unsent ≡ sum_by unsent_in slots → unsent_bytes new.connection ≡ unsent_bytes old.connection → unsent ≡ sum_by unsent_in (set slots key (Some new))
+  counted_after_same slots key old new unsent there counted same =
+      let written : sum_by unsent_in (set slots key (Some new)) + unsent_bytes old.connection ≡ sum_by unsent_in slots + unsent_bytes new.connection =
+      sum_of_write unsent_in refl slots key old (Some new) there in
+      omega (arith, written, counted, same)
+
+  pub over_after_same : (slots : List (Option (Peer T))) (key : ℕ) (old new : Peer T) → get_or slots key None ≡ Some old
+      → unsent_bytes new.connection ≡ unsent_bytes old.connection → sum_by over_in (set slots key (Some new)) ≡ sum_by over_in slots
+  over_after_same slots key old new there same =
+      let written : sum_by over_in (set slots key (Some new)) + (unsent_bytes old.connection - short_len) ≡ sum_by over_in slots + (unsent_bytes new.connection - short_len) =
+      sum_of_write over_in refl slots key old (Some new) there in
+      omega (arith, written, same)
+
+  -- a connection holds no more than all of them
+  pub own_is_within : (slots : List (Option (Peer T))) (key : ℕ) (old : Peer T) (unsent before : ℕ) → get_or slots key None ≡ Some old
+      → unsent ≡ sum_by unsent_in slots → before ≡ unsent_bytes old.connection → before ≤ unsent
+  own_is_within slots key old unsent before there counted was =
       let least : unsent_bytes old.connection ≤ sum_by unsent_in slots = sum_of_slot unsent_in refl slots key old there in
       omega (arith, least, counted, was)
 

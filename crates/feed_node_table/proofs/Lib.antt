@@ -3,11 +3,11 @@ pub mod Bounds
 pub mod Shares
 pub mod Slots
 pub mod Places
+pub mod Keys
 pub mod Invariants
 pub mod Order
 pub mod Firsts
 pub mod Records
 pub mod Settled
 pub mod Expired
-pub mod Ended
 pub mod Written

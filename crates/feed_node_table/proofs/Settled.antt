@@ -1,17 +1,16 @@
 -- The table after a connection had its share of a turn.
-use Rattle.std.proofs.Common.{◌≡◌, ◌≢◌, ◌+◌, ◌≤◌, ℕ, true, false, Option, Some, None, IsSome, sum_by, refl, sym, ap, subst, ◌∙◌}
+use Rattle.std.proofs.Common.{◌≡◌, ◌+◌, ◌≤◌, ℕ, false, Option, Some, None, IsSome, sum_by, refl, sym, ap, subst, ◌∙◌}
 use Rattle.std.proofs.lemmas.Bool.{false≢true}
 use Rattle.slab.specs.Slab.{get, slab_len}
 use Rattle.feed_node_connection.specs.declared.streams.Progress.{Progress}
-use Rattle.feed_node_table.specs.declared.log.CloseCause.{CloseCause}
 use Rattle.feed_node_table.specs.declared.log.CloseCause.TheVariants.{PeerClosed}
 use Rattle.feed_node_table.specs.declared.peer.Outcome.{Outcome}
-use Rattle.feed_node_table.specs.declared.peer.Outcome.TheVariants.{Waits, Ready, Resumed, Streams, Over}
+use Rattle.feed_node_table.specs.declared.peer.Outcome.TheVariants.{Over}
 use Rattle.feed_node_table.specs.declared.peer.Peer.{Peer}
 use Rattle.feed_node_table.specs.declared.table.Table.{Table}
-use Rattle.feed_node_table.specs.Logs.{Entry, HasRecorded}
+use Rattle.feed_node_table.specs.Logs.{Entry}
 use Rattle.feed_node_table.specs.Peers.{IsFollowed, cause_of, over_in}
-use Rattle.feed_node_table.specs.Tables.{peer_at, size_of, over_bytes, ready_keys, has_more, IsReady, KeepsOthers, KeepsReady, IsRemoved, HasClosed, IsFollowedAt, IsSettled}
+use Rattle.feed_node_table.specs.Tables.{peer_at, over_bytes, ready_keys, has_more, IsReady, KeepsOthers, KeepsReady, IsRemoved, HasClosed, IsFollowedAt, IsSettled}
 use Rattle.feed_node_table.proofs.Records.{closed_both, closed_removed, ready_same, ready_after}
 
 module _ {T L : Type 0} (records : L → Entry → L → Type 0) where

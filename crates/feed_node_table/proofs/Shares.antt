@@ -1,5 +1,5 @@
 -- The effects of a connection's share of a turn.
-use Rattle.std.proofs.Common.{◌≡◌, ◌≢◌, ◌+◌, ◌-◌, ◌≤◌, ◌<◌, ◌⊎◌, max, ℕ, Bool, true, false, List, [], ◌++◌, length, Some, None, refl, sym, ap, subst, ◌∙◌, arith, inl, inr}
+use Rattle.std.proofs.Common.{◌≡◌, ◌≢◌, ◌+◌, ◌-◌, ◌≤◌, ◌<◌, ◌⊎◌, max, ℕ, Bool, false, List, [], ◌++◌, refl, sym, subst, ◌∙◌, arith, inl, inr}
 use Rattle.std.proofs.Math.Logic.{∥∥₁_elim}
 use Rattle.std.proofs.Math.Bridge.{le_prop}
 use Rattle.feed_node_connection.specs.declared.connection.Connection.{Connection}
@@ -11,7 +11,7 @@ use Rattle.feed_node_connection.specs.Events.{Event}
 use Rattle.feed_node_connection.specs.Replies.{Replies, LacksReply}
 use Rattle.feed_node_connection.specs.States.{HasState, wants_in}
 use Rattle.feed_node_connection.specs.Streams.{IsStopped}
-use Rattle.feed_node_table.specs.Connections.{HasMoved, HasServed, IsConnection, IsGiven, AreWithin, in_room, short_len, unsent_bytes}
+use Rattle.feed_node_table.specs.Connections.{HasMoved, HasServed, IsConnection, IsGiven, in_room, short_len, unsent_bytes}
 use Rattle.feed_node_table.specs.declared.peer.Peer.{Peer}
 use Rattle.feed_node_table.proofs.Bytes.{over_holds_least}
 use Rattle.feed_node_table.proofs.Bounds.{bounded_after}

@@ -1,5 +1,5 @@
 -- The facts about a connection that the table uses.
-use Rattle.std.specs.Prelude.{◌≡◌, ◌≢◌, ◌≤◌, ◌<◌, ◌+◌, ◌⊎◌, max, ℕ, Bool, true, false, List, ◌++◌, length, take, Option, Some, None}
+use Rattle.std.specs.Prelude.{◌≡◌, ◌≢◌, ◌≤◌, ◌<◌, ◌+◌, ◌⊎◌, max, ℕ, Bool, true, false, List, ◌++◌, length, Option, Some, None}
 use Rattle.feed_node_connection.specs.declared.connection.Connection.{Connection}
 use Rattle.feed_node_connection.specs.declared.streams.Share.{Share}
 use Rattle.feed_node_connection.specs.declared.streams.Progress.{Progress}

@@ -1,3 +1,4 @@
+pub mod Loops
 pub mod HitTexts
 pub mod AnswerTexts
 pub mod BestLinks

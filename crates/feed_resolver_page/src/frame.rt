@@ -1,7 +1,7 @@
 //! The beginning and the end of a page.
 ghost use Rattle.std.specs.Prelude.{◌≡◌, ◌++◌, OnOk, option_copied};
-ghost use Rattle.feed_resolver_page.specs.Frames.{banner, style_start, heading, language_or, page_body, page_end, page_head};
-ghost use Rattle.feed_resolver_page.specs.Frames.{page_style};
+ghost use Rattle.feed_resolver_page.specs.Frames.{banner, heading, language_or, page_body, page_end, page_head};
+ghost use Rattle.feed_resolver_page.specs.Frames.{page_style, style_start};
 ghost use Rattle.feed_resolver_page.specs.Frames.{page_start};
 ghost use Rattle.feed_resolver_page.specs.Frames.{page_top, title_end};
 

@@ -159,8 +159,8 @@ fn form_reply(alloc: Global, site: &SiteFile) -> Result<Reply, AllocError>
     Ok(Reply::new(Status::Good, Representation::Html, body))
 }
 
-/// Returns the reply to a query for which nothing is looked up: the form, if a browser sends no query. A query without an
-/// ISSN and an ISBN whose citation names a work has a reply with this status. Any other is rejected.
+/// Returns the reply to a query for which nothing is looked up: the form, if a browser sends no query. A query without
+/// an ISSN and an ISBN whose citation names a work has a reply with this status. Any other is rejected.
 pub fn unasked_reply(
     alloc: Global,
     site: &SiteFile,

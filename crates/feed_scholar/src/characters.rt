@@ -7,7 +7,7 @@ ghost use Rattle.feed_scholar.specs.Marks.{escape_byte, xml_text};
 use std::alloc::AllocError;
 
 /// The bytes before a byte, as far as they begin U+FFFE or U+FFFF, which are EF BF BE and EF BF BF in UTF-8.
-#[derive(Clone, Copy, Debug, PartialEq, Eq)]
+#[derive(Clone, Copy)]
 pub(crate) enum Place {
     /// Neither of the two begins here.
     Outside,

@@ -1,4 +1,5 @@
 pub mod Urls
+pub mod Bytes
 pub mod Kinds
 pub mod Schema
 pub mod Lookups

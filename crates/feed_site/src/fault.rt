@@ -69,7 +69,7 @@ impl Reason {
 }
 
 /// The reason why a value is not accepted, and the number of the item if it is a list, counted from 1.
-#[derive(Clone, Copy, Debug, PartialEq, Eq)]
+#[derive(Clone, Copy)]
 pub(crate) struct Flaw {
     pub(crate) item: Option<usize>,
     pub(crate) reason: Reason,

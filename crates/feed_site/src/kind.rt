@@ -7,7 +7,7 @@ use crate::text::{is_color, is_date, is_language, is_package};
 use crate::url::is_url;
 
 /// A kind of value.
-#[derive(Clone, Copy, Debug, PartialEq, Eq)]
+#[derive(Clone, Copy)]
 pub enum Kind {
     /// A text that is not empty.
     Text,

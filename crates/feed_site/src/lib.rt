@@ -1,6 +1,7 @@
 //! The site file of a library: its name and colour, its proxy, its request form, and which packages it has.
 #![tactic(auto)]
 
+mod bytes;
 mod checks;
 mod cuts;
 mod fault;

@@ -7,7 +7,7 @@ use crate::kind::Kind;
 use feed_page_texts::is_name;
 
 /// A section of a site file.
-#[derive(Clone, Copy, Debug, PartialEq, Eq)]
+#[derive(Clone, Copy)]
 pub(crate) enum Section {
     /// `[library]`: the names, the addresses and the colour of the page.
     Library,

@@ -107,22 +107,26 @@ impl SiteFault {
     }
 }
 
+fn write_position<W: fmt::Write>(at: Position, f: &mut fmt::Formatter<W>) -> fmt::Result {
+    let (line, column) = (at.line, at.column);
+    write!(f, "line {line}, column {column}")
+}
+
+fn write_path<W: fmt::Write>(path: &str, f: &mut fmt::Formatter<W>) -> fmt::Result {
+    for c in path.chars() {
+        f.write_char(if c.is_control() { '?' } else { c })?;
+    }
+    Ok(())
+}
+
 /// Writes where the fault is: `line 3, column 5`, or the path of a key, in which `?` stands for a control character.
 impl fmt::Display for SiteFault {
     fn fmt<W: fmt::Write>(&self, f: &mut fmt::Formatter<W>) -> fmt::Result {
         match self {
             SiteFault::TooLong => f.write_str("TooLong"),
             SiteFault::NotUtf8 => f.write_str("NotUtf8"),
-            SiteFault::Syntax(at) => {
-                let (line, column) = (at.line, at.column);
-                write!(f, "line {line}, column {column}")
-            }
-            SiteFault::Key(fault) => {
-                for c in fault.path().chars() {
-                    f.write_char(if c.is_control() { '?' } else { c })?;
-                }
-                Ok(())
-            }
+            SiteFault::Syntax(at) => write_position(*at, f),
+            SiteFault::Key(fault) => write_path(fault.path(), f),
             SiteFault::Memory => f.write_str("Memory"),
         }
     }

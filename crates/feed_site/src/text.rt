@@ -1,40 +1,27 @@
 //! Tags of languages, colours, names of packages, and dates.
 ghost use Rattle.std.specs.Prelude.{◌≡◌};
 ghost use Rattle.std.specs.List.{list_all};
-ghost use Rattle.std.specs.Char.{is_ascii_alphabetic, is_ascii_alphanumeric, is_ascii_hexdigit};
-ghost use Rattle.feed_names.specs.ReleaseName.{is_stem_byte};
 ghost use Rattle.feed_site.specs.Kinds.{begins_with_dot, is_color, is_date, is_language, is_package, is_primary};
 ghost use Rattle.feed_site.specs.Kinds.{is_subtag};
 ghost use Rattle.feed_site.specs.Urls.{parts_between};
 
+use crate::bytes::ByteClass;
 use crate::cuts::{before, is_sized};
 use feed_dates::DayRange;
 
 // The most bytes of a package's name.
 const LONGEST_PACKAGE: usize = 100;
 
-fn are_letters(text: &[u8]) -> bool
-    ensures { result ≡ list_all is_ascii_alphabetic text.now }
-{
-    text.iter().all(|byte| byte.is_ascii_alphabetic())
-}
-
-fn are_letters_or_digits(text: &[u8]) -> bool
-    ensures { result ≡ list_all is_ascii_alphanumeric text.now }
-{
-    text.iter().all(|byte| byte.is_ascii_alphanumeric())
-}
-
 fn is_primary(subtag: &[u8]) -> bool
     ensures { result ≡ is_primary subtag.now }
 {
-    is_sized(2, 8, subtag) && are_letters(subtag)
+    is_sized(2, 8, subtag) && ByteClass::Letter.has_all(subtag)
 }
 
 fn is_subtag(subtag: &[u8]) -> bool
     ensures { result ≡ is_subtag subtag.now }
 {
-    is_sized(1, 8, subtag) && are_letters_or_digits(subtag)
+    is_sized(1, 8, subtag) && ByteClass::LetterOrDigit.has_all(subtag)
 }
 
 fn are_subtags(tag: &[u8]) -> bool
@@ -52,32 +39,16 @@ pub(crate) fn is_language(tag: &[u8]) -> bool
     is_primary(before(b'-', tag)) && are_subtags(tag)
 }
 
-fn are_hex_digits(text: &[u8]) -> bool
-    ensures { result ≡ list_all is_ascii_hexdigit text.now }
-{
-    text.iter().all(|byte| byte.is_ascii_hexdigit())
-}
-
 /// Returns whether a text is `#` and six hexadecimal digits.
 pub(crate) fn is_color(text: &[u8]) -> bool
     ensures { result ≡ is_color text.now }
 {
     match text.split_first() {
-        Some((hash, digits)) => *hash == b'#' && is_sized(6, 6, digits) && are_hex_digits(digits),
+        Some((hash, digits)) => {
+            *hash == b'#' && is_sized(6, 6, digits) && ByteClass::HexDigit.has_all(digits)
+        }
         None => false,
     }
-}
-
-fn is_stem_byte(byte: u8) -> bool
-    ensures { result ≡ is_stem_byte byte }
-{
-    byte.is_ascii_alphanumeric() || byte == b'-' || byte == b'_' || byte == b'.'
-}
-
-fn are_stem_bytes(name: &[u8]) -> bool
-    ensures { result ≡ list_all is_stem_byte name.now }
-{
-    name.iter().all(|byte| is_stem_byte(*byte))
 }
 
 fn begins_with_dot(name: &[u8]) -> bool
@@ -93,7 +64,7 @@ fn begins_with_dot(name: &[u8]) -> bool
 pub(crate) fn is_package(name: &[u8]) -> bool
     ensures { result ≡ is_package name.now }
 {
-    is_sized(1, LONGEST_PACKAGE, name) && are_stem_bytes(name) && !begins_with_dot(name)
+    is_sized(1, LONGEST_PACKAGE, name) && ByteClass::Stem.has_all(name) && !begins_with_dot(name)
 }
 
 /// Returns whether a text is a year, a month or a day.

@@ -2,9 +2,10 @@
 ghost use Rattle.std.specs.Prelude.{◌≡◌, ◌-◌, drop, length, option_copied};
 ghost use Rattle.std.specs.List.{list_all};
 ghost use Rattle.feed_site.specs.Urls.{after_scheme, authority_of, begins_with, host_in, host_of, is_dotted, is_host};
-ghost use Rattle.feed_site.specs.Urls.{is_host_in, is_label, is_label_byte, is_link, is_url, is_visible, is_within};
+ghost use Rattle.feed_site.specs.Urls.{is_host_in, is_label, is_link, is_url, is_visible, is_within};
 ghost use Rattle.feed_site.specs.Urls.{parts_between, without_user};
 
+use crate::bytes::ByteClass;
 use crate::cuts::{after, before, has, is_sized};
 
 // The most bytes of a URL: what RFC 9110 (section 4.1) asks every recipient to support.
@@ -17,17 +18,11 @@ pub fn begins_with(url: &[u8], front: &[u8]) -> bool
     front.len() < url.len() && url[..front.len()].eq_ignore_ascii_case(front)
 }
 
-fn is_visible(byte: u8) -> bool
-    ensures { result ≡ is_visible byte }
-{
-    (33..=126).contains(&byte)
-}
-
 /// Returns whether each byte is visible ASCII: no space, no control byte, and none above 126.
 pub fn is_all_visible(url: &[u8]) -> bool
     ensures { result ≡ list_all is_visible url.now }
 {
-    url.iter().all(|byte| is_visible(*byte))
+    ByteClass::Visible.has_all(url)
 }
 
 /// Returns whether a text is safe in a link and in a Location field (RFC 9110, section 10.2.2): a URL of `http` or
@@ -86,22 +81,10 @@ pub fn host_of(url: &[u8]) -> Option<&[u8]>
     }
 }
 
-fn is_label_byte(byte: u8) -> bool
-    ensures { result ≡ is_label_byte byte }
-{
-    byte.is_ascii_alphanumeric() || byte == b'-'
-}
-
-fn are_label_bytes(label: &[u8]) -> bool
-    ensures { result ≡ list_all is_label_byte label.now }
-{
-    label.iter().all(|byte| is_label_byte(*byte))
-}
-
 fn is_label(label: &[u8]) -> bool
     ensures { result ≡ is_label label.now }
 {
-    is_sized(1, 63, label) && are_label_bytes(label)
+    is_sized(1, 63, label) && ByteClass::Label.has_all(label)
 }
 
 fn are_labels(host: &[u8]) -> bool

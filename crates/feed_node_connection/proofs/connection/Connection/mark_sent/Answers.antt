@@ -1,4 +1,5 @@
-use Rattle.std.proofs.Common.{arith, refl, ap}
+use Rattle.std.proofs.Common.{arith, refl, sym, ap, ◌∙◌}
+use Rattle.feed_node_connection.proofs.Phases.{after_lingers, pending_lingers}
 use Rattle.feed_node_connection.proofs.States.{sent_part, sent_whole, counted_sent, counted_anew, counted_on}
 use Rattle.feed_node_connection.proofs.connection.Connection.mark_sent.Goals.{then-count-self, else-count-self}
 use Rattle.feed_node_connection.proofs.connection.Connection.mark_sent.Goals as goal
@@ -32,3 +33,9 @@ returns-else-count-len-clause-state c = λ history state. (
   counted_sent c.args.self.now.phase c.args.self.now history c.args.count c.requires.some c.requires.within state.0,
   state.2,
 )
+
+pub returns-then-count-len-clause-lingers : goal.returns-then-count-len-clause-lingers
+returns-then-count-len-clause-lingers c = λ same. after_lingers c.args.self.now.after (sym c.phase_after-self.ensures ∙ same)
+
+pub returns-else-count-len-clause-lingers : goal.returns-else-count-len-clause-lingers
+returns-else-count-len-clause-lingers c = pending_lingers c.args.self.now.phase c.args.self.now c.args.count c.requires.some c.requires.within

@@ -1,9 +1,8 @@
-use Rattle.std.proofs.Common.{◌∷◌, refl}
+use Rattle.std.proofs.Common.{refl}
 use Rattle.std.proofs.Math.Logic.{∥∥₁_map, ∥∥₁_elim}
 use Rattle.std.proofs.Math.Bridge.{le_prop}
-use Rattle.feed_node_connection.specs.Events.{Elapsed}
 use Rattle.feed_node_table.proofs.Bytes.{holds_no_more}
-use Rattle.feed_node_table.proofs.Ended.{over_elapsed}
+use Rattle.feed_node_connection.proofs.Phases.{over_elapsed}
 use Rattle.feed_node_table.proofs.peer.Peer.advance_clock.Goals as goal
 
 pub invariant_of-self : goal.invariant_of-self

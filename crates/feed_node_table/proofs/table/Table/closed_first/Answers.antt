@@ -1,4 +1,4 @@
-use Rattle.std.proofs.Common.{sym, subst, ap, ◌∙◌, ◌≡◌}
+use Rattle.std.proofs.Common.{sym, subst, ap, ◌∙◌}
 use Rattle.std.specs.Option.{option_copied}
 use Rattle.feed_node_table.specs.Tables.{IsFirstBelow}
 use Rattle.feed_node_table.proofs.Firsts.{first_skips, first_stays, first_changes, first_begins}

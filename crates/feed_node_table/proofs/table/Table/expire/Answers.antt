@@ -1,4 +1,4 @@
-use Rattle.std.proofs.Common.{◌≡◌, ◌∙◌, refl, ap}
+use Rattle.std.proofs.Common.{◌∙◌}
 use Rattle.feed_node_table.specs.declared.log.CloseCause.TheVariants.{TimedOut}
 use Rattle.feed_node_table.proofs.Records.{closed_none, closed_both, closed_removed, recorded_none}
 use Rattle.feed_node_table.proofs.Expired.{peer_there, never_both}
@@ -26,3 +26,17 @@ pub returns-then-advance_clock_of-clause-elapsed : goal.returns-then-advance_clo
 returns-then-advance_clock_of-clause-elapsed g c = λ peer is.
     let it = peer_there c.advance_clock_of.new.self c.args.key (c.advance_clock_of.ensures.there c.if-advance_clock_of.true) in
     absurd (never_both peer c.close.new.self c.args.key (c.close.ensures.removed it.0 it.1).gone is)
+
+pub returns-then-advance_clock_of-clause-kept : goal.returns-then-advance_clock_of-clause-kept
+returns-then-advance_clock_of-clause-kept g c = λ peer is in_time. absurd (in_time (c.advance_clock_of.ensures.late peer is c.if-advance_clock_of.true))
+
+pub returns-else-advance_clock_of-clause-closed : goal.returns-else-advance_clock_of-clause-closed
+returns-else-advance_clock_of-clause-closed g c =
+    closed_none g.L.Log.records TimedOut c.args.self.now c.advance_clock_of.new.self c.args.log.now c.args.log.now (recorded_none g.L.Log.records TimedOut c.args.log.now)
+    c.advance_clock_of.ensures.size c.advance_clock_of.ensures.clients c.advance_clock_of.ensures.over
+
+pub returns-else-advance_clock_of-clause-late : goal.returns-else-advance_clock_of-clause-late
+returns-else-advance_clock_of-clause-late g c = λ peer is late. absurd ((c.advance_clock_of.ensures.in_time peer is c.if-advance_clock_of.false).0 late)
+
+pub returns-else-advance_clock_of-clause-kept : goal.returns-else-advance_clock_of-clause-kept
+returns-else-advance_clock_of-clause-kept g c = λ peer is in_time. (c.advance_clock_of.ensures.in_time peer is c.if-advance_clock_of.false).1

@@ -1,6 +1,6 @@
-use Rattle.std.proofs.Common.{refl, sym, subst}
+use Rattle.std.proofs.Common.{arith, refl, sym, subst}
 use Rattle.feed_node_table.specs.Logs.{Closed}
-use Rattle.feed_node_table.proofs.Invariants.{counted_after_removal, known_after_removal, over_after_removal}
+use Rattle.feed_node_table.proofs.Invariants.{counted_after_removal, known_after_removal, never_none, over_after_removal, own_is_within}
 use Rattle.feed_node_table.proofs.table.Table.remove.Goals as goal
 
 pub invariant_of-self-2-clause-counted : goal.invariant_of-self-2-clause-counted
@@ -27,3 +27,12 @@ returns-clause-removed g c = λ there. record {
   clients = refl;
   over = over_after_removal _ _ _ _ (sym c.in-Some.ensures.value) c.in-Some.ensures.slots;
 }
+
+pub overflow_sub-self : goal.overflow_sub-self
+overflow_sub-self g c = own_is_within c.args.self.now.peers.slots c.args.key _ _ _ (sym c.in-Some.ensures.value) c.args.self.now.counted c.unsent.ensures
+
+pub invariant_of-self-2-clause-few : goal.invariant_of-self-2-clause-few
+invariant_of-self-2-clause-few g c = omega (arith, c.args.self.now.few, c.in-Some.ensures.len)
+
+pub returns-clause-absent : goal.returns-clause-absent
+returns-clause-absent g c = λ none. never_none _ c.in-Some.peer (sym c.in-Some.ensures.value) none

@@ -1,7 +1,7 @@
-use Rattle.std.proofs.Common.{◌≡◌, refl, ap, subst, ◌∙◌, Some, None, inl, inr}
+use Rattle.std.proofs.Common.{refl, ap, subst, ◌∙◌}
 use Rattle.slab.specs.Slab.{get}
 use Rattle.feed_node_table.specs.declared.log.CloseCause.TheVariants.{PeerClosed}
-use Rattle.feed_node_table.specs.declared.peer.Outcome.TheVariants.{Waits, Streams, Ready, Resumed, Over}
+use Rattle.feed_node_table.specs.declared.peer.Outcome.TheVariants.{Waits, Streams, Ready, Resumed}
 use Rattle.feed_node_table.proofs.Records.{closed_none}
 use Rattle.feed_node_table.proofs.Settled.{IsNext, settled_still, settled_ready, settled_over}
 use Rattle.feed_node_table.proofs.table.Table.settle.Goals as goal

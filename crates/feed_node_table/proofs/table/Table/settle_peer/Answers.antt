@@ -3,7 +3,7 @@ use Rattle.slab.proofs.SlabLemmas.{Updates-with_value}
 use Rattle.feed_node_table.specs.Peers.{IsFollowed}
 use Rattle.feed_node_table.specs.Tables.{peer_at}
 use Rattle.feed_node_table.proofs.Firsts.{same_peer}
-use Rattle.feed_node_table.proofs.Invariants.{counted_after_less, known_after_write, less_is_within, over_after_write}
+use Rattle.feed_node_table.proofs.Invariants.{counted_after_less, known_after_write, less_is_within, others_after_write, over_after_write, size_after_write}
 use Rattle.feed_node_table.proofs.table.Table.settle_peer.Goals as goal
 
 pub overflow_sub-freed : goal.overflow_sub-freed
@@ -33,3 +33,13 @@ returns-clause-followed g c = λ peer is.
       subst (λ p. IsFollowed g.L.Log.records c.settle-outcome.result c.args.progress c.args.now p c.settle-outcome.new.self c.args.log.now c.settle-outcome.new.log) same
           c.settle-outcome.ensures.followed,
     )
+
+pub invariant_of-self-2-clause-few : goal.invariant_of-self-2-clause-few
+invariant_of-self-2-clause-few g c =
+    omega (arith, c.args.self.now.few, size_after_write c.args.self.now.peers.slots c.args.key c.in-Some.peer.now c.settle-outcome.new.self (sym c.in-Some.ensures.value))
+
+pub returns-clause-others : goal.returns-clause-others
+returns-clause-others g c = others_after_write c.args.self.now.peers c.args.key c.in-Some.peer.now c.settle-outcome.new.self (sym c.in-Some.ensures.value)
+
+pub returns-clause-size : goal.returns-clause-size
+returns-clause-size g c = size_after_write c.args.self.now.peers.slots c.args.key c.in-Some.peer.now c.settle-outcome.new.self (sym c.in-Some.ensures.value)

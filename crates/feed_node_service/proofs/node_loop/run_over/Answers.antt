@@ -8,7 +8,7 @@ use Rattle.feed_node_machine.specs.Rules.{AreGiven}
 use Rattle.feed_node_machine.specs.Nodes.{HasHistory}
 use Rattle.feed_node_service.specs.declared.responder.FeedResponder.{FeedResponder}
 use Rattle.feed_node_service.specs.Responders.{IsTurnText}
-use Rattle.feed_node_service.proofs.node_loop.run.Goals as goal
+use Rattle.feed_node_service.proofs.node_loop.run_over.Goals as goal
 
 pub returns : goal.returns
 returns g c = λ history is given clean.

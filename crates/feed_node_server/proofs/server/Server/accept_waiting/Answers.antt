@@ -1,0 +1,14 @@
+use Rattle.feed_node_machine.proofs.Later.{later_after, later_same}
+use Rattle.feed_node_server.proofs.server.Server.accept_waiting.Goals as goal
+
+pub loop-init : goal.loop-init
+loop-init g c = later_same c.args.node.now
+
+pub loop-preserved : goal.loop-preserved
+loop-preserved g c = later_after c.args.node.now c.loop.node c.accept_next.new.node c.loop.invariant c.accept_next.ensures
+
+pub returns-in_err-accept_next : goal.returns-in_err-accept_next
+returns-in_err-accept_next g c = later_after c.args.node.now c.loop.node c.accept_next.new.node c.loop.invariant c.accept_next.ensures
+
+pub returns-then-not-branch : goal.returns-then-not-branch
+returns-then-not-branch g c = later_after c.args.node.now c.loop.node c.accept_next.new.node c.loop.invariant c.accept_next.ensures

@@ -1,0 +1,22 @@
+use Rattle.std.proofs.Common.{subst}
+use Rattle.feed_node_machine.proofs.Later.{later_after}
+use Rattle.feed_node_service.specs.Runs.{IsLaterNode}
+use Rattle.feed_node_service.proofs.node_loop.RunningNode.turn.Goals as goal
+
+pub returns-in-Err : goal.returns-in-Err
+returns-in-Err g c = later_after c.args.node.now c.begin_day.new.node c.turn.new.node c.begin_day.ensures c.turn.ensures.later
+
+pub returns-in-Err-flush : goal.returns-in-Err-flush
+returns-in-Err-flush g c = later_after c.args.node.now c.begin_day.new.node c.turn.new.node c.begin_day.ensures c.turn.ensures.later
+
+pub returns-then-not-advance : goal.returns-then-not-advance
+returns-then-not-advance g c =
+    later_after c.args.node.now c.turn.new.node c.advance.new.node
+    (later_after c.args.node.now c.begin_day.new.node c.turn.new.node c.begin_day.ensures c.turn.ensures.later) c.advance.ensures
+
+pub returns : goal.returns
+returns g c =
+    later_after c.args.node.now c.turn.new.node c.begin.new.node
+    (later_after c.args.node.now c.begin_day.new.node c.turn.new.node c.begin_day.ensures c.turn.ensures.later)
+    (later_after c.turn.new.node c.advance.new.node c.begin.new.node c.advance.ensures
+    (subst (λ node. IsLaterNode node c.begin.new.node) c.note_end.ensures c.begin.ensures))
