@@ -3,10 +3,10 @@ ghost use Rattle.std.specs.Prelude.{◌≡◌, ◌++◌, IfOk};
 ghost use Rattle.feed_test_http.specs.EchoHeads.{start_of};
 
 use crate::ends::{ShortReader, ShortWriter};
-use crate::escapes::Escaped;
-use crate::fault::Fault;
+use crate::fault::{Fault, NO_COMMAND};
 use crate::line::Line;
 use crate::node::Node;
+use crate::print::Out;
 use feed_http_heads::Request;
 use feed_node_connection::{
     BODY_LIMIT, Connection, IncomingRequest, Reading, Reply, Respond, RespondFault, TURN_SHARE,
@@ -66,30 +66,53 @@ impl Respond for Echo {
 }
 
 impl Node<'_> {
-    pub fn take_connection(&mut self, command: &str, mut line: Line<'_>) -> Result<(), Fault> {
+    pub fn take_connection(
+        &mut self,
+        out: &mut Out<'_>,
+        command: &str,
+        line: Line<'_>,
+    ) -> Result<(), Fault> {
         match command {
-            "connection" => self.begin(line)?,
-            "receive" => self.receive(line)?,
-            "advance-clock" => self.advance_clock(line)?,
-            "mark-sent" => self.mark_sent(line)?,
-            "resume" => self.resume()?,
-            "want" => {
-                self.wanted = line.count()?;
-                return Ok(());
+            "want" => self.want(line),
+            "converse" => self.converse(out, line),
+            _ => {
+                self.change(command, line)?;
+                self.print_connection(out);
+                Ok(())
             }
-            "converse" => return self.converse(line),
-            _ => return Err(Fault::NoCommand),
         }
-        let left = self.connection.pending_reply().len();
-        println!(self.rt; "{:?} {left}", self.connection.wants())?;
+    }
+
+    fn want(&mut self, mut line: Line<'_>) -> Result<(), Fault> {
+        let wanted = line.count();
+        line.check()?;
+        self.wanted = wanted;
         Ok(())
     }
 
+    fn change(&mut self, command: &str, line: Line<'_>) -> Result<(), Fault> {
+        match command {
+            "connection" => self.begin(line),
+            "receive" => self.receive(line),
+            "advance-clock" => self.advance_clock(line),
+            "mark-sent" => self.mark_sent(line),
+            "resume" => self.resume(),
+            _ => Err(NO_COMMAND),
+        }
+    }
+
+    fn print_connection(&self, out: &mut Out<'_>) {
+        print_wants(out, self.connection.wants());
+        out.number(" ", self.connection.pending_reply().len() as u64);
+        out.line("");
+    }
+
     fn begin(&mut self, mut line: Line<'_>) -> Result<(), Fault> {
-        let step = line.number()?;
-        let idle = line.number()?;
+        let step = line.number();
+        let idle = line.number();
+        line.check()?;
         if step == 0 || idle == 0 {
-            return Err(Fault::NoTime);
+            return Err(Fault("not a time: 1 ms or more"));
         }
         self.connection = Connection::new(self.rt.alloc(), TimeLimits { step, idle });
         Ok(())
@@ -97,15 +120,18 @@ impl Node<'_> {
 
     // Bytes arrive, as many as there is room for, and are parsed.
     fn receive(&mut self, line: Line<'_>) -> Result<(), Fault> {
-        let alloc = self.rt.alloc();
-        let bytes = line.text(alloc)?;
+        let bytes = line.text(self.rt.alloc())?;
+        self.give(&bytes);
+        self.parse();
+        Ok(())
+    }
+
+    fn give(&mut self, bytes: &[u8]) {
         let room = self.connection.room();
         if let Wants::Bytes = self.connection.wants() {
             let (bytes, _) = bytes.split_at(bytes.len().min(room));
             self.connection.receive(bytes);
         }
-        self.parse();
-        Ok(())
     }
 
     fn parse(&mut self) {
@@ -128,64 +154,87 @@ impl Node<'_> {
     }
 
     fn advance_clock(&mut self, mut line: Line<'_>) -> Result<(), Fault> {
-        self.connection.advance_clock(line.number()?);
+        let passed = line.number();
+        line.check()?;
+        self.connection.advance_clock(passed);
         Ok(())
     }
 
     fn mark_sent(&mut self, mut line: Line<'_>) -> Result<(), Fault> {
-        let count = line.count()?;
+        let count = line.count();
+        line.check()?;
         if count == 0 || count > self.connection.pending_reply().len() {
-            return Err(Fault::NoBytes);
+            return Err(Fault("fewer bytes are left, or none is to be sent"));
         }
         self.connection.mark_sent(self.rt.alloc(), count);
         Ok(())
     }
 
     // Gives a new connection 200 turns.
-    fn converse(&self, mut line: Line<'_>) -> Result<(), Fault> {
-        let ends = line.flag("ends", "waits")?;
-        let is_short = line.flag("short", "serves")?;
+    fn converse(&self, out: &mut Out<'_>, mut line: Line<'_>) -> Result<(), Fault> {
+        let ends = line.flag("ends", "waits");
+        let is_short = line.flag("short", "serves");
         let request = line.text(self.rt.alloc())?;
         let echo = Echo {
             wanted: self.wanted,
             is_short,
         };
-        let limits = TimeLimits { step: 10, idle: 10 };
-        let mut connection = Connection::new(self.rt.alloc(), limits);
-        let mut reader = Reading {
-            reader: ShortReader {
-                bytes: &request,
-                step: self.step,
-                fails_at: usize::MAX,
-                waits: !ends,
-                calls: 0,
-            },
+        let reader = ShortReader {
+            bytes: &request,
+            step: self.step,
+            fails_at: usize::MAX,
+            waits: !ends,
+            calls: 0,
         };
-        let mut writer = Writing {
-            writer: ShortWriter::new(self.rt.alloc()),
-        };
-        let mut buffer = [0u8; 64];
-        for _ in 0..200 {
-            let mut share = TURN_SHARE;
-            advance(
-                &mut connection,
-                self.rt.alloc(),
-                &echo,
-                &mut reader,
-                &mut writer,
-                &mut buffer,
-                &mut share,
-            );
-            if let Wants::Next = connection.wants() {
-                connection.resume();
-            }
-        }
-        let lingers = connection.is_lingering();
-        println!(self.rt;
-            "{:?} {lingers} {}",
-            connection.wants(),
-            Escaped(&writer.writer.bytes)
-        )?;
+        print_turns(out, self.rt.alloc(), &echo, reader);
         Ok(())
     }
+}
+
+fn print_turns(out: &mut Out<'_>, alloc: Global, echo: &Echo, reader: ShortReader<'_>) {
+    let limits = TimeLimits { step: 10, idle: 10 };
+    let mut connection = Connection::new(alloc, limits);
+    let sent = converse(alloc, &mut connection, echo, reader);
+    print_wants(out, connection.wants());
+    let lingers = if connection.is_lingering() {
+        " true "
+    } else {
+        " false "
+    };
+    out.word(lingers);
+    out.escaped(&sent);
+}
+
+// Moves a connection on 200 times, and returns what it wrote.
+fn converse(
+    alloc: Global,
+    connection: &mut Connection,
+    echo: &Echo,
+    reader: ShortReader<'_>,
+) -> Vec<u8> {
+    let mut reader = Reading { reader };
+    let mut writer = Writing {
+        writer: ShortWriter::new(alloc),
+    };
+    let mut buffer = [0u8; 64];
+    for _ in 0..200 {
+        let mut share = TURN_SHARE;
+        advance(
+            connection,
+            alloc,
+            echo,
+            &mut reader,
+            &mut writer,
+            &mut buffer,
+            &mut share,
+        );
+        if let Wants::Next = connection.wants() {
+            connection.resume();
+        }
+    }
+    writer.writer.bytes
+}
+
+fn print_wants(out: &mut Out<'_>, wants: Wants) {
+    out.print(format_args!("{wants:?}"));
 }

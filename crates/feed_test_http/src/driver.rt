@@ -1,7 +1,9 @@
 //! Runs the commands of the lines.
-use crate::fault::Fault;
+use crate::fault::{Fault, NO_MEMORY};
+use crate::faults::print_faults;
 use crate::line::Line;
 use crate::node::Node;
+use crate::print::Out;
 use feed_http::NamedFile;
 
 /// The faults of the streams and of the shelf in the next exchange.
@@ -68,46 +70,46 @@ impl<'a> Driver<'a> {
     }
 
     /// Runs the command of a line.
-    pub fn take(&mut self, text: &str) -> Result<(), Fault> {
+    pub fn take(&mut self, out: &mut Out<'_>, text: &str) -> Result<(), Fault> {
         let mut line = Line::new(text);
-        let command = line.word()?;
+        let command = line.word();
         match command {
-            "front" => self.plan.front = line.count()?,
-            "fail-read" => self.plan.fails_read = line.count()?,
-            "fail-write" => self.plan.fails_write = line.count()?,
-            "fail-shelf" => self.plan.fails_shelf = line.count()?,
-            "counts" => self.print_counts()?,
-            "faults" => self.print_faults()?,
-            "file" => self.put(line)?,
-            "host" => self.host(line)?,
-            "get" => self.get(line)?,
-            "head" => self.head(line)?,
-            "reply" => self.reply(line)?,
-            "reply-end" => self.reply_end(line)?,
-            "request" => self.request(line)?,
-            "serve" => self.serve(line)?,
-            _ => return self.take_value(command, line),
+            "front" | "fail-read" | "fail-write" | "fail-shelf" => self.change_plan(command, line),
+            "counts" => self.print_counts(out),
+            "faults" => print_faults(out),
+            "file" => self.put(line),
+            _ => self.exchange(out, command, line),
+        }
+    }
+
+    fn change_plan(&mut self, command: &str, mut line: Line<'_>) -> Result<(), Fault> {
+        let count = line.count();
+        line.check()?;
+        match command {
+            "front" => self.plan.front = count,
+            "fail-read" => self.plan.fails_read = count,
+            "fail-write" => self.plan.fails_write = count,
+            _ => self.plan.fails_shelf = count,
         }
         Ok(())
     }
 
-    fn print_counts(&self) -> Result<(), Fault> {
-        let Counts {
-            reads,
-            writes,
-            longest,
-            failures,
-        } = self.counts;
-        println!(self.rt; "reads {reads} writes {writes} longest {longest} failures {failures}")?;
+    fn print_counts(&self, out: &mut Out<'_>) -> Result<(), Fault> {
+        let counts = self.counts;
+        out.number("reads ", counts.reads as u64);
+        out.number(" writes ", counts.writes as u64);
+        out.number(" longest ", counts.longest as u64);
+        out.number(" failures ", counts.failures);
+        out.line("");
         Ok(())
     }
 
     fn put(&mut self, mut line: Line<'_>) -> Result<(), Fault> {
-        let alloc = self.rt.alloc();
-        let name = line.name(alloc)?;
-        let bytes = line.text(alloc)?;
-        self.files
-            .push(NamedFile { name, bytes })
-            .map_err(|_| Fault::Memory)
+        let name = line.name(self.rt.alloc())?;
+        let bytes = line.text(self.rt.alloc())?;
+        match self.files.push(NamedFile { name, bytes }) {
+            Ok(()) => Ok(()),
+            Err(_) => Err(NO_MEMORY),
+        }
     }
 }

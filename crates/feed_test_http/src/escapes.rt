@@ -1,5 +1,5 @@
 //! Reads and prints bytes as text, in which a byte may be `\r`, `\n`, `\t` or `\xHH`.
-use crate::fault::Fault;
+use crate::fault::{Fault, NO_BYTE};
 use std::alloc::Global;
 use std::fmt;
 
@@ -11,11 +11,16 @@ pub fn unescaped(alloc: Global, text: &str) -> Result<Vec<u8>, Fault> {
         bytes.extend_from_slice(plain.as_bytes())?;
     }
     for part in parts {
-        let (byte, plain) = front_of(part.as_bytes())?;
-        bytes.extend_from_slice(&[byte])?;
-        bytes.extend_from_slice(plain)?;
+        push_part(&mut bytes, part.as_bytes())?;
     }
     Ok(bytes)
+}
+
+// Appends the byte that follows a backslash, and the rest.
+fn push_part(bytes: &mut Vec<u8>, part: &[u8]) -> Result<(), Fault> {
+    let (byte, plain) = front_of(part)?;
+    bytes.extend_from_slice(&[byte])?;
+    Ok(bytes.extend_from_slice(plain)?)
 }
 
 // Returns the byte that follows a backslash, and the rest.
@@ -25,14 +30,14 @@ fn front_of(part: &[u8]) -> Result<(u8, &[u8]), Fault> {
         [b'n', rest @ ..] => Ok((b'\n', rest)),
         [b't', rest @ ..] => Ok((b'\t', rest)),
         [b'x', high, low, rest @ ..] => Ok((byte_of(*high, *low)?, rest)),
-        _ => Err(Fault::NoByte),
+        _ => Err(NO_BYTE),
     }
 }
 
 fn byte_of(high: u8, low: u8) -> Result<u8, Fault> {
     match (digit_of(high), digit_of(low)) {
         (Some(high), Some(low)) => Ok(high << 4 | low),
-        _ => Err(Fault::NoByte),
+        _ => Err(NO_BYTE),
     }
 }
 
@@ -51,14 +56,18 @@ pub struct Escaped<'a>(pub &'a [u8]);
 impl fmt::Display for Escaped<'_> {
     fn fmt<W: fmt::Write>(&self, f: &mut fmt::Formatter<W>) -> fmt::Result {
         for byte in self.0 {
-            match *byte {
-                b'\r' => f.write_str("\\r")?,
-                b'\n' => f.write_str("\\n")?,
-                b'\t' => f.write_str("\\t")?,
-                b' '..=b'[' | b']'..=b'~' => f.write_char(char::from(*byte))?,
-                other => write!(f, "\\x{other:02x}")?,
-            }
+            write_byte(f, *byte)?;
         }
         Ok(())
+    }
+}
+
+fn write_byte<W: fmt::Write>(f: &mut fmt::Formatter<W>, byte: u8) -> fmt::Result {
+    match byte {
+        b'\r' => f.write_str("\\r"),
+        b'\n' => f.write_str("\\n"),
+        b'\t' => f.write_str("\\t"),
+        b' '..=b'[' | b']'..=b'~' => f.write_char(char::from(byte)),
+        _ => write!(f, "\\x{byte:02x}"),
     }
 }

@@ -1,104 +1,118 @@
 //! Runs the commands on both ends of an exchange: requests that a node writes, replies that it reads, and the server.
 use crate::driver::{Counts, Driver, Plan};
 use crate::ends::{ShortReader, Sink};
-use crate::escapes::Escaped;
-use crate::fault::Fault;
+use crate::fault::{Fault, NO_HOST};
 use crate::line::Line;
+use crate::print::Out;
 use crate::shelf::CountingShelf;
 use feed_http::{
     Bytes, Got, HttpFault, MemoryShelf, Method, ReplyScan, Shelf, is_host, read_reply, serve_one,
     write_head_request, write_request,
 };
+use feed_names::ReleaseName;
 
 impl Driver<'_> {
-    pub fn host(&self, line: Line<'_>) -> Result<(), Fault> {
+    /// Runs a command on an exchange.
+    pub fn exchange(
+        &mut self,
+        out: &mut Out<'_>,
+        command: &str,
+        line: Line<'_>,
+    ) -> Result<(), Fault> {
+        match command {
+            "host" => self.host(out, line),
+            "get" => self.get(out, line),
+            "head" => self.head(out, line),
+            "reply" => self.reply(out, line),
+            "reply-end" => self.reply_end(out, line),
+            "request" => self.request(out, line),
+            "serve" => self.serve(out, line),
+            _ => self.take_value(out, command, line),
+        }
+    }
+
+    fn host(&self, out: &mut Out<'_>, line: Line<'_>) -> Result<(), Fault> {
         let host = line.text(self.rt.alloc())?;
-        println!(self.rt; "{}", is_host(&host))?;
+        out.line(if is_host(&host) { "true" } else { "false" });
         Ok(())
     }
 
-    pub fn get(&mut self, mut line: Line<'_>) -> Result<(), Fault> {
-        let host = line.word()?.as_bytes();
+    fn get(&mut self, out: &mut Out<'_>, mut line: Line<'_>) -> Result<(), Fault> {
+        let host = line.word().as_bytes();
         let name = line.name(self.rt.alloc())?;
-        let (first, last) = (line.number()?, line.number()?);
-        if !is_host(host) {
-            return Err(Fault::NoHost);
-        }
-        let mut sink = Sink::new(self.rt.alloc(), self.step, self.plan.fails_write);
-        let written = write_request(&mut sink, host, &name, first, last);
-        self.print_written(written, &sink)
+        self.get_range(out, host, &name, line)
     }
 
-    pub fn head(&mut self, mut line: Line<'_>) -> Result<(), Fault> {
-        let host = line.word()?.as_bytes();
+    fn get_range(
+        &mut self,
+        out: &mut Out<'_>,
+        host: &[u8],
+        name: &ReleaseName,
+        mut line: Line<'_>,
+    ) -> Result<(), Fault> {
+        let first = line.number();
+        let last = line.number();
+        line.check()?;
+        if !is_host(host) {
+            return Err(NO_HOST);
+        }
+        let mut sink = Sink::new(self.rt.alloc(), self.step, self.plan.fails_write);
+        let written = write_request(&mut sink, host, name, first, last);
+        self.print_written(out, written, &sink);
+        Ok(())
+    }
+
+    fn head(&mut self, out: &mut Out<'_>, mut line: Line<'_>) -> Result<(), Fault> {
+        let host = line.word().as_bytes();
         let name = line.name(self.rt.alloc())?;
         if !is_host(host) {
-            return Err(Fault::NoHost);
+            return Err(NO_HOST);
         }
         let mut sink = Sink::new(self.rt.alloc(), self.step, self.plan.fails_write);
         let written = write_head_request(&mut sink, host, &name);
-        self.print_written(written, &sink)
+        self.print_written(out, written, &sink);
+        Ok(())
     }
 
-    fn print_written(&mut self, written: Result<(), HttpFault>, sink: &Sink) -> Result<(), Fault> {
+    fn print_written(&mut self, out: &mut Out<'_>, written: Result<(), HttpFault>, sink: &Sink) {
         self.plan = Plan::new();
         self.counts.writes = sink.calls;
-        match written {
-            Ok(()) => println!(self.rt; "{}", Escaped(&sink.bytes))?,
-            Err(fault) => println!(self.rt; "{fault} {}", Escaped(&sink.bytes))?,
+        if let Err(fault) = written {
+            print_fault(out, fault);
+            out.word(" ");
         }
+        out.escaped(&sink.bytes);
+    }
+
+    fn reply(&mut self, out: &mut Out<'_>, mut line: Line<'_>) -> Result<(), Fault> {
+        let method = line.method();
+        let text = line.text(self.rt.alloc())?;
+        let got = self.read_reply(&text, method);
+        self.plan = Plan::new();
+        print_reply(out, got);
         Ok(())
     }
 
-    pub fn reply(&mut self, mut line: Line<'_>) -> Result<(), Fault> {
-        let method = method_of(line.word()?)?;
-        let text = line.text(self.rt.alloc())?;
-        let bytes = self.plan.front_of(&text);
+    fn read_reply(&mut self, text: &[u8], method: Method) -> Result<Got, HttpFault> {
+        let bytes = self.plan.front_of(text);
         let mut reader = ShortReader::new(bytes, self.step, self.plan.fails_read);
         let got = read_reply(self.rt.alloc(), &mut reader, method);
-        self.plan = Plan::new();
         self.counts.reads = reader.calls;
-        match got {
-            Ok(got) => self.print_got(got),
-            Err(fault) => Ok(println!(self.rt; "{fault}")?),
-        }
+        got
     }
 
-    pub fn reply_end(&self, mut line: Line<'_>) -> Result<(), Fault> {
-        let method = method_of(line.word()?)?;
+    fn reply_end(&self, out: &mut Out<'_>, mut line: Line<'_>) -> Result<(), Fault> {
+        let method = line.method();
         let text = line.text(self.rt.alloc())?;
-        let mut scan = ReplyScan::new(method);
-        let mut end = 0;
-        for _ in 0..=text.len() {
-            if scan.is_complete(&text[..end.min(text.len())]) {
-                println!(self.rt; "complete {end}")?;
-                return Ok(());
-            }
-            end = end.saturating_add(self.step).min(text.len());
+        match end_of(method, &text, self.step) {
+            Some(end) => out.number("complete ", end as u64),
+            None => out.word("unfinished"),
         }
-        println!(self.rt; "unfinished")?;
+        out.line("");
         Ok(())
     }
 
-    fn print_got(&self, got: Got) -> Result<(), Fault> {
-        match got {
-            Got::Piece {
-                first,
-                total,
-                bytes,
-            } => println!(self.rt; "piece {first} {total:?} {}", Escaped(bytes.as_slice()))?,
-            Got::Whole { bytes } => {
-                let kept = Bytes::new(bytes.into_vec());
-                println!(self.rt; "whole {}", Escaped(kept.as_slice()))?;
-            }
-            Got::Size(size) => println!(self.rt; "size {size}")?,
-            Got::Missing => println!(self.rt; "missing")?,
-            Got::Unsatisfied { total } => println!(self.rt; "unsatisfied {total:?}")?,
-        }
-        Ok(())
-    }
-
-    pub fn request(&mut self, line: Line<'_>) -> Result<(), Fault> {
+    fn request(&mut self, out: &mut Out<'_>, line: Line<'_>) -> Result<(), Fault> {
         let text = line.text(self.rt.alloc())?;
         let bytes = self.plan.front_of(&text);
         let mut reader = ShortReader::new(bytes, self.step, self.plan.fails_read);
@@ -112,31 +126,87 @@ impl Driver<'_> {
             failures: shelf.failures(),
         };
         self.plan = Plan::new();
-        self.print_outcome(outcome, &sink)
+        print_outcome(out, outcome, &sink.bytes);
+        Ok(())
     }
 
-    pub fn serve(&self, line: Line<'_>) -> Result<(), Fault> {
+    fn serve(&self, out: &mut Out<'_>, line: Line<'_>) -> Result<(), Fault> {
         let text = line.text(self.rt.alloc())?;
         let mut reader = ShortReader::new(&text, self.step, usize::MAX);
         let mut sink = Sink::new(self.rt.alloc(), self.step, usize::MAX);
         let mut shelf = MemoryShelf { files: &self.files };
         let outcome = serve_one(self.rt.alloc(), &mut reader, &mut sink, &mut shelf);
-        self.print_outcome(outcome, &sink)
-    }
-
-    fn print_outcome(&self, outcome: Result<u16, HttpFault>, sink: &Sink) -> Result<(), Fault> {
-        match outcome {
-            Ok(status) => println!(self.rt; "{status} {}", Escaped(&sink.bytes))?,
-            Err(fault) => println!(self.rt; "{fault} {}", Escaped(&sink.bytes))?,
-        }
+        print_outcome(out, outcome, &sink.bytes);
         Ok(())
     }
 }
 
-fn method_of(word: &str) -> Result<Method, Fault> {
-    match word {
-        "get" => Ok(Method::Get),
-        "head" => Ok(Method::Head),
-        _ => Err(Fault::NoMethod),
+// Returns after how many bytes of a reply it is complete, if `step` of them arrive at a time.
+fn end_of(method: Method, text: &[u8], step: usize) -> Option<usize> {
+    let mut scan = ReplyScan::new(method);
+    let mut end = 0usize;
+    for _ in 0..=text.len() {
+        if scan.is_complete(&text[..end.min(text.len())]) {
+            return Some(end);
+        }
+        end = end.saturating_add(step).min(text.len());
     }
+    None
+}
+
+fn print_outcome(out: &mut Out<'_>, outcome: Result<u16, HttpFault>, reply: &[u8]) {
+    match outcome {
+        Ok(status) => out.number("", u64::from(status)),
+        Err(fault) => print_fault(out, fault),
+    }
+    out.word(" ");
+    out.escaped(reply);
+}
+
+fn print_fault(out: &mut Out<'_>, fault: HttpFault) {
+    out.print(fault);
+}
+
+fn print_reply(out: &mut Out<'_>, got: Result<Got, HttpFault>) {
+    match got {
+        Ok(got) => print_got(out, got),
+        Err(fault) => {
+            print_fault(out, fault);
+            out.line("");
+        }
+    }
+}
+
+fn print_got(out: &mut Out<'_>, got: Got) {
+    match got {
+        Got::Piece {
+            first,
+            total,
+            bytes,
+        } => print_piece(out, first, total, bytes.as_slice()),
+        Got::Whole { bytes } => print_whole(out, &Bytes::new(bytes.into_vec())),
+        Got::Size(size) => {
+            out.number("size ", size);
+            out.line("");
+        }
+        Got::Missing => out.line("missing"),
+        Got::Unsatisfied { total } => {
+            out.word("unsatisfied ");
+            out.option(total);
+            out.line("");
+        }
+    }
+}
+
+fn print_piece(out: &mut Out<'_>, first: u64, total: Option<u64>, bytes: &[u8]) {
+    out.number("piece ", first);
+    out.word(" ");
+    out.option(total);
+    out.word(" ");
+    out.escaped(bytes);
+}
+
+fn print_whole(out: &mut Out<'_>, bytes: &Bytes) {
+    out.word("whole ");
+    out.escaped(bytes.as_slice());
 }

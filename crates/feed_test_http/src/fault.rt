@@ -1,61 +1,36 @@
 //! Why a line is rejected.
 use std::alloc::AllocError;
-use std::{fmt, io};
+use std::io;
 
-/// Why a line is rejected, or why the program cannot run it.
+/// Why a line is rejected, or why the program cannot run it: the sentence that the program prints.
 #[derive(Clone, Copy)]
-pub enum Fault {
-    NoStep,
-    NoCommand,
-    NoWord,
-    NoNumber,
-    NoByte,
-    NoName,
-    NoHost,
-    NoRange,
-    NoMethod,
-    NoRoom,
-    NoFlag,
-    NoTime,
-    NoDay,
-    NoSite,
-    NoBytes,
-    Memory,
-    Device,
-}
+pub struct Fault(pub &'static str);
 
-impl fmt::Display for Fault {
-    fn fmt<W: fmt::Write>(&self, f: &mut fmt::Formatter<W>) -> fmt::Result {
-        f.write_str(match self {
-            Fault::NoStep => "feed_test_http STEP < LINES: STEP is a number of bytes",
-            Fault::NoCommand => "no such command",
-            Fault::NoWord => "a word is missing",
-            Fault::NoNumber => "not a number",
-            Fault::NoByte => "not a byte: an escape is \\r, \\n, \\t or \\xHH",
-            Fault::NoName => "not the name of a release",
-            Fault::NoHost => "not a host",
-            Fault::NoRange => "not a value of Content-Range",
-            Fault::NoMethod => "not a method: get or head",
-            Fault::NoRoom => "more room than 4096 bytes",
-            Fault::NoFlag => "not one of the two words that are allowed here",
-            Fault::NoTime => "not a time: 1 ms or more",
-            Fault::NoDay => "not a day: YYYY-MM-DD",
-            Fault::NoSite => "not a site file",
-            Fault::NoBytes => "fewer bytes are left, or none is to be sent",
-            Fault::Memory => "out of memory",
-            Fault::Device => "input or output failed",
-        })
-    }
-}
+/// The arguments have no number of bytes.
+pub const NO_STEP: Fault = Fault("feed_test_http STEP < LINES: STEP is a number of bytes");
+
+pub const NO_COMMAND: Fault = Fault("no such command");
+
+pub const NO_NUMBER: Fault = Fault("not a number");
+
+pub const NO_BYTE: Fault = Fault("not a byte: an escape is \\r, \\n, \\t or \\xHH");
+
+pub const NO_HOST: Fault = Fault("not a host");
+
+pub const NO_ROOM: Fault = Fault("more room than 4096 bytes");
+
+pub const NO_DEVICE: Fault = Fault("input or output failed");
+
+pub const NO_MEMORY: Fault = Fault("out of memory");
 
 impl From<AllocError> for Fault {
     fn from(_: AllocError) -> Fault {
-        Fault::Memory
+        NO_MEMORY
     }
 }
 
 impl From<io::Error> for Fault {
     fn from(_: io::Error) -> Fault {
-        Fault::Device
+        NO_DEVICE
     }
 }

@@ -1,6 +1,6 @@
 //! Prints the faults of the crates of HTTP, each value with its text.
-use crate::driver::Driver;
 use crate::fault::Fault;
+use crate::print::Out;
 use feed_dial::DialFault;
 use feed_http::{HttpFault, ShelfFault};
 use feed_range::{RangeFault, WriteFault};
@@ -71,25 +71,27 @@ impl Listed for WriteFault {
     }
 }
 
-impl Driver<'_> {
-    /// Prints each fault: its type, its value and its text.
-    pub fn print_faults(&self) -> Result<(), Fault> {
-        self.print_from("HttpFault", HttpFault::Read)?;
-        self.print_from("ShelfFault", ShelfFault::Device)?;
-        self.print_from("DialFault", DialFault::Connect)?;
-        self.print_from("RangeFault", RangeFault::BadSyntax)?;
-        self.print_from("WriteFault", WriteFault::Write)
-    }
+/// Prints each fault: its type, its value and its text.
+pub fn print_faults(out: &mut Out<'_>) -> Result<(), Fault> {
+    print_from(out, "HttpFault", HttpFault::Read);
+    print_from(out, "ShelfFault", ShelfFault::Device);
+    print_from(out, "DialFault", DialFault::Connect);
+    print_from(out, "RangeFault", RangeFault::BadSyntax);
+    print_from(out, "WriteFault", WriteFault::Write);
+    Ok(())
+}
 
-    fn print_from<F: Listed>(&self, name: &str, first: F) -> Result<(), Fault> {
-        let mut fault = first;
-        for _ in 0..MOST {
-            println!(self.rt; "{name} {fault:?}: {fault}")?;
-            let Some(next) = fault.next() else {
-                break;
-            };
-            fault = next;
-        }
-        Ok(())
+fn print_from<F: Listed>(out: &mut Out<'_>, name: &str, first: F) {
+    let mut fault = first;
+    for _ in 0..MOST {
+        print_fault(out, name, fault);
+        let Some(next) = fault.next() else {
+            break;
+        };
+        fault = next;
     }
+}
+
+fn print_fault<F: Listed>(out: &mut Out<'_>, name: &str, fault: F) {
+    out.print(format_args!("{name} {fault:?}: {fault}\n"));
 }

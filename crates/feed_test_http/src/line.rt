@@ -1,66 +1,103 @@
 //! Splits a line into words.
 use crate::escapes::unescaped;
-use crate::fault::Fault;
+use crate::fault::{Fault, NO_NUMBER};
+use feed_http::Method;
 use feed_names::ReleaseName;
 use std::alloc::Global;
 
-/// The rest of a line.
+/// The rest of a line. It remembers the first fault of its words, so that a command checks them once.
 #[derive(Clone, Copy)]
 pub struct Line<'a> {
     rest: Option<&'a str>,
+    fault: Option<Fault>,
 }
 
 impl<'a> Line<'a> {
     pub fn new(text: &'a str) -> Line<'a> {
-        Line { rest: Some(text) }
-    }
-
-    /// Returns the next word, and moves past it.
-    pub fn word(&mut self) -> Result<&'a str, Fault> {
-        let Some(rest) = self.rest else {
-            return Err(Fault::NoWord);
-        };
-        match rest.split_once(' ') {
-            Some((word, rest)) => {
-                self.rest = Some(rest);
-                Ok(word)
-            }
-            None => {
-                self.rest = None;
-                Ok(rest)
-            }
+        Line {
+            rest: Some(text),
+            fault: None,
         }
     }
 
-    pub fn number(&mut self) -> Result<u64, Fault> {
-        let word = self.word()?;
-        word.parse::<u64>().map_err(|_| Fault::NoNumber)
+    /// Returns the first fault of the words.
+    pub fn check(&self) -> Result<(), Fault> {
+        match self.fault {
+            Some(fault) => Err(fault),
+            None => Ok(()),
+        }
     }
 
-    pub fn count(&mut self) -> Result<usize, Fault> {
-        let word = self.word()?;
-        word.parse::<usize>().map_err(|_| Fault::NoNumber)
+    fn reject(&mut self, fault: Fault) {
+        if self.fault.is_none() {
+            self.fault = Some(fault);
+        }
+    }
+
+    /// Returns the next word, and moves past it. It is empty if it is missing.
+    pub fn word(&mut self) -> &'a str {
+        let Some(text) = self.rest else {
+            self.reject(Fault("a word is missing"));
+            return "";
+        };
+        let Some((word, rest)) = text.split_once(' ') else {
+            self.rest = None;
+            return text;
+        };
+        self.rest = Some(rest);
+        word
+    }
+
+    /// Returns the next word as a number, or 0 if it is not one.
+    pub fn number(&mut self) -> u64 {
+        if let Ok(number) = self.word().parse::<u64>() {
+            return number;
+        }
+        self.reject(NO_NUMBER);
+        0
+    }
+
+    /// Returns the next word as a number, or 0 if it is not one.
+    pub fn count(&mut self) -> usize {
+        if let Ok(count) = self.word().parse::<usize>() {
+            return count;
+        }
+        self.reject(NO_NUMBER);
+        0
     }
 
     /// Returns whether the next word is the first of two.
-    pub fn flag(&mut self, yes: &str, no: &str) -> Result<bool, Fault> {
-        let word = self.word()?;
-        if word == yes {
-            Ok(true)
-        } else if word == no {
-            Ok(false)
-        } else {
-            Err(Fault::NoFlag)
+    pub fn flag(&mut self, yes: &str, no: &str) -> bool {
+        let word = self.word();
+        let is_first = word == yes;
+        if !is_first && word != no {
+            self.reject(Fault("not one of the two words that are allowed here"));
         }
+        is_first
+    }
+
+    /// Returns the next word as a method, or GET if it is not one.
+    pub fn method(&mut self) -> Method {
+        match self.word() {
+            "head" => return Method::Head,
+            "get" => {}
+            _ => self.reject(Fault("not a method: get or head")),
+        }
+        Method::Get
     }
 
     pub fn name(&mut self, alloc: Global) -> Result<ReleaseName, Fault> {
-        let word = self.word()?;
-        ReleaseName::parse(alloc, word.as_bytes()).map_err(|_| Fault::NoName)
+        let word = self.word();
+        self.check()?;
+        match ReleaseName::parse(alloc, word.as_bytes()) {
+            Ok(name) => Ok(name),
+            Err(_) => Err(Fault("not the name of a release")),
+        }
     }
 
     /// Returns the bytes that the rest denotes. They are none if the line ended before.
     pub fn text(&self, alloc: Global) -> Result<Vec<u8>, Fault> {
+        self.check()?;
         unescaped(alloc, self.rest.unwrap_or(""))
     }
 }

@@ -74,48 +74,73 @@ mod fault;
 mod faults;
 mod line;
 mod node;
+mod print;
 mod ranges;
 mod shelf;
 
 use driver::Driver;
-use fault::Fault;
+use fault::{Fault, NO_STEP};
+use print::Out;
 use std::env;
 use std::io::Read;
 use std::process::ExitCode;
 
 fn main(rt: HostRuntime) -> ExitCode {
-    match run_lines(&rt) {
+    let mut line = 0usize;
+    match run(&rt, &mut line) {
         Ok(()) => ExitCode::SUCCESS,
-        Err((0, fault)) => {
-            let _printed = eprintln!(rt; "{fault}");
-            ExitCode::from(2)
-        }
-        Err((line, fault)) => {
-            let _printed = eprintln!(rt; "line {line}: {fault}");
+        Err(Fault(why)) => {
+            print_end(&rt, line, why);
             ExitCode::from(2)
         }
     }
 }
 
-// Runs each line. An error has the number of its line, or 0 if it occurs before the first.
-fn run_lines(rt: &HostRuntime) -> Result<(), (usize, Fault)> {
-    let step = step_of(rt).map_err(|fault| (0, fault))?;
-    let text = input_of(rt).map_err(|fault| (0, fault))?;
-    let mut driver = Driver::new(rt, step).map_err(|fault| (0, fault))?;
-    for (at, line) in text.lines().enumerate() {
-        driver
-            .take(line)
-            .map_err(|fault| (at.saturating_add(1), fault))?;
+// Prints what is wrong, and the number of its line, unless it is 0.
+fn print_end(rt: &HostRuntime, line: usize, why: &str) {
+    let _printed = if line == 0 {
+        rt.eprintln(why)
+    } else {
+        eprintln!(rt; "line {line}: {why}")
+    };
+}
+
+fn run(rt: &HostRuntime, at: &mut usize) -> Result<(), Fault> {
+    let step = step_of(rt)?;
+    let text = input_of(rt)?;
+    let mut driver = Driver::new(rt, step)?;
+    run_lines(rt, &mut driver, text.as_str(), at)
+}
+
+// Runs each line, and counts it in `at` before.
+fn run_lines(
+    rt: &HostRuntime,
+    driver: &mut Driver<'_>,
+    text: &str,
+    at: &mut usize,
+) -> Result<(), Fault> {
+    for line in text.lines() {
+        *at = at.saturating_add(1);
+        run_line(rt, driver, line)?;
     }
     Ok(())
+}
+
+fn run_line(rt: &HostRuntime, driver: &mut Driver<'_>, line: &str) -> Result<(), Fault> {
+    let mut out = Out::new(rt);
+    driver.take(&mut out, line)?;
+    out.finish()
 }
 
 fn step_of(rt: &HostRuntime) -> Result<usize, Fault> {
     let mut words = env::args(rt)?;
     let Some(word) = words.nth(1) else {
-        return Err(Fault::NoStep);
+        return Err(NO_STEP);
     };
-    word.as_str().parse::<usize>().map_err(|_| Fault::NoStep)
+    match word.as_str().parse::<usize>() {
+        Ok(step) => Ok(step),
+        Err(_) => Err(NO_STEP),
+    }
 }
 
 fn input_of(rt: &HostRuntime) -> Result<String, Fault> {

@@ -1,10 +1,10 @@
 //! A node: its feed, what it replies to a request, and a connection to it.
-use crate::escapes::Escaped;
-use crate::fault::Fault;
+use crate::fault::{Fault, NO_MEMORY};
 use crate::line::Line;
+use crate::print::Out;
 use feed_dates::read_date;
 use feed_embargo::Today;
-use feed_http_heads::{FIELD_LIMIT, head_end};
+use feed_http_heads::{FIELD_LIMIT, HeadEnd, head_end};
 use feed_keep::ListKeep;
 use feed_model::{Refusal, Reply};
 use feed_names::ReleaseName;
@@ -43,78 +43,81 @@ impl<'a> Node<'a> {
                 site,
                 today: Today::epoch(),
             }),
-            Err(_) => Err(Fault::Memory),
+            Err(_) => Err(NO_MEMORY),
         }
     }
 
     /// Takes a line of this command.
-    pub fn take(&mut self, command: &str, line: Line<'_>) -> Result<(), Fault> {
+    pub fn take(&mut self, out: &mut Out<'_>, command: &str, line: Line<'_>) -> Result<(), Fault> {
         match command {
-            "release" => self.release(line),
+            "release" => self.release(out, line),
             "site" => self.take_site(line),
             "today" => self.take_today(line),
             "keep-releases" => self.keep_releases(),
-            "respond" => self.respond(line),
-            "respond-to-form" => self.respond_to_form(line),
-            "respond-as-node" => self.respond_as_node(line),
-            "fetch-asked" => self.fetch_request(line),
-            "head-end" => self.head_end(line),
-            _ => self.take_connection(command, line),
+            "respond" => self.respond(out, line),
+            "respond-to-form" => self.respond_to_form(out, line),
+            "respond-as-node" => self.respond_as_node(out, line),
+            "fetch-asked" => self.fetch_request(out, line),
+            "head-end" => self.head_end(out, line),
+            _ => self.take_connection(out, command, line),
         }
     }
 
-    fn release(&mut self, mut line: Line<'_>) -> Result<(), Fault> {
+    fn release(&mut self, out: &mut Out<'_>, mut line: Line<'_>) -> Result<(), Fault> {
         let name = line.name(self.rt.alloc())?;
         let bytes = line.text(self.rt.alloc())?;
         offer(&mut self.feed, &name, bytes.len() as u64);
         let answer = arrive(&mut self.feed, &name, &bytes);
-        match answer {
-            Ok(reply) => println!(self.rt; "{reply}")?,
-            Err(refusal) => println!(self.rt; "refused {refusal}")?,
-        }
+        print_answer(out, answer);
         Ok(())
     }
 
     fn take_site(&mut self, mut line: Line<'_>) -> Result<(), Fault> {
-        let version = line.word()?.as_bytes();
-        let max_age = line.number()?;
-        self.site = read_site(
-            self.rt.alloc(),
-            version,
-            max_age.min(u64::from(u32::MAX)) as u32,
-            line.text(self.rt.alloc())?,
-        )?;
+        let version = line.word().as_bytes();
+        let max_age = line.number().min(u64::from(u32::MAX)) as u32;
+        let file = line.text(self.rt.alloc())?;
+        self.site = read_site(self.rt.alloc(), version, max_age, file)?;
         Ok(())
     }
 
     fn take_today(&mut self, mut line: Line<'_>) -> Result<(), Fault> {
-        match today_of(line.word()?) {
-            Some(today) => self.today = today,
-            None => return Err(Fault::NoDay),
+        let today = today_of(line.word());
+        line.check()?;
+        match today {
+            Some(today) => {
+                self.today = today;
+                Ok(())
+            }
+            None => Err(Fault("not a day: YYYY-MM-DD")),
         }
-        Ok(())
     }
 
     fn keep_releases(&mut self) -> Result<(), Fault> {
-        keep_releases(self.rt.alloc(), &mut self.site, &self.feed)?;
-        Ok(())
+        Ok(keep_releases(self.rt.alloc(), &mut self.site, &self.feed)?)
     }
 
-    fn respond(&self, mut line: Line<'_>) -> Result<(), Fault> {
-        let keeps = line.flag("keep", "close")?;
+    fn respond(&self, out: &mut Out<'_>, mut line: Line<'_>) -> Result<(), Fault> {
+        let keeps = line.flag("keep", "close");
         let request = line.text(self.rt.alloc())?;
-        self.print_reply(&request, b"", keeps)
+        self.print_reply(out, &request, b"", keeps)
     }
 
-    fn respond_to_form(&self, mut line: Line<'_>) -> Result<(), Fault> {
-        let keeps = line.flag("keep", "close")?;
-        let body = line.word()?.as_bytes();
+    fn respond_to_form(&self, out: &mut Out<'_>, mut line: Line<'_>) -> Result<(), Fault> {
+        let keeps = line.flag("keep", "close");
+        let body = line.word().as_bytes();
         let request = line.text(self.rt.alloc())?;
-        println!(self.rt; "length {}", form_length_of(&request))?;
-        self.print_reply(&request, body, keeps)
+        out.number("length ", form_length_of(&request));
+        out.line("");
+        self.print_reply(out, &request, body, keeps)
     }
 
-    fn print_reply(&self, request: &[u8], body: &[u8], keeps: bool) -> Result<(), Fault> {
+    fn print_reply(
+        &self,
+        out: &mut Out<'_>,
+        request: &[u8],
+        body: &[u8],
+        keeps: bool,
+    ) -> Result<(), Fault> {
         let reply = respond(
             self.rt.alloc(),
             request,
@@ -124,49 +127,74 @@ impl<'a> Node<'a> {
             &self.today,
             &self.feed,
         )?;
-        println!(self.rt; "{}", Escaped(reply.bytes()))?;
+        out.escaped(reply.bytes());
         Ok(())
     }
 
-    fn respond_as_node(&self, mut line: Line<'_>) -> Result<(), Fault> {
-        let token = match line.word()? {
-            "-" => None,
-            token => Some(token.as_bytes()),
-        };
-        let is_busy = line.flag("busy", "free")?;
-        let keeps = line.flag("keep", "close")?;
+    fn respond_as_node(&self, out: &mut Out<'_>, mut line: Line<'_>) -> Result<(), Fault> {
+        let token = token_of(line.word());
+        let is_busy = line.flag("busy", "free");
+        let keeps = line.flag("keep", "close");
         let request = line.text(self.rt.alloc())?;
-        let policy = FetchPolicy { token, is_busy };
+        self.print_node_reply(out, &request, keeps, &FetchPolicy { token, is_busy })
+    }
+
+    fn print_node_reply(
+        &self,
+        out: &mut Out<'_>,
+        request: &[u8],
+        keeps: bool,
+        policy: &FetchPolicy<'_>,
+    ) -> Result<(), Fault> {
         let reply = respond_as_node(
             self.rt.alloc(),
-            &request,
+            request,
             b"",
             keeps,
-            &policy,
+            policy,
             &self.site,
             &self.today,
             &self.feed,
         )?;
-        println!(self.rt; "{}", Escaped(reply.bytes()))?;
+        out.escaped(reply.bytes());
         Ok(())
     }
 
-    fn fetch_request(&self, mut line: Line<'_>) -> Result<(), Fault> {
-        let token = line.word()?.as_bytes();
+    fn fetch_request(&self, out: &mut Out<'_>, mut line: Line<'_>) -> Result<(), Fault> {
+        let token = line.word().as_bytes();
         let request = line.text(self.rt.alloc())?;
         match fetch_request(self.rt.alloc(), &request, token) {
-            Some(Ok(name)) => println!(self.rt; "{}", Escaped(name.text()))?,
-            Some(Err(_)) => println!(self.rt; "no name")?,
-            None => println!(self.rt; "none")?,
+            Some(Ok(name)) => out.escaped(name.text()),
+            Some(Err(_)) => out.line("no name"),
+            None => out.line("none"),
         }
         Ok(())
     }
 
-    fn head_end(&self, line: Line<'_>) -> Result<(), Fault> {
+    fn head_end(&self, out: &mut Out<'_>, line: Line<'_>) -> Result<(), Fault> {
         let bytes = line.text(self.rt.alloc())?;
-        println!(self.rt; "{:?}", head_end(&bytes))?;
+        print_head_end(out, head_end(&bytes));
         Ok(())
     }
+}
+
+fn token_of(word: &str) -> Option<&[u8]> {
+    match word {
+        "-" => None,
+        token => Some(token.as_bytes()),
+    }
+}
+
+fn print_answer(out: &mut Out<'_>, answer: Result<Reply, Refusal>) {
+    match answer {
+        Ok(reply) => out.print(reply),
+        Err(refusal) => out.print(format_args!("refused {refusal}")),
+    }
+    out.line("");
+}
+
+fn print_head_end(out: &mut Out<'_>, end: HeadEnd) {
+    out.print(format_args!("{end:?}\n"));
 }
 
 fn form_length_of(bytes: &[u8]) -> u64 {
@@ -193,8 +221,8 @@ fn arrive(feed: &mut Feed<ListKeep>, name: &ReleaseName, bytes: &[u8]) -> Result
 fn read_site(alloc: Global, version: &[u8], max_age: u32, file: Vec<u8>) -> Result<Site, Fault> {
     match Site::read(alloc, version, max_age, file) {
         Ok(site) => Ok(site),
-        Err(SiteFault::Memory) => Err(Fault::Memory),
-        Err(_) => Err(Fault::NoSite),
+        Err(SiteFault::Memory) => Err(NO_MEMORY),
+        Err(_) => Err(Fault("not a site file")),
     }
 }
 

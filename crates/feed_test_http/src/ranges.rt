@@ -1,96 +1,134 @@
 //! Runs the commands on values of Range and Content-Range.
 use crate::driver::Driver;
-use crate::escapes::Escaped;
-use crate::fault::Fault;
+use crate::fault::{Fault, NO_ROOM};
 use crate::line::Line;
+use crate::print::Out;
 use feed_http::{fetch_gives_slice, head_gives_size, part_reads_back, size_reads_back};
 use feed_range::{
-    ContentRange, RangeAsk, WriteFault, ask_reads_back, asks_by_form, content_range_reads_back,
-    read_number, write_ask, write_content_range,
+    ContentRange, RangeAsk, RangeFault, WriteFault, ask_reads_back, asks_by_form,
+    content_range_reads_back, read_number, write_ask, write_content_range,
 };
 
 const ROOM: usize = 4_096;
 
 impl Driver<'_> {
-    pub fn take_value(&mut self, command: &str, line: Line<'_>) -> Result<(), Fault> {
+    pub fn take_value(
+        &mut self,
+        out: &mut Out<'_>,
+        command: &str,
+        line: Line<'_>,
+    ) -> Result<(), Fault> {
         match command {
-            "range" => self.range(line),
-            "content-range" => self.content_range(line),
-            "number" => self.number(line),
-            "write-range" => self.write_range(line),
-            "write-content-range" => self.write_content_range(line),
+            "range" => self.range(out, line),
+            "content-range" => self.content_range(out, line),
+            "number" => self.number(out, line),
+            "write-range" => write_range(out, line),
+            "write-content-range" => self.write_content_range(out, line),
             "laws" => {
                 laws();
                 Ok(())
             }
-            _ => self.node.take(command, line),
+            _ => self.node.take(out, command, line),
         }
     }
 
-    fn range(&self, mut line: Line<'_>) -> Result<(), Fault> {
-        let length = line.number()?;
+    fn range(&self, out: &mut Out<'_>, mut line: Line<'_>) -> Result<(), Fault> {
+        let length = line.number();
         let value = line.text(self.rt.alloc())?;
-        match RangeAsk::read(&value, length) {
-            RangeAsk::Whole => println!(self.rt; "whole")?,
-            RangeAsk::Part(first, last) => println!(self.rt; "part {first} {last}")?,
-            RangeAsk::Unsatisfied => println!(self.rt; "unsatisfied")?,
-        }
+        print_ask(out, RangeAsk::read(&value, length));
         Ok(())
     }
 
-    fn content_range(&self, line: Line<'_>) -> Result<(), Fault> {
+    fn content_range(&self, out: &mut Out<'_>, line: Line<'_>) -> Result<(), Fault> {
         let value = line.text(self.rt.alloc())?;
         match ContentRange::read(&value) {
-            Ok(ContentRange::Part { first, last, total }) => println!(self.rt;
-                "part {first} {last} {total:?}"
-            )?,
-            Ok(ContentRange::Unsatisfied { total }) => println!(self.rt; "unsatisfied {total}")?,
-            Err(fault) => println!(self.rt; "{fault} {}", fault as u8)?,
+            Ok(range) => print_range(out, range),
+            Err(fault) => print_fault(out, fault),
         }
         Ok(())
     }
 
-    fn number(&self, line: Line<'_>) -> Result<(), Fault> {
+    fn number(&self, out: &mut Out<'_>, line: Line<'_>) -> Result<(), Fault> {
         let text = line.text(self.rt.alloc())?;
-        println!(self.rt; "{:?}", read_number(&text))?;
+        out.option(read_number(&text));
+        out.line("");
         Ok(())
     }
 
-    fn write_range(&self, mut line: Line<'_>) -> Result<(), Fault> {
-        let room = line.count()?;
-        let (first, last) = (line.number()?, line.number()?);
-        let mut storage = [0u8; ROOM];
-        if room > ROOM {
-            return Err(Fault::NoRoom);
-        }
-        let mut left = &mut storage[..room];
-        let written = write_ask(&mut left, first, last);
-        let left = left.len();
-        self.print_value(written, &storage[..room - left.min(room)])
-    }
-
-    fn write_content_range(&self, mut line: Line<'_>) -> Result<(), Fault> {
-        let room = line.count()?;
+    fn write_content_range(&self, out: &mut Out<'_>, mut line: Line<'_>) -> Result<(), Fault> {
+        let room = line.count();
         let value = line.text(self.rt.alloc())?;
-        let Ok(range) = ContentRange::read(&value) else {
-            return Err(Fault::NoRange);
-        };
-        let mut storage = [0u8; ROOM];
-        if room > ROOM {
-            return Err(Fault::NoRoom);
+        match ContentRange::read(&value) {
+            Ok(range) => write_value(out, room, &range),
+            Err(_) => Err(Fault("not a value of Content-Range")),
         }
-        let mut left = &mut storage[..room];
-        let written = write_content_range(&mut left, &range);
-        let left = left.len();
-        self.print_value(written, &storage[..room - left.min(room)])
     }
+}
 
-    fn print_value(&self, written: Result<(), WriteFault>, value: &[u8]) -> Result<(), Fault> {
-        match written {
-            Ok(()) => println!(self.rt; "{}", Escaped(value))?,
-            Err(fault) => println!(self.rt; "{fault}")?,
+fn write_range(out: &mut Out<'_>, mut line: Line<'_>) -> Result<(), Fault> {
+    let room = line.count();
+    let first = line.number();
+    let last = line.number();
+    line.check()?;
+    if room > ROOM {
+        return Err(NO_ROOM);
+    }
+    let mut storage = [0u8; ROOM];
+    let mut left = &mut storage[..room];
+    let written = write_ask(&mut left, first, last);
+    let left = left.len();
+    print_value(out, written, &storage[..room - left.min(room)]);
+    Ok(())
+}
+
+fn write_value(out: &mut Out<'_>, room: usize, range: &ContentRange) -> Result<(), Fault> {
+    if room > ROOM {
+        return Err(NO_ROOM);
+    }
+    let mut storage = [0u8; ROOM];
+    let mut left = &mut storage[..room];
+    let written = write_content_range(&mut left, range);
+    let left = left.len();
+    print_value(out, written, &storage[..room - left.min(room)]);
+    Ok(())
+}
+
+fn print_ask(out: &mut Out<'_>, ask: RangeAsk) {
+    match ask {
+        RangeAsk::Whole => out.word("whole"),
+        RangeAsk::Part(first, last) => print_part(out, first, last),
+        RangeAsk::Unsatisfied => out.word("unsatisfied"),
+    }
+    out.line("");
+}
+
+fn print_part(out: &mut Out<'_>, first: u64, last: u64) {
+    out.number("part ", first);
+    out.number(" ", last);
+}
+
+fn print_range(out: &mut Out<'_>, range: ContentRange) {
+    match range {
+        ContentRange::Part { first, last, total } => {
+            print_part(out, first, last);
+            out.word(" ");
+            out.option(total);
         }
-        Ok(())
+        ContentRange::Unsatisfied { total } => out.number("unsatisfied ", total),
+    }
+    out.line("");
+}
+
+fn print_fault(out: &mut Out<'_>, fault: RangeFault) {
+    out.print(fault);
+    out.number(" ", u64::from(fault as u8));
+    out.line("");
+}
+
+fn print_value(out: &mut Out<'_>, written: Result<(), WriteFault>, value: &[u8]) {
+    match written {
+        Ok(()) => out.escaped(value),
+        Err(fault) => out.print(format_args!("{fault}\n")),
     }
 }
 
