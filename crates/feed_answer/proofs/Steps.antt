@@ -1,5 +1,5 @@
 -- One more element of a list whose chosen parts are folded.
-use Rattle.std.proofs.Common.{◌≡◌, ◌<◌, ◌+◌, ℕ, List, ◌∷◌, ◌++◌, length, drop, get_or, Option, Some, None, sym, ap, ◌∙◌, append_assoc}
+use Rattle.std.proofs.Common.{◌≡◌, ◌<◌, ◌+◌, ℕ, List, ◌++◌, length, drop, get_or, Option, Some, None, sym, ap, ◌∙◌, append_assoc}
 use Rattle.std.specs.Prelude.{fold}
 use Rattle.std.specs.List.{cons_option, filter_map, flat_map}
 use Rattle.std.proofs.lemmas.List.{drop_more}
