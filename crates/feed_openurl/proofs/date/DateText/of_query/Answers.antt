@@ -1,4 +1,4 @@
-use Rattle.std.proofs.Common.{◌≡◌, ◌≤◌, ◌<◌, ◌∙◌, ℕ, List, [], ◌∷◌, length, get_or, Option, Some, None, if◌then◌else◌, is_some, refl, sym, ap, arith}
+use Rattle.std.proofs.Common.{◌≡◌, ◌≤◌, ◌<◌, ◌∙◌, ℕ, List, [], ◌∷◌, length, get_or, Some, None, if◌then◌else◌, is_some, refl, sym, ap, arith}
 use Rattle.feed_dates.specs.declared.day_range.DayRange.{DayRange}
 use Rattle.feed_dates.specs.DayRanges.{query_days_of, with_hyphens}
 use Rattle.feed_openurl.specs.Texts.{date_text_of}
