@@ -1,7 +1,7 @@
 -- One more element of a list whose chosen parts are folded.
-use Rattle.std.proofs.Common.{◌≡◌, ◌<◌, ◌+◌, ℕ, List, ◌∷◌, length, drop, get_or, Option, Some, None, sym, ap, ◌∙◌}
+use Rattle.std.proofs.Common.{◌≡◌, ◌<◌, ◌+◌, ℕ, List, ◌++◌, length, drop, get_or, Option, Some, None, sym, ap, ◌∙◌, append_assoc}
 use Rattle.std.specs.Prelude.{fold}
-use Rattle.std.specs.List.{cons_option, filter_map}
+use Rattle.std.specs.List.{cons_option, filter_map, flat_map}
 use Rattle.std.proofs.lemmas.List.{drop_more}
 
 module _ {A B C : Type 0} (f : A → Option B) (g : C → B → C) (xs : List A) (i : ℕ) (x : A) where
@@ -19,3 +19,12 @@ module _ {A B C : Type 0} (f : A → Option B) (g : C → B → C) (xs : List A)
       → fold g old (filter_map f (drop i xs)) ≡ all → fold g new (filter_map f (drop (i + 1) xs)) ≡ all
   passed_next old new all within at is same was =
       ap (λ s. fold g s (filter_map f (drop (i + 1) xs))) same ∙ ap (fold g old) (sym (next None within at is)) ∙ was
+
+-- an element whose part is appended
+pub appended_next : {A C : Type 0} (g : A → List C) (xs : List A) (i : ℕ) (x : A) (old new all : List C) → i < length xs → x ≡ get_or xs i x
+    → new ≡ old ++ g x → old ++ flat_map g (drop i xs) ≡ all → new ++ flat_map g (drop (i + 1) xs) ≡ all
+appended_next g xs i x old new all within at more was =
+    ap (λ l. l ++ flat_map g (drop (i + 1) xs)) more
+    ∙ append_assoc old (g x) (flat_map g (drop (i + 1) xs))
+    ∙ ap (λ l. old ++ l) (sym (ap (flat_map g) (drop_more xs i x within) ∙ ap (λ a. g a ++ flat_map g (drop (i + 1) xs)) (sym at)))
+    ∙ was

@@ -1,10 +1,8 @@
 -- The holdings of the first records of a list, and of the records after them.
-use Rattle.std.proofs.Common.{◌≡◌, ◌≤◌, ◌<◌, ◌+◌, ◌∙◌, ℕ, List, [], ◌∷◌, ◌++◌, length, None, refl, ap, arith}
+use Rattle.std.proofs.Common.{◌≡◌, ◌≤◌, ◌+◌, ◌∙◌, ℕ, List, [], ◌∷◌, ◌++◌, length, refl, ap, arith}
 use Rattle.std.specs.Prelude.{Result, Ok, Err, OnOk}
 use Rattle.std.proofs.lemmas.List.{length-append}
-use Rattle.feed_limits.specs.Limits.{file_limit}
 use Rattle.feed_kbart.specs.Columns.{columns_of}
-use Rattle.feed_kbart.specs.Files.{bad_records, holdings_in}
 use Rattle.feed_kbart.specs.Holdings.{holdings_from, join_holdings, no_holdings}
 use Rattle.feed_kbart.specs.HoldingsValue.{HoldingsValue}
 use Rattle.feed_kbart.specs.ListRecords.{IsResultOf, IsTableOf}

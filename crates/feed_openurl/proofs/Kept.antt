@@ -1,6 +1,6 @@
 -- A query that the core answers is understood as the core reads it.
 use Rattle.std.proofs.Common.{◌≡◌, ◌≤◌, ℕ, Bool, true, false, ◌&&◌, ◌||◌, List, [], ◌∷◌, length}
-use Rattle.std.proofs.Common.{Option, Some, None, Ok, Err, if◌then◌else◌, is_some, codes, refl, ap, ◌∙◌, arith}
+use Rattle.std.proofs.Common.{Option, Some, None, Ok, Err, if◌then◌else◌, is_some, codes, refl, ap, ◌∙◌}
 use Rattle.std.specs.Prelude.{IfSome, map, nat_lt}
 use Rattle.std.proofs.lemmas.Bool.{le-ltb}
 use Rattle.std.specs.Option.{option_and_then}

@@ -1,4 +1,4 @@
-use Rattle.std.proofs.Common.{◌≡◌, ◌+◌, ◌∙◌, ℕ, suc, ap, arith, sym}
+use Rattle.std.proofs.Common.{◌≡◌, ◌+◌, ◌∙◌, suc, ap, arith, sym}
 use Rattle.feed_kbart.specs.Stored.{after_texts}
 use Rattle.feed_kbart.proofs.Wholes.{after-next, after-none, split_within}
 use Rattle.feed_kbart.proofs.stored_text.after_texts.Goals as goal

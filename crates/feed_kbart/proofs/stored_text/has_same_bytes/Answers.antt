@@ -1,4 +1,4 @@
-use Rattle.std.proofs.Common.{◌≡◌, ◌<◌, ◌∙◌, length, sym}
+use Rattle.std.proofs.Common.{◌<◌, ◌∙◌, length, sym}
 use Rattle.std.proofs.lemmas.Bool.{OnTrue_from}
 use Rattle.std.specs.Cmp.Lexicographic.{bytes_decides}
 use Rattle.feed_kbart.proofs.Wholes.{not_empty, same_bytes}

@@ -1,4 +1,4 @@
-use Rattle.std.proofs.Common.{◌≡◌, ◌≤◌, ◌<◌, ◌∙◌, ℕ, List, [], ◌∷◌, length, get_or, Option, Some, None, if◌then◌else◌, is_some, refl, sym, ap, arith}
+use Rattle.std.proofs.Common.{◌≡◌, ◌≤◌, ◌<◌, ◌∙◌, ℕ, List, [], ◌∷◌, length, get_or, Some, None, if◌then◌else◌, is_some, refl, sym, ap, arith}
 use Rattle.feed_dates.specs.declared.day_range.DayRange.{DayRange}
 use Rattle.feed_dates.specs.DayRanges.{query_days_of, with_hyphens}
 use Rattle.feed_openurl.specs.Texts.{date_text_of}
@@ -13,7 +13,8 @@ of_year (a ∷ b ∷ c ∷ []) least most = absurd (omega arith)
 of_year (a ∷ b ∷ c ∷ d ∷ []) least most = refl
 of_year (a ∷ b ∷ c ∷ d ∷ k ∷ more) least most = absurd (omega arith)
 
-of_month : (text : List ℕ) → 6 ≤ length text → length text < 7 → get_or text 0 0 ∷ get_or text 1 0 ∷ get_or text 2 0 ∷ get_or text 3 0 ∷ 45 ∷ get_or text 4 0 ∷ get_or text 5 0 ∷ [] ≡ with_hyphens text
+of_month : (text : List ℕ) → 6 ≤ length text → length text < 7
+    → get_or text 0 0 ∷ get_or text 1 0 ∷ get_or text 2 0 ∷ get_or text 3 0 ∷ 45 ∷ get_or text 4 0 ∷ get_or text 5 0 ∷ [] ≡ with_hyphens text
 of_month [] least most = absurd (omega arith)
 of_month (a ∷ []) least most = absurd (omega arith)
 of_month (a ∷ b ∷ []) least most = absurd (omega arith)
@@ -23,7 +24,8 @@ of_month (a ∷ b ∷ c ∷ d ∷ e ∷ []) least most = absurd (omega arith)
 of_month (a ∷ b ∷ c ∷ d ∷ e ∷ f ∷ []) least most = refl
 of_month (a ∷ b ∷ c ∷ d ∷ e ∷ f ∷ k ∷ more) least most = absurd (omega arith)
 
-of_day : (text : List ℕ) → 8 ≤ length text → length text < 9 → get_or text 0 0 ∷ get_or text 1 0 ∷ get_or text 2 0 ∷ get_or text 3 0 ∷ 45 ∷ get_or text 4 0 ∷ get_or text 5 0 ∷ 45 ∷ get_or text 6 0 ∷ get_or text 7 0 ∷ [] ≡ with_hyphens text
+of_day : (text : List ℕ) → 8 ≤ length text → length text < 9
+    → get_or text 0 0 ∷ get_or text 1 0 ∷ get_or text 2 0 ∷ get_or text 3 0 ∷ 45 ∷ get_or text 4 0 ∷ get_or text 5 0 ∷ 45 ∷ get_or text 6 0 ∷ get_or text 7 0 ∷ [] ≡ with_hyphens text
 of_day [] least most = absurd (omega arith)
 of_day (a ∷ []) least most = absurd (omega arith)
 of_day (a ∷ b ∷ []) least most = absurd (omega arith)
@@ -35,7 +37,8 @@ of_day (a ∷ b ∷ c ∷ d ∷ e ∷ f ∷ g ∷ []) least most = absurd (omega
 of_day (a ∷ b ∷ c ∷ d ∷ e ∷ f ∷ g ∷ h ∷ []) least most = refl
 of_day (a ∷ b ∷ c ∷ d ∷ e ∷ f ∷ g ∷ h ∷ k ∷ more) least most = absurd (omega arith)
 
-of_hyphened_month : (text : List ℕ) → 7 ≤ length text → length text < 8 → get_or text 4 0 ≡ 45 → get_or text 0 0 ∷ get_or text 1 0 ∷ get_or text 2 0 ∷ get_or text 3 0 ∷ 45 ∷ get_or text 5 0 ∷ get_or text 6 0 ∷ [] ≡ with_hyphens text
+of_hyphened_month : (text : List ℕ) → 7 ≤ length text → length text < 8 → get_or text 4 0 ≡ 45
+    → get_or text 0 0 ∷ get_or text 1 0 ∷ get_or text 2 0 ∷ get_or text 3 0 ∷ 45 ∷ get_or text 5 0 ∷ get_or text 6 0 ∷ [] ≡ with_hyphens text
 of_hyphened_month [] least most at = absurd (omega arith)
 of_hyphened_month (a ∷ []) least most at = absurd (omega arith)
 of_hyphened_month (a ∷ b ∷ []) least most at = absurd (omega arith)
@@ -46,7 +49,8 @@ of_hyphened_month (a ∷ b ∷ c ∷ d ∷ e ∷ f ∷ []) least most at = absur
 of_hyphened_month (a ∷ b ∷ c ∷ d ∷ e ∷ f ∷ g ∷ []) least most at = ap (λ x. a ∷ b ∷ c ∷ d ∷ x ∷ f ∷ g ∷ []) (sym at)
 of_hyphened_month (a ∷ b ∷ c ∷ d ∷ e ∷ f ∷ g ∷ k ∷ more) least most at = absurd (omega arith)
 
-of_hyphened_day : (text : List ℕ) → 10 ≤ length text → length text < 11 → get_or text 4 0 ≡ 45 → get_or text 7 0 ≡ 45 → get_or text 0 0 ∷ get_or text 1 0 ∷ get_or text 2 0 ∷ get_or text 3 0 ∷ 45 ∷ get_or text 5 0 ∷ get_or text 6 0 ∷ 45 ∷ get_or text 8 0 ∷ get_or text 9 0 ∷ [] ≡ with_hyphens text
+of_hyphened_day : (text : List ℕ) → 10 ≤ length text → length text < 11 → get_or text 4 0 ≡ 45 → get_or text 7 0 ≡ 45
+    → get_or text 0 0 ∷ get_or text 1 0 ∷ get_or text 2 0 ∷ get_or text 3 0 ∷ 45 ∷ get_or text 5 0 ∷ get_or text 6 0 ∷ 45 ∷ get_or text 8 0 ∷ get_or text 9 0 ∷ [] ≡ with_hyphens text
 of_hyphened_day [] least most at also = absurd (omega arith)
 of_hyphened_day (a ∷ []) least most at also = absurd (omega arith)
 of_hyphened_day (a ∷ b ∷ []) least most at also = absurd (omega arith)
@@ -57,7 +61,9 @@ of_hyphened_day (a ∷ b ∷ c ∷ d ∷ e ∷ f ∷ []) least most at also = ab
 of_hyphened_day (a ∷ b ∷ c ∷ d ∷ e ∷ f ∷ g ∷ []) least most at also = absurd (omega arith)
 of_hyphened_day (a ∷ b ∷ c ∷ d ∷ e ∷ f ∷ g ∷ h ∷ []) least most at also = absurd (omega arith)
 of_hyphened_day (a ∷ b ∷ c ∷ d ∷ e ∷ f ∷ g ∷ h ∷ i ∷ []) least most at also = absurd (omega arith)
-of_hyphened_day (a ∷ b ∷ c ∷ d ∷ e ∷ f ∷ g ∷ h ∷ i ∷ j ∷ []) least most at also = ap (λ x. a ∷ b ∷ c ∷ d ∷ x ∷ f ∷ g ∷ 45 ∷ i ∷ j ∷ []) (sym at) ∙ ap (λ x. a ∷ b ∷ c ∷ d ∷ e ∷ f ∷ g ∷ x ∷ i ∷ j ∷ []) (sym also)
+of_hyphened_day (a ∷ b ∷ c ∷ d ∷ e ∷ f ∷ g ∷ h ∷ i ∷ j ∷ []) least most at also =
+    ap (λ x. a ∷ b ∷ c ∷ d ∷ x ∷ f ∷ g ∷ 45 ∷ i ∷ j ∷ []) (sym at)
+    ∙ ap (λ x. a ∷ b ∷ c ∷ d ∷ e ∷ f ∷ g ∷ x ∷ i ∷ j ∷ []) (sym also)
 of_hyphened_day (a ∷ b ∷ c ∷ d ∷ e ∷ f ∷ g ∷ h ∷ i ∷ j ∷ k ∷ more) least most at also = absurd (omega arith)
 
 -- a date that the calendar has is its text
