@@ -1,7 +1,8 @@
-use Rattle.std.proofs.Common.{Ok, Err, Result, OnOk, OnErr, sym, subst}
+use Rattle.std.proofs.Common.{Ok, Err, Result, OnOk, OnErr, sym, ap, subst}
 use Rattle.std.proofs.Math.Logic.{∥∥₁_map, ∥∥₁_elim}
+use Rattle.sqlite.specs.Effect.{Database}
 use Rattle.sqlite.specs.Held.{state}
-use Rattle.feed_store_model.specs.Tables.{IsLayout2}
+use Rattle.feed_store_model.specs.Tables.{HoldsRecords, IsLayout2, stored_content}
 use Rattle.feed_store_model.proofs.ContentSet.{content_set}
 use Rattle.feed_store.proofs.sql_keep.SqlKeepKeep.commit.Goals as goal
 
@@ -37,3 +38,18 @@ returns-in-Ok-clause-listed g c clean =
     let allowed = rw (← c.self.view_is) at c.requires.allowed in
     let listed = rw (← c.self.view_is) at c.requires.listed in
     ∥∥₁_map (listed (clean.0, was)) ((c.in-Ok.ensures.whole clean.1 (allowed (clean.0, was)) mine).listed)
+
+pub returns-in-Err-clause-refused : goal.returns-in-Err-clause-refused
+returns-in-Err-clause-refused g c clean = rw (← c.self.view_is) (ap (λ (db : Database). stored_content db) (c.in-Err.ensures.neither clean.1))
+
+pub returns-in-Err-clause-listed : goal.returns-in-Err-clause-listed
+returns-in-Err-clause-listed g c clean =
+    let was = c.commit_change.ensures.live clean.1 in
+    let listed = rw (← c.self.view_is) at c.requires.listed in
+    ∥∥₁_map (listed (clean.0, was)) (λ holds. subst HoldsRecords (sym (c.in-Err.ensures.neither clean.1)) holds)
+
+pub returns-in-Ok-clause-clean : goal.returns-in-Ok-clause-clean
+returns-in-Ok-clause-clean g c clean = rw (← c.self.view_is) (clean.0, c.commit_change.ensures.live clean.1)
+
+pub returns-in-Err-clause-clean : goal.returns-in-Err-clause-clean
+returns-in-Err-clause-clean g c clean = rw (← c.self.view_is) (clean.0, c.commit_change.ensures.live clean.1)
