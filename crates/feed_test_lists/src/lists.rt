@@ -222,10 +222,20 @@ pub fn write(out: &mut Out<'_>, mut words: Words<'_>) -> Result<(), Fault> {
     let path = words.word();
     words.check()?;
     let name = name_of(out.rt.alloc(), path)?;
-    let holdings = holdings_of(out.rt, path)?;
-    let ending = write_answer(out.rt.alloc(), &holdings, &name, words.rest, room)?;
+    let ending = write_from(out.rt, path, &name, words.rest, room)?;
     print_ending(out, ending);
     Ok(())
+}
+
+fn write_from(
+    rt: &HostRuntime,
+    path: &str,
+    name: &ReleaseName,
+    text: &str,
+    room: usize,
+) -> Result<Result<(), WriteFault>, Fault> {
+    let holdings = holdings_of(rt, path)?;
+    write_answer(rt.alloc(), &holdings, name, text, room)
 }
 
 // Writes the answer to a query to a writer with this much room.

@@ -90,12 +90,18 @@ fn run_words(out: &mut Out<'_>, command: &str, words: Words<'_>) -> Result<(), F
         "values" => values::values(out, words.rest),
         "less" => texts::less(out, words),
         "name-earlier" => texts::name_earlier(out, words),
+        "embargo" => embargoes::embargo(out, words),
+        _ => run_lists(out, command, words),
+    }
+}
+
+fn run_lists(out: &mut Out<'_>, command: &str, words: Words<'_>) -> Result<(), Fault> {
+    match command {
         "read" => lists::read(out, words),
         "count" => lists::count(out, words),
         "parts" => lists::parts(out, words),
         "windows" => lists::windows(out, words),
         "rows" => lists::rows(out, words),
-        "embargo" => embargoes::embargo(out, words),
         "write" => lists::write(out, words),
         _ => Err(Fault("unknown command")),
     }
