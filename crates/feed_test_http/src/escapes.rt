@@ -6,14 +6,19 @@ use std::fmt;
 /// Returns the bytes that a text denotes.
 pub fn unescaped(alloc: Global, text: &str) -> Result<Vec<u8>, Fault> {
     let mut bytes = Vec::new(alloc);
+    push_parts(&mut bytes, text)?;
+    Ok(bytes)
+}
+
+fn push_parts(bytes: &mut Vec<u8>, text: &str) -> Result<(), Fault> {
     let mut parts = text.split('\\');
     if let Some(plain) = parts.next() {
         bytes.extend_from_slice(plain.as_bytes())?;
     }
     for part in parts {
-        push_part(&mut bytes, part.as_bytes())?;
+        push_part(bytes, part.as_bytes())?;
     }
-    Ok(bytes)
+    Ok(())
 }
 
 // Appends the byte that follows a backslash, and the rest.

@@ -32,19 +32,17 @@ pub struct Node<'a> {
 
 impl<'a> Node<'a> {
     pub fn new(rt: &'a HostRuntime, step: usize) -> Result<Node<'a>, Fault> {
+        let feed = open_feed(rt.alloc())?;
         let site = read_site(rt.alloc(), b"1.0", 0, Vec::new(rt.alloc()))?;
-        match Feed::open(rt.alloc(), ListKeep::new(rt.alloc())) {
-            Ok(feed) => Ok(Node {
-                rt,
-                step,
-                connection: Connection::new(rt.alloc(), TimeLimits { step: 1, idle: 1 }),
-                wanted: 0,
-                feed,
-                site,
-                today: Today::epoch(),
-            }),
-            Err(_) => Err(NO_MEMORY),
-        }
+        Ok(Node {
+            rt,
+            step,
+            connection: Connection::new(rt.alloc(), TimeLimits { step: 1, idle: 1 }),
+            wanted: 0,
+            feed,
+            site,
+            today: Today::epoch(),
+        })
     }
 
     /// Takes a line of this command.
@@ -202,6 +200,13 @@ fn form_length_of(bytes: &[u8]) -> u64 {
     match find_request(bytes, &mut headers) {
         Some(request) => form_length(&request),
         None => 0,
+    }
+}
+
+fn open_feed(alloc: Global) -> Result<Feed<ListKeep>, Fault> {
+    match Feed::open(alloc, ListKeep::new(alloc)) {
+        Ok(feed) => Ok(feed),
+        Err(_) => Err(NO_MEMORY),
     }
 }
 

@@ -1,7 +1,7 @@
 //! Checks whether a text that arrives in pieces is UTF-8, for each way to cut it.
-use crate::fault::Fault;
+use crate::fault::{Fault, file_of};
+use crate::print::Out;
 use feed_text::Utf8Check;
-use std::fs;
 
 // How many cuts there are, and how many of them are accepted.
 #[derive(Clone, Copy)]
@@ -19,19 +19,27 @@ impl Tally {
     }
 }
 
-pub fn utf8(rt: &HostRuntime, path: &str) -> Result<(), Fault> {
-    let bytes = fs::read(rt, path)?;
-    print_cuts(rt, &bytes)
+pub fn utf8(out: &mut Out<'_>, path: &str) -> Result<(), Fault> {
+    let bytes = file_of(out.rt, path)?;
+    print_cuts(out, &bytes);
+    Ok(())
 }
 
-fn print_cuts(rt: &HostRuntime, text: &[u8]) -> Result<(), Fault> {
-    let whole = str::from_utf8(text).is_ok();
-    let bytewise = is_utf8_bytewise(text);
-    let (two, three) = (two_pieces(text), three_pieces(text));
-    print!(rt; "whole {whole} bytewise {bytewise}")?;
-    print!(rt; " two {} of {}", two.accepted, two.all)?;
-    println!(rt; " three {} of {}", three.accepted, three.all)?;
-    Ok(())
+fn print_cuts(out: &mut Out<'_>, text: &[u8]) {
+    out.word("whole ");
+    out.flag(str::from_utf8(text).is_ok());
+    out.word(" bytewise ");
+    out.flag(is_utf8_bytewise(text));
+    print_tally(out, " two ", two_pieces(text));
+    print_tally(out, " three ", three_pieces(text));
+    out.line("");
+}
+
+fn print_tally(out: &mut Out<'_>, word: &str, tally: Tally) {
+    out.word(word);
+    out.number(tally.accepted);
+    out.word(" of ");
+    out.number(tally.all);
 }
 
 fn is_utf8(pieces: &[&[u8]]) -> bool {

@@ -1,57 +1,90 @@
 //! The command that evaluates an embargo on a day.
 use crate::fault::Fault;
-use crate::shown::Text;
+use crate::print::Out;
 use crate::words::Words;
 use feed_dates::{DayRange, read_date, write_date};
-use feed_embargo::{Embargo, OpenDays, Today, availability_of};
+use feed_embargo::{Availability, Embargo, OpenDays, Today, availability_of};
 
-pub fn embargo(rt: &HostRuntime, mut words: Words<'_>) -> Result<(), Fault> {
-    let today = today_of(words.word()?);
-    let first = DayRange::of_text(words.word()?.as_bytes()).map(|days| days.first);
-    let last = DayRange::of_text(words.word()?.as_bytes()).map(|days| days.last);
-    let asked = DayRange::of_text(words.word()?.as_bytes());
-    let text = words.rest.as_bytes();
-    let Some(today) = today else {
-        return Ok(println!(rt; "none")?);
-    };
-    match Embargo::read(text) {
-        Some(embargo) => print_open(rt, embargo.open_days(&today, first, last))?,
-        None => print!(rt; "bad\tform")?,
+pub fn embargo(out: &mut Out<'_>, mut words: Words<'_>) -> Result<(), Fault> {
+    let today = today_of(words.word());
+    let first = days_of(words.word());
+    let last = days_of(words.word());
+    let asked = days_of(words.word());
+    words.check()?;
+    match today {
+        Some(today) => print_embargo(
+            out,
+            &today,
+            words.rest.as_bytes(),
+            (first_of(first), last_of(last)),
+            asked,
+        ),
+        None => out.line("none"),
     }
-    let availability = availability_of(&today, text, first, last, asked);
-    Ok(println!(rt; "\t{availability:?}")?)
+    Ok(())
 }
 
 fn today_of(word: &str) -> Option<Today> {
     Today::new(read_date(word.as_bytes())?)
 }
 
+fn days_of(word: &str) -> Option<DayRange> {
+    DayRange::of_text(word.as_bytes())
+}
+
+fn first_of(days: Option<DayRange>) -> Option<i32> {
+    Some(days?.first)
+}
+
+fn last_of(days: Option<DayRange>) -> Option<i32> {
+    Some(days?.last)
+}
+
+// Prints the open days of the covered ones, and how the days of a date lie in them.
+fn print_embargo(
+    out: &mut Out<'_>,
+    today: &Today,
+    text: &[u8],
+    covered: (Option<i32>, Option<i32>),
+    asked: Option<DayRange>,
+) {
+    let (first, last) = covered;
+    match Embargo::read(text) {
+        Some(embargo) => print_open(out, embargo.open_days(today, first, last)),
+        None => out.word("bad\tform"),
+    }
+    print_availability(out, availability_of(today, text, first, last, asked));
+}
+
+fn print_availability(out: &mut Out<'_>, availability: Availability) {
+    out.print(format_args!("\t{availability:?}\n"));
+}
+
 // Prints the first and the last of the open days. Days before the year 1 do not count.
-fn print_open(rt: &HostRuntime, opened: OpenDays) -> Result<(), Fault> {
+fn print_open(out: &mut Out<'_>, opened: OpenDays) {
     let is_empty = match (opened.first, opened.last) {
         (Some(first), Some(last)) => last < first,
         (None, Some(last)) => date_of(last).is_none(),
         _ => false,
     };
     if is_empty {
-        return Ok(print!(rt; "none\tnone")?);
+        return out.word("none\tnone");
     }
-    print_day(rt, opened.first)?;
-    print!(rt; "\t")?;
-    print_day(rt, opened.last)
+    print_day(out, opened.first);
+    out.word("\t");
+    print_day(out, opened.last);
 }
 
-fn print_day(rt: &HostRuntime, day: Option<i64>) -> Result<(), Fault> {
-    match day {
-        Some(day) => print_date(rt, date_of(day)),
-        None => Ok(()),
+fn print_day(out: &mut Out<'_>, day: Option<i64>) {
+    if let Some(day) = day {
+        print_date(out, date_of(day));
     }
 }
 
-fn print_date(rt: &HostRuntime, date: Option<[u8; 10]>) -> Result<(), Fault> {
+fn print_date(out: &mut Out<'_>, date: Option<[u8; 10]>) {
     match date {
-        Some(date) => Ok(print!(rt; "{}", Text(&date))?),
-        None => Ok(print!(rt; "before the year 1")?),
+        Some(date) => out.text(&date),
+        None => out.word("before the year 1"),
     }
 }
 

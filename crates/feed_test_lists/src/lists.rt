@@ -1,30 +1,37 @@
 //! The commands that read a holdings list from a file.
-use crate::fault::Fault;
-use crate::shown::{Maybe, ShownIsbn, ShownIssn, Text};
+use crate::fault::{Fault, file_of};
+use crate::print::Out;
 use crate::slow::{Calls, Full, Slow};
 use crate::texts::name_of;
 use crate::words::Words;
 use feed_answer::{Query, WriteFault, answer};
 use feed_identifiers::{Isbn, Issn};
 use feed_kbart::{
-    Aside, FileCount, Holdings, KbartFault, Kind, Row, count_file, read_file, read_parts,
+    Aside, FileCount, Holdings, KbartFault, Kind, Reason, Row, count_file, read_file, read_parts,
 };
 use feed_list_check::read_windows;
 use feed_names::ReleaseName;
 use std::alloc::Global;
-use std::fs;
 
-pub fn read(rt: &HostRuntime, mut words: Words<'_>) -> Result<(), Fault> {
-    let (step, calls) = (words.number()?, words.calls()?);
-    let bytes = fs::read(rt, words.word()?)?;
-    let rest = bytes.as_slice();
-    print_read(rt, list_of(rt, Slow { rest, step, calls }))
+pub fn read(out: &mut Out<'_>, mut words: Words<'_>) -> Result<(), Fault> {
+    let (step, calls) = (words.number(), words.calls());
+    let bytes = file_in(out, words)?;
+    let (alloc, rest) = (out.rt.alloc(), bytes.as_slice());
+    print_read(out, list_of(alloc, Slow { rest, step, calls }));
+    Ok(())
 }
 
-pub fn parts(rt: &HostRuntime, mut words: Words<'_>) -> Result<(), Fault> {
-    let step = words.number()?;
-    let (first, second) = (words.calls()?, words.calls()?);
-    let bytes = fs::read(rt, words.word()?)?;
+// Reads the file that the next word names.
+fn file_in(out: &mut Out<'_>, mut words: Words<'_>) -> Result<Vec<u8>, Fault> {
+    let path = words.word();
+    words.check()?;
+    file_of(out.rt, path)
+}
+
+pub fn parts(out: &mut Out<'_>, mut words: Words<'_>) -> Result<(), Fault> {
+    let step = words.number();
+    let (first, second) = (words.calls(), words.calls());
+    let bytes = file_in(out, words)?;
     let rest = bytes.as_slice();
     let check = Slow {
         rest,
@@ -36,13 +43,17 @@ pub fn parts(rt: &HostRuntime, mut words: Words<'_>) -> Result<(), Fault> {
         step,
         calls: second,
     };
-    print_read(rt, read_parts(rt.alloc(), check, read))
+    let list = read_parts(out.rt.alloc(), check, read);
+    print_read(out, list);
+    Ok(())
 }
 
-pub fn windows(rt: &HostRuntime, mut words: Words<'_>) -> Result<(), Fault> {
-    let size = words.number()?;
-    let bytes = fs::read(rt, words.word()?)?;
-    print_read(rt, list_in_windows(rt.alloc(), &bytes, size))
+pub fn windows(out: &mut Out<'_>, mut words: Words<'_>) -> Result<(), Fault> {
+    let size = words.number();
+    let bytes = file_in(out, words)?;
+    let list = list_in_windows(out.rt.alloc(), &bytes, size);
+    print_read(out, list);
+    Ok(())
 }
 
 fn list_in_windows(alloc: Global, bytes: &[u8], size: usize) -> Result<Holdings, KbartFault> {
@@ -50,94 +61,117 @@ fn list_in_windows(alloc: Global, bytes: &[u8], size: usize) -> Result<Holdings,
     read_windows(alloc, &windows)
 }
 
-pub fn count(rt: &HostRuntime, mut words: Words<'_>) -> Result<(), Fault> {
-    let (step, calls) = (words.number()?, words.calls()?);
-    let bytes = fs::read(rt, words.word()?)?;
+pub fn count(out: &mut Out<'_>, mut words: Words<'_>) -> Result<(), Fault> {
+    let (step, calls) = (words.number(), words.calls());
+    let bytes = file_in(out, words)?;
     let rest = bytes.as_slice();
-    print_count(rt, count_file(rt.alloc(), Slow { rest, step, calls }))
+    let counted = count_file(out.rt.alloc(), Slow { rest, step, calls });
+    print_count(out, counted);
+    Ok(())
 }
 
-fn print_count(rt: &HostRuntime, counted: Result<FileCount, KbartFault>) -> Result<(), Fault> {
+fn print_count(out: &mut Out<'_>, counted: Result<FileCount, KbartFault>) {
     match counted {
-        Ok(count) => print_counts(rt, count.rows() as usize, count.aside()),
-        Err(fault) => Ok(println!(rt; "refused {fault}")?),
+        Ok(count) => print_counts(out, u64::from(count.rows()), count.aside()),
+        Err(fault) => print_fault(out, fault),
     }
 }
 
-fn print_read(rt: &HostRuntime, read: Result<Holdings, KbartFault>) -> Result<(), Fault> {
+fn print_read(out: &mut Out<'_>, read: Result<Holdings, KbartFault>) {
     match read {
-        Ok(holdings) => print_holdings(rt, &holdings),
-        Err(fault) => Ok(println!(rt; "refused {fault}")?),
+        Ok(holdings) => print_holdings(out, &holdings),
+        Err(fault) => print_fault(out, fault),
     }
 }
 
-fn print_holdings(rt: &HostRuntime, holdings: &Holdings) -> Result<(), Fault> {
-    print_counts(rt, holdings.rows().len(), holdings.aside())?;
+fn print_fault(out: &mut Out<'_>, fault: KbartFault) {
+    out.word("refused ");
+    out.print(fault);
+    out.line("");
+}
+
+fn print_holdings(out: &mut Out<'_>, holdings: &Holdings) {
+    print_counts(out, holdings.rows().len() as u64, holdings.aside());
     for row in holdings.rows() {
-        print_row(rt, row)?;
+        print_row(out, row);
     }
-    Ok(())
 }
 
-fn print_counts(rt: &HostRuntime, rows: usize, aside: &[Aside]) -> Result<(), Fault> {
-    println!(rt; "rows {rows} aside {}", aside.len())?;
+fn print_counts(out: &mut Out<'_>, rows: u64, aside: &[Aside]) {
+    out.word("rows ");
+    out.number(rows);
+    out.word(" aside ");
+    out.number(aside.len() as u64);
+    out.line("");
     for record in aside {
-        println!(rt; "aside {} {}", record.number, record.reason)?;
+        print_aside(out, record.number, record.reason);
     }
-    Ok(())
 }
 
-fn print_row(rt: &HostRuntime, row: &Row) -> Result<(), Fault> {
+fn print_aside(out: &mut Out<'_>, number: u32, reason: Reason) {
+    out.word("aside ");
+    out.number(u64::from(number));
+    out.word(" ");
+    out.print(reason);
+    out.line("");
+}
+
+fn print_row(out: &mut Out<'_>, row: &Row) {
+    out.word("row ");
+    out.number(u64::from(row.number()));
     let kind = match row.kind() {
-        Kind::Serial => "serial",
-        Kind::Book => "book",
+        Kind::Serial => " serial issn ",
+        Kind::Book => " book issn ",
     };
-    print!(rt; "row {} {kind}", row.number())?;
-    print_identifiers(rt, row)?;
-    print_coverage(rt, row)?;
-    print_texts(rt, row)
+    out.word(kind);
+    print_identifiers(out, row);
+    print_coverage(out, row);
+    print_texts(out, row);
 }
 
-fn print_identifiers(rt: &HostRuntime, row: &Row) -> Result<(), Fault> {
-    let print = Maybe(row.print().map(ShownIssn));
-    let online = Maybe(row.online().map(ShownIssn));
-    print!(rt; " issn {print} {online}")?;
-    let print = Maybe(row.print_isbn().map(ShownIsbn));
-    let online = Maybe(row.online_isbn().map(ShownIsbn));
-    print!(rt; " isbn {print} {online}")?;
-    Ok(())
+fn print_identifiers(out: &mut Out<'_>, row: &Row) {
+    out.maybe_issn(row.print());
+    out.word(" ");
+    out.maybe_issn(row.online());
+    out.word(" isbn ");
+    out.maybe_isbn(row.print_isbn());
+    out.word(" ");
+    out.maybe_isbn(row.online_isbn());
 }
 
-fn print_coverage(rt: &HostRuntime, row: &Row) -> Result<(), Fault> {
-    let (first, last) = (Maybe(row.first_day()), Maybe(row.last_day()));
-    print!(rt; " days {first} {last}")?;
-    let (first, last) = (Maybe(row.first_volume()), Maybe(row.last_volume()));
-    println!(rt; " volumes {first} {last}")?;
-    Ok(())
+fn print_coverage(out: &mut Out<'_>, row: &Row) {
+    out.word(" days ");
+    out.maybe_day(row.first_day());
+    out.word(" ");
+    out.maybe_day(row.last_day());
+    out.word(" volumes ");
+    out.maybe_number(row.first_volume());
+    out.word(" ");
+    out.maybe_number(row.last_volume());
 }
 
-fn print_texts(rt: &HostRuntime, row: &Row) -> Result<(), Fault> {
-    let texts = [
-        ("title", row.title()),
-        ("url", row.url()),
-        ("title_id", row.title_id()),
-        ("depth", row.depth()),
-        ("embargo", row.embargo()),
-        ("access", row.access()),
-    ];
-    for (name, text) in texts {
-        print!(rt; "  {name} [{}]", Text(text))?;
-    }
-    Ok(println!(rt)?)
+fn print_texts(out: &mut Out<'_>, row: &Row) {
+    print_text(out, "\n  title [", row.title());
+    print_text(out, "]  url [", row.url());
+    print_text(out, "]  title_id [", row.title_id());
+    print_text(out, "]  depth [", row.depth());
+    print_text(out, "]  embargo [", row.embargo());
+    print_text(out, "]  access [", row.access());
+    out.line("]");
 }
 
-fn list_of(rt: &HostRuntime, reader: Slow<'_>) -> Result<Holdings, KbartFault> {
-    read_file(rt.alloc(), reader)
+fn print_text(out: &mut Out<'_>, before: &str, text: &[u8]) {
+    out.word(before);
+    out.text(text);
+}
+
+fn list_of(alloc: Global, reader: Slow<'_>) -> Result<Holdings, KbartFault> {
+    read_file(alloc, reader)
 }
 
 // The list in a file.
 fn holdings_of(rt: &HostRuntime, path: &str) -> Result<Holdings, Fault> {
-    let bytes = fs::read(rt, path)?;
+    let bytes = file_of(rt, path)?;
     let whole = Slow {
         rest: bytes.as_slice(),
         step: usize::MAX,
@@ -146,16 +180,17 @@ fn holdings_of(rt: &HostRuntime, path: &str) -> Result<Holdings, Fault> {
             fails_once: false,
         },
     };
-    match list_of(rt, whole) {
+    match list_of(rt.alloc(), whole) {
         Ok(holdings) => Ok(holdings),
-        Err(_) => Err(Fault::NotList),
+        Err(_) => Err(Fault("not a holdings list")),
     }
 }
 
-pub fn rows(rt: &HostRuntime, mut words: Words<'_>) -> Result<(), Fault> {
-    let (path, text) = (words.word()?, words.word()?);
-    let holdings = holdings_of(rt, path)?;
-    print_places(rt, places_of(&holdings, text.as_bytes()))
+pub fn rows(out: &mut Out<'_>, mut words: Words<'_>) -> Result<(), Fault> {
+    let (path, text) = (words.word(), words.word());
+    words.check()?;
+    let holdings = holdings_of(out.rt, path)?;
+    print_places(out, places_of(&holdings, text.as_bytes()))
 }
 
 // The places of the rows that have an identifier.
@@ -169,45 +204,58 @@ fn places_of<'a>(holdings: &'a Holdings, text: &[u8]) -> Option<&'a [u32]> {
     }
 }
 
-fn print_places(rt: &HostRuntime, places: Option<&[u32]>) -> Result<(), Fault> {
+fn print_places(out: &mut Out<'_>, places: Option<&[u32]>) -> Result<(), Fault> {
     let Some(places) = places else {
-        return Err(Fault::NotIdentifier);
+        return Err(Fault("not an identifier"));
     };
-    print!(rt; "places")?;
+    out.word("places");
     for place in places {
-        print!(rt; " {place}")?;
+        out.word(" ");
+        out.number(u64::from(*place));
     }
-    Ok(println!(rt)?)
+    out.line("");
+    Ok(())
 }
 
-pub fn write(rt: &HostRuntime, mut words: Words<'_>) -> Result<(), Fault> {
-    let room = words.number()?;
-    let path = words.word()?;
-    let name = name_of(rt, path)?;
+pub fn write(out: &mut Out<'_>, mut words: Words<'_>) -> Result<(), Fault> {
+    let room = words.number();
+    let path = words.word();
+    words.check()?;
+    let name = name_of(out.rt.alloc(), path)?;
+    let ending = write_from(out.rt, path, &name, words.rest, room)?;
+    print_ending(out, ending);
+    Ok(())
+}
+
+fn write_from(
+    rt: &HostRuntime,
+    path: &str,
+    name: &ReleaseName,
+    text: &str,
+    room: usize,
+) -> Result<Result<(), WriteFault>, Fault> {
     let holdings = holdings_of(rt, path)?;
-    let ending = write_answer(rt, &holdings, &name, words.rest, room)?;
-    print_ending(rt, ending)
+    write_answer(rt.alloc(), &holdings, name, text, room)
 }
 
 // Writes the answer to a query to a writer with this much room.
 fn write_answer(
-    rt: &HostRuntime,
+    alloc: Global,
     holdings: &Holdings,
     name: &ReleaseName,
     text: &str,
     room: usize,
 ) -> Result<Result<(), WriteFault>, Fault> {
-    let Ok(query) = Query::read(rt.alloc(), text.as_bytes()) else {
-        return Err(Fault::NotQuery);
+    let Ok(query) = Query::read(alloc, text.as_bytes()) else {
+        return Err(Fault("not a query"));
     };
-    let found = answer(rt.alloc(), holdings, &query)?;
+    let found = answer(alloc, holdings, &query)?;
     Ok(found.write(&mut Full { room }, name))
 }
 
-fn print_ending(rt: &HostRuntime, ending: Result<(), WriteFault>) -> Result<(), Fault> {
+fn print_ending(out: &mut Out<'_>, ending: Result<(), WriteFault>) {
     match ending {
-        Ok(()) => println!(rt; "written")?,
-        Err(fault) => println!(rt; "refused {fault}")?,
+        Ok(()) => out.line("written"),
+        Err(fault) => out.print(format_args!("refused {fault}\n")),
     }
-    Ok(())
 }

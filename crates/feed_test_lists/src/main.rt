@@ -38,13 +38,14 @@ mod cuts;
 mod embargoes;
 mod fault;
 mod lists;
-mod shown;
+mod print;
 mod slow;
 mod texts;
 mod values;
 mod words;
 
 use fault::Fault;
+use print::Out;
 use std::io;
 use std::process::ExitCode;
 use words::Words;
@@ -53,8 +54,8 @@ fn main(rt: HostRuntime) -> io::Result<ExitCode> {
     let mut number = 0u64;
     for line in rt.lines(rt.alloc()) {
         number = number.saturating_add(1);
-        if let Err(fault) = take_line(&rt, line) {
-            eprintln!(rt; "line {number}: {fault}")?;
+        if let Err(Fault(why)) = take_line(&rt, line) {
+            eprintln!(rt; "line {number}: {why}")?;
             return Ok(ExitCode::from(2));
         }
     }
@@ -64,35 +65,44 @@ fn main(rt: HostRuntime) -> io::Result<ExitCode> {
 fn take_line(rt: &HostRuntime, line: io::Result<String>) -> Result<(), Fault> {
     let line = line?;
     let (command, rest) = words::split_word(line.as_str());
-    run(rt, command, rest)
+    let mut out = Out::new(rt);
+    run(&mut out, command, rest)?;
+    out.finish()
 }
 
-fn run(rt: &HostRuntime, command: &str, rest: &str) -> Result<(), Fault> {
+fn run(out: &mut Out<'_>, command: &str, rest: &str) -> Result<(), Fault> {
     match command {
-        "issn" => texts::issn(rt, rest),
-        "isbn" => texts::isbn(rt, rest),
-        "trim" => texts::trim(rt, rest),
-        "volume" => texts::volume(rt, rest),
-        "date" => texts::date(rt, rest),
-        "name" => texts::name(rt, rest),
-        "query" => texts::query(rt, rest),
-        "utf8" => cuts::utf8(rt, rest),
-        "values" => values::values(rt, rest),
-        _ => run_words(rt, command, Words { rest }),
+        "issn" => texts::issn(out, rest),
+        "isbn" => texts::isbn(out, rest),
+        "trim" => texts::trim(out, rest),
+        "volume" => texts::volume(out, rest),
+        "date" => texts::date(out, rest),
+        "query" => texts::query(out, rest),
+        _ => return run_words(out, command, Words::new(rest)),
+    }
+    Ok(())
+}
+
+fn run_words(out: &mut Out<'_>, command: &str, words: Words<'_>) -> Result<(), Fault> {
+    match command {
+        "name" => texts::name(out, words.rest),
+        "utf8" => cuts::utf8(out, words.rest),
+        "values" => values::values(out, words.rest),
+        "less" => texts::less(out, words),
+        "name-earlier" => texts::name_earlier(out, words),
+        "embargo" => embargoes::embargo(out, words),
+        _ => run_lists(out, command, words),
     }
 }
 
-fn run_words(rt: &HostRuntime, command: &str, words: Words<'_>) -> Result<(), Fault> {
+fn run_lists(out: &mut Out<'_>, command: &str, words: Words<'_>) -> Result<(), Fault> {
     match command {
-        "less" => texts::less(rt, words),
-        "name-earlier" => texts::name_earlier(rt, words),
-        "read" => lists::read(rt, words),
-        "count" => lists::count(rt, words),
-        "parts" => lists::parts(rt, words),
-        "windows" => lists::windows(rt, words),
-        "rows" => lists::rows(rt, words),
-        "embargo" => embargoes::embargo(rt, words),
-        "write" => lists::write(rt, words),
-        _ => Err(Fault::UnknownCommand),
+        "read" => lists::read(out, words),
+        "count" => lists::count(out, words),
+        "parts" => lists::parts(out, words),
+        "windows" => lists::windows(out, words),
+        "rows" => lists::rows(out, words),
+        "write" => lists::write(out, words),
+        _ => Err(Fault("unknown command")),
     }
 }

@@ -1,47 +1,52 @@
 //! The commands that parse a text of the line.
 use crate::fault::Fault;
-use crate::shown::{Days, Maybe, ShownIsbn, ShownIssn, Text};
+use crate::print::Out;
 use crate::words::Words;
 use feed_answer::Query;
 use feed_dates::{DayRange, read_date};
 use feed_identifiers::{Isbn, Issn, trim_spaces};
 use feed_kbart::read_volume;
 use feed_names::ReleaseName;
+use std::alloc::Global;
 
-pub fn issn(rt: &HostRuntime, text: &str) -> Result<(), Fault> {
+pub fn issn(out: &mut Out<'_>, text: &str) {
     match Issn::parse(text.as_bytes()) {
         Some(issn) => {
             let is_same = Issn::parse(&issn.text()) == Some(issn);
-            print_identifier(rt, &issn.text(), issn.number(), is_same)
+            print_identifier(out, &issn.text(), issn.number(), is_same)
         }
-        None => Ok(println!(rt; "none")?),
+        None => out.line("none"),
     }
 }
 
-pub fn isbn(rt: &HostRuntime, text: &str) -> Result<(), Fault> {
+pub fn isbn(out: &mut Out<'_>, text: &str) {
     match Isbn::parse(text.as_bytes()) {
         Some(isbn) => {
             let is_same = Isbn::parse(&isbn.text()) == Some(isbn);
-            print_identifier(rt, &isbn.text(), isbn.number(), is_same)
+            print_identifier(out, &isbn.text(), isbn.number(), is_same)
         }
-        None => Ok(println!(rt; "none")?),
+        None => out.line("none"),
     }
 }
 
-fn print_identifier(
-    rt: &HostRuntime,
-    text: &[u8],
-    number: u32,
-    is_same: bool,
-) -> Result<(), Fault> {
-    let text = Text(text);
-    Ok(println!(rt; "{text} number {number} again {is_same}")?)
+fn print_identifier(out: &mut Out<'_>, text: &[u8], number: u32, is_same: bool) {
+    out.text(text);
+    out.word(" number ");
+    out.number(u64::from(number));
+    let again = if is_same {
+        " again true"
+    } else {
+        " again false"
+    };
+    out.line(again);
 }
 
-pub fn less(rt: &HostRuntime, mut words: Words<'_>) -> Result<(), Fault> {
-    let (first, second) = (words.word()?, words.word()?);
-    let is_less = is_less(first.as_bytes(), second.as_bytes());
-    Ok(println!(rt; "{is_less}")?)
+pub fn less(out: &mut Out<'_>, mut words: Words<'_>) -> Result<(), Fault> {
+    let (first, second) = (words.word(), words.word());
+    words.check()?;
+    out.flag(is_less(first.as_bytes(), second.as_bytes()));
+    out.line("");
+    Ok(())
 }
 
 // Whether one identifier is less than another, where both are ISSNs or both ISBNs.
@@ -54,78 +59,104 @@ fn is_less(first: &[u8], second: &[u8]) -> bool {
     }
 }
 
-pub fn trim(rt: &HostRuntime, text: &str) -> Result<(), Fault> {
-    Ok(println!(rt; "[{}]", Text(trim_spaces(text.as_bytes())))?)
+pub fn trim(out: &mut Out<'_>, text: &str) {
+    out.word("[");
+    out.text(trim_spaces(text.as_bytes()));
+    out.line("]");
 }
 
-pub fn volume(rt: &HostRuntime, text: &str) -> Result<(), Fault> {
-    Ok(println!(rt; "{}", Maybe(read_volume(text.as_bytes())))?)
+pub fn volume(out: &mut Out<'_>, text: &str) {
+    out.maybe_number(read_volume(text.as_bytes()));
+    out.line("");
 }
 
-pub fn date(rt: &HostRuntime, text: &str) -> Result<(), Fault> {
-    let day = Maybe(read_date(text.as_bytes()));
-    let in_list = Maybe(DayRange::of_text(text.as_bytes()).map(Days));
-    let in_query = Maybe(DayRange::of_query(text.as_bytes()).map(Days));
-    Ok(println!(rt; "day {day} list {in_list} query {in_query}")?)
+pub fn date(out: &mut Out<'_>, text: &str) {
+    out.word("day ");
+    out.maybe_day(read_date(text.as_bytes()));
+    out.word(" list ");
+    out.maybe_days(DayRange::of_text(text.as_bytes()));
+    out.word(" query ");
+    out.maybe_days(DayRange::of_query(text.as_bytes()));
+    out.line("");
 }
 
-pub fn name(rt: &HostRuntime, text: &str) -> Result<(), Fault> {
-    match ReleaseName::parse(rt.alloc(), text.as_bytes()) {
-        Ok(name) => print_name(rt, &name),
-        Err(fault) => Ok(println!(rt; "refused {fault}")?),
+pub fn name(out: &mut Out<'_>, text: &str) -> Result<(), Fault> {
+    match ReleaseName::parse(out.rt.alloc(), text.as_bytes()) {
+        Ok(name) => print_name(out, &name),
+        Err(fault) => {
+            out.print(format_args!("refused {fault}\n"));
+            Ok(())
+        }
     }
 }
 
-fn print_name(rt: &HostRuntime, name: &ReleaseName) -> Result<(), Fault> {
-    let package = Text(name.package());
-    let day = name.day();
-    println!(rt; "package {package} day {day} text {}", Text(name.text()))?;
+fn print_name(out: &mut Out<'_>, name: &ReleaseName) -> Result<(), Fault> {
+    out.word("package ");
+    out.text(name.package());
+    out.word(" day ");
+    out.day(name.day());
+    out.word(" text ");
+    out.text(name.text());
+    out.line("");
     let copy = name.try_clone()?;
-    println!(rt; "copy {}", Text(copy.text()))?;
+    out.word("copy ");
+    out.text(copy.text());
+    out.line("");
     Ok(())
 }
 
 // A release's name, as a word.
-pub fn name_of(rt: &HostRuntime, word: &str) -> Result<ReleaseName, Fault> {
-    match ReleaseName::parse(rt.alloc(), word.as_bytes()) {
+pub fn name_of(alloc: Global, word: &str) -> Result<ReleaseName, Fault> {
+    match ReleaseName::parse(alloc, word.as_bytes()) {
         Ok(name) => Ok(name),
-        Err(_) => Err(Fault::NotName),
+        Err(_) => Err(Fault("not a release name")),
     }
 }
 
-pub fn name_earlier(rt: &HostRuntime, mut words: Words<'_>) -> Result<(), Fault> {
-    let (first, second) = (words.word()?, words.word()?);
-    let first = name_of(rt, first)?;
-    let second = name_of(rt, second)?;
-    let is_earlier = first.earlier_than(&second);
-    Ok(println!(rt; "{is_earlier}")?)
+pub fn name_earlier(out: &mut Out<'_>, mut words: Words<'_>) -> Result<(), Fault> {
+    let (first, second) = (words.word(), words.word());
+    words.check()?;
+    let is_earlier = is_earlier(out.rt.alloc(), first, second)?;
+    out.flag(is_earlier);
+    out.line("");
+    Ok(())
 }
 
-pub fn query(rt: &HostRuntime, text: &str) -> Result<(), Fault> {
-    match Query::read(rt.alloc(), text.as_bytes()) {
-        Ok(query) => print_query(rt, &query),
-        Err(fault) => Ok(println!(rt; "refused {fault}")?),
+fn is_earlier(alloc: Global, first: &str, second: &str) -> Result<bool, Fault> {
+    let first = name_of(alloc, first)?;
+    let second = name_of(alloc, second)?;
+    Ok(first.earlier_than(&second))
+}
+
+pub fn query(out: &mut Out<'_>, text: &str) {
+    match Query::read(out.rt.alloc(), text.as_bytes()) {
+        Ok(query) => print_query(out, &query),
+        Err(fault) => out.print(format_args!("refused {fault}\n")),
     }
 }
 
-fn print_query(rt: &HostRuntime, query: &Query) -> Result<(), Fault> {
-    print_issns(rt, query.issns())?;
-    print_isbns(rt, query.isbns())?;
-    let days = Maybe(query.days().map(Days));
-    let volume = Maybe(query.volume());
-    Ok(println!(rt; "days {days} volume {volume}")?)
+fn print_query(out: &mut Out<'_>, query: &Query) {
+    print_issns(out, query.issns());
+    print_isbns(out, query.isbns());
+    out.word("days ");
+    out.maybe_days(query.days());
+    out.word(" volume ");
+    out.maybe_number(query.volume());
+    out.line("");
 }
 
-fn print_issns(rt: &HostRuntime, issns: &[Issn]) -> Result<(), Fault> {
+fn print_issns(out: &mut Out<'_>, issns: &[Issn]) {
     for issn in issns {
-        print!(rt; "issn {} ", ShownIssn(*issn))?;
+        out.word("issn ");
+        out.text(&issn.text());
+        out.word(" ");
     }
-    Ok(())
 }
 
-fn print_isbns(rt: &HostRuntime, isbns: &[Isbn]) -> Result<(), Fault> {
+fn print_isbns(out: &mut Out<'_>, isbns: &[Isbn]) {
     for isbn in isbns {
-        print!(rt; "isbn {} ", ShownIsbn(*isbn))?;
+        out.word("isbn ");
+        out.text(&isbn.text());
+        out.word(" ");
     }
-    Ok(())
 }

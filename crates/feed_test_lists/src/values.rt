@@ -1,66 +1,61 @@
 //! The command that prints each value of the enums whose printed texts are part of the interface.
 use crate::fault::Fault;
+use crate::print::Out;
 use feed_answer::{Grade, QueryFault, WriteFault};
 use feed_kbart::{BadFile, KbartFault, Label, Reason};
 use feed_names::NameFault;
-use std::alloc::AllocError;
+use std::alloc::{AllocError, Global};
 use std::fmt::{Debug, Display};
 
-pub fn values(rt: &HostRuntime, name: &str) -> Result<(), Fault> {
+pub fn values(out: &mut Out<'_>, name: &str) -> Result<(), Fault> {
     match name {
-        "NameFault" => name_faults(rt),
-        "Label" => labels(rt),
-        "BadFile" => bad_files(rt),
-        "KbartFault" => kbart_faults(rt),
-        "Reason" => reasons(rt),
-        "QueryFault" => query_faults(rt),
-        "WriteFault" => write_faults(rt),
-        "Grade" => grades(rt),
-        _ => Err(Fault::UnknownEnum),
+        "NameFault" => name_faults(out),
+        "Label" => labels(out),
+        "BadFile" => return bad_files(out),
+        "KbartFault" => return kbart_faults(out),
+        "Reason" => reasons(out),
+        "QueryFault" => query_faults(out),
+        "WriteFault" => write_faults(out),
+        "Grade" => grades(out),
+        _ => return Err(Fault("not an enum")),
     }
+    Ok(())
 }
 
 // Prints the place of a value among those of its enum, its name in the source, and its text.
-fn print_value<T: Debug + Display + Drop>(
-    rt: &HostRuntime,
-    place: u8,
-    value: T,
-) -> Result<(), Fault> {
-    Ok(println!(rt; "{place} {value:?}: {value}")?)
+fn print_value<T: Debug + Display + Drop>(out: &mut Out<'_>, place: u8, value: T) {
+    out.print(format_args!("{place} {value:?}: {value}\n"));
 }
 
-fn name_faults(rt: &HostRuntime) -> Result<(), Fault> {
-    let faults = [
+fn name_faults(out: &mut Out<'_>) {
+    for fault in &[
         NameFault::BadStem,
         NameFault::BadDate,
         NameFault::BadEnding,
         NameFault::Memory,
-    ];
-    for fault in faults {
+    ] {
         // Each match below names every value, so that a new value does not compile before it is in this file.
-        let place = match fault {
+        let place = match *fault {
             NameFault::BadStem => 1,
             NameFault::BadDate => 2,
             NameFault::BadEnding => 3,
             NameFault::Memory => 4,
         };
-        print_value(rt, place, fault)?;
+        print_value(out, place, *fault);
     }
-    Ok(())
 }
 
-fn labels(rt: &HostRuntime) -> Result<(), Fault> {
+fn labels(out: &mut Out<'_>) {
     for place in 0..=u8::MAX {
         if let Some(label) = Label::of_place(place) {
-            print_value(rt, label.place(), label)?;
+            print_value(out, label.place(), label);
         }
     }
-    Ok(())
 }
 
-fn bad_files(rt: &HostRuntime) -> Result<(), Fault> {
-    for bad in all_bad_files(rt)? {
-        print_value(rt, place_of_bad_file(bad), bad)?;
+fn bad_files(out: &mut Out<'_>) -> Result<(), Fault> {
+    for bad in all_bad_files(out.rt.alloc())? {
+        print_value(out, place_of_bad_file(bad), bad);
     }
     Ok(())
 }
@@ -75,8 +70,8 @@ fn place_of_bad_file(bad: BadFile) -> u8 {
     }
 }
 
-fn all_bad_files(rt: &HostRuntime) -> Result<Vec<BadFile>, AllocError> {
-    let mut all = vec![in rt.alloc(); BadFile::NotUtf8, BadFile::TwoMarks, BadFile::NoHeader]?;
+fn all_bad_files(alloc: Global) -> Result<Vec<BadFile>, AllocError> {
+    let mut all = vec![in alloc; BadFile::NotUtf8, BadFile::TwoMarks, BadFile::NoHeader]?;
     for place in 0..=u8::MAX {
         if let Some(label) = Label::of_place(place) {
             all.push(BadFile::MissingLabel(label))?;
@@ -86,58 +81,55 @@ fn all_bad_files(rt: &HostRuntime) -> Result<Vec<BadFile>, AllocError> {
     Ok(all)
 }
 
-fn kbart_faults(rt: &HostRuntime) -> Result<(), Fault> {
-    for bad in all_bad_files(rt)? {
-        print_kbart_fault(rt, KbartFault::Bad(bad))?;
+fn kbart_faults(out: &mut Out<'_>) -> Result<(), Fault> {
+    for bad in all_bad_files(out.rt.alloc())? {
+        print_kbart_fault(out, KbartFault::Bad(bad));
     }
     for fault in [KbartFault::Memory, KbartFault::Read, KbartFault::TooLong] {
-        print_kbart_fault(rt, fault)?;
+        print_kbart_fault(out, fault);
     }
     Ok(())
 }
 
-fn print_kbart_fault(rt: &HostRuntime, fault: KbartFault) -> Result<(), Fault> {
+fn print_kbart_fault(out: &mut Out<'_>, fault: KbartFault) {
     let place = match fault {
         KbartFault::Bad(_) => 1,
         KbartFault::Memory => 2,
         KbartFault::Read => 3,
         KbartFault::TooLong => 4,
     };
-    print_value(rt, place, fault)
+    print_value(out, place, fault);
 }
 
-fn reasons(rt: &HostRuntime) -> Result<(), Fault> {
-    let reasons = [
+fn reasons(out: &mut Out<'_>) {
+    for reason in &[
         Reason::OtherType,
         Reason::NoIssn,
         Reason::NoIsbn,
         Reason::BadDate,
         Reason::Reversed,
-    ];
-    for reason in reasons {
-        let place = match reason {
+    ] {
+        let place = match *reason {
             Reason::OtherType => 1,
             Reason::NoIssn => 2,
             Reason::NoIsbn => 3,
             Reason::BadDate => 4,
             Reason::Reversed => 5,
         };
-        print_value(rt, place, reason)?;
+        print_value(out, place, *reason);
     }
-    Ok(())
 }
 
-fn query_faults(rt: &HostRuntime) -> Result<(), Fault> {
-    let faults = [
+fn query_faults(out: &mut Out<'_>) {
+    for fault in &[
         QueryFault::TooLong,
         QueryFault::Version,
         QueryFault::OtherFormat,
         QueryFault::NoIssn,
         QueryFault::NoIsbn,
         QueryFault::Memory,
-    ];
-    for fault in faults {
-        let place = match fault {
+    ] {
+        let place = match *fault {
             QueryFault::TooLong => 1,
             QueryFault::Version => 2,
             QueryFault::OtherFormat => 3,
@@ -145,26 +137,24 @@ fn query_faults(rt: &HostRuntime) -> Result<(), Fault> {
             QueryFault::NoIsbn => 5,
             QueryFault::Memory => 6,
         };
-        print_value(rt, place, fault)?;
+        print_value(out, place, *fault);
     }
-    Ok(())
 }
 
-fn write_faults(rt: &HostRuntime) -> Result<(), Fault> {
+fn write_faults(out: &mut Out<'_>) {
     let place = match WriteFault::Write {
         WriteFault::Write => 1,
     };
-    print_value(rt, place, WriteFault::Write)
+    print_value(out, place, WriteFault::Write);
 }
 
-fn grades(rt: &HostRuntime) -> Result<(), Fault> {
+fn grades(out: &mut Out<'_>) {
     for grade in [Grade::Untested, Grade::Overlap, Grade::Inside] {
         let place = match grade {
             Grade::Untested => 1,
             Grade::Overlap => 2,
             Grade::Inside => 3,
         };
-        print_value(rt, place, grade)?;
+        print_value(out, place, grade);
     }
-    Ok(())
 }

@@ -7,41 +7,65 @@ pub fn split_word(text: &str) -> (&str, &str) {
     text.split_once(' ').unwrap_or((text, ""))
 }
 
-/// The words that are left of a line.
+/// The words that are left of a line. It remembers the first fault, so that a command checks its words once.
 #[derive(Clone, Copy)]
 pub struct Words<'a> {
     pub rest: &'a str,
+    fault: Option<Fault>,
 }
 
 impl<'a> Words<'a> {
-    pub fn word(&mut self) -> Result<&'a str, Fault> {
+    pub fn new(rest: &'a str) -> Words<'a> {
+        Words { rest, fault: None }
+    }
+
+    /// Returns the first fault of the words.
+    pub fn check(&self) -> Result<(), Fault> {
+        match self.fault {
+            Some(fault) => Err(fault),
+            None => Ok(()),
+        }
+    }
+
+    fn reject(&mut self, why: &'static str) {
+        if self.fault.is_none() {
+            self.fault = Some(Fault(why));
+        }
+    }
+
+    /// Returns the next word, or an empty text if it is missing.
+    pub fn word(&mut self) -> &'a str {
         let (word, rest) = split_word(self.rest);
         if word.is_empty() {
-            return Err(Fault::Missing);
+            self.reject("a word is missing");
+        } else {
+            self.rest = rest;
         }
-        self.rest = rest;
-        Ok(word)
+        word
     }
 
-    pub fn number(&mut self) -> Result<usize, Fault> {
-        parse_number(self.word()?)
+    /// Returns the next word as a number, or 0 if it is not one.
+    pub fn number(&mut self) -> usize {
+        let word = self.word();
+        self.parse(word)
     }
 
-    /// A number of calls. With a `+` at its end the reader fails once.
-    pub fn calls(&mut self) -> Result<Calls, Fault> {
-        let word = self.word()?;
+    /// Returns a number of calls. With a `+` at its end the reader fails once.
+    pub fn calls(&mut self) -> Calls {
+        let word = self.word();
         let (digits, fails_once) = match word.strip_suffix('+') {
             Some(digits) => (digits, true),
             None => (word, false),
         };
-        let count = parse_number(digits)?;
-        Ok(Calls { count, fails_once })
+        let count = self.parse(digits);
+        Calls { count, fails_once }
     }
-}
 
-fn parse_number(word: &str) -> Result<usize, Fault> {
-    match word.parse::<usize>() {
-        Ok(number) => Ok(number),
-        Err(_) => Err(Fault::NotNumber),
+    fn parse(&mut self, word: &str) -> usize {
+        if let Ok(number) = word.parse::<usize>() {
+            return number;
+        }
+        self.reject("not a number");
+        0
     }
 }
