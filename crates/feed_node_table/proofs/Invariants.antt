@@ -8,7 +8,7 @@ use Rattle.slab.proofs.SlabLemmas.{Updates-with_value}
 use Rattle.feed_node_table.specs.declared.peer.Peer.{Peer}
 use Rattle.feed_node_connection.specs.Replies.{Replies}
 use Rattle.feed_node_table.specs.Connections.{AreWithin, in_room, short_len, unsent_bytes}
-use Rattle.feed_node_table.specs.Lists.{IsListed}
+use Rattle.feed_node_table.specs.Lists.{HasKey}
 use Rattle.feed_node_table.specs.Peers.{over_in, unsent_in}
 use Rattle.feed_node_table.specs.Tables.{unsent_limit}
 use Rattle.feed_node_table.proofs.Slots.{sum_of_slot, sum_of_write, sum_of_insert, sum_less, sum_near}
@@ -163,15 +163,15 @@ module _ {T : Type 0} where
   held_within slots longest within = omega (arith, within, sum_near unsent_in over_in short_len refl over_near slots)
 
   pub known_after_removal : (old new : Slab (Peer T)) (key : ℕ) (keys left : List ℕ) → Updates old new key None
-      → ((other : ℕ) → IsListed keys other → ContainsKey old other) → ¬ (IsListed left key) → ((other : ℕ) → IsListed left other → IsListed keys other)
-      → (other : ℕ) → IsListed left other → ContainsKey new other
+      → ((other : ℕ) → HasKey keys other → ContainsKey old other) → ¬ (HasKey left key) → ((other : ℕ) → HasKey left other → HasKey keys other)
+      → (other : ℕ) → HasKey left other → ContainsKey new other
   known_after_removal old new key keys left updates known gone listed other is =
-      let differs : other ≢ key = λ same. gone (subst (λ k. IsListed left k) same is) in
+      let differs : other ≢ key = λ same. gone (subst (λ k. HasKey left k) same is) in
       subst (λ slot. IsSome slot) (sym (updates.others other differs)) (known other (listed other is))
 
   pub known_after_update : (old new : Slab (Peer T)) (key : ℕ) (peer : Peer T) (keys left : List ℕ) → Updates old new key (Some peer)
-      → ((other : ℕ) → IsListed keys other → ContainsKey old other) → ((other : ℕ) → IsListed left other → IsListed keys other)
-      → (other : ℕ) → IsListed left other → ContainsKey new other
+      → ((other : ℕ) → HasKey keys other → ContainsKey old other) → ((other : ℕ) → HasKey left other → HasKey keys other)
+      → (other : ℕ) → HasKey left other → ContainsKey new other
   known_after_update old new key peer keys left updates known listed other is = elim (cases_eq other key) [
     | inl same ↦ subst (λ slot. IsSome slot) (sym (ap (get new) same ∙ updates.changed)) refl
     | inr differs ↦ subst (λ slot. IsSome slot) (sym (updates.others other differs)) (known other (listed other is))
@@ -179,7 +179,7 @@ module _ {T : Type 0} where
 
   -- a connection changed, and others are no longer ready
   pub known_after_write : (slab : Slab (Peer T)) (key : ℕ) (old new : Peer T) (keys left : List ℕ) → get slab key ≡ Some old
-      → ((other : ℕ) → IsListed keys other → ContainsKey slab other) → ((other : ℕ) → IsListed left other → IsListed keys other)
-      → (other : ℕ) → IsListed left other → ContainsKey (with_value slab key new) other
+      → ((other : ℕ) → HasKey keys other → ContainsKey slab other) → ((other : ℕ) → HasKey left other → HasKey keys other)
+      → (other : ℕ) → HasKey left other → ContainsKey (with_value slab key new) other
   known_after_write slab key old new keys left there known listed =
       known_after_update slab (with_value slab key new) key new keys left (Updates-with_value slab key new (subst (λ slot. IsSome slot) (sym there) refl)) known listed

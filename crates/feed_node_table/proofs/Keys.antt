@@ -3,11 +3,11 @@ use Rattle.std.proofs.Common.{◌≡◌, ◌≢◌, ◌<◌, ◌⊎◌, ℕ, Lis
 use Rattle.std.specs.Prelude.{slice_index, IfSome}
 use Rattle.std.proofs.lemmas.Bool.{cases_lt}
 use Rattle.std.proofs.lemmas.List.{get_or_append_left, get_or_push, get_or-set_same, get_or-set_other, length_push, length-set}
-use Rattle.feed_node_table.specs.Lists.{IsListed, IsPlaced, KeepsBefore}
+use Rattle.feed_node_table.specs.Lists.{HasKey, IsPlaced, KeepsBefore}
 
 -- a key whose place was found is listed
 pub listed_if : (keys : List ℕ) (key many : ℕ) (place : Option ℕ) → many ≡ length keys → is_some place ≡ true
-    → IfSome place (λ k. (k < many) × (slice_index keys k ≡ key)) → IsListed keys key
+    → IfSome place (λ k. (k < many) × (slice_index keys k ≡ key)) → HasKey keys key
 listed_if keys key many None long is found = absurd (cc)
 listed_if keys key many (Some place) long is found = (place, omega (arith, long, found.0), found.1)
 
@@ -28,13 +28,13 @@ module _ (keys : List ℕ) (key : ℕ) where
     | inr more ↦ inr (omega (arith, below, more, length_push keys key))
   ]
 
-  pub listed_added : IsListed (keys ++ key ∷ []) key
+  pub listed_added : HasKey (keys ++ key ∷ []) key
   listed_added = (length keys, omega (arith, length_push keys key), last)
 
-  pub listed_still : (other : ℕ) → IsListed keys other → IsListed (keys ++ key ∷ []) other
+  pub listed_still : (other : ℕ) → HasKey keys other → HasKey (keys ++ key ∷ []) other
   listed_still other is = (is.0, omega (arith, is.1, length_push keys key), front is.0 is.1 ∙ is.2)
 
-  pub listed_before : (other : ℕ) → IsListed (keys ++ key ∷ []) other → other ≢ key → IsListed keys other
+  pub listed_before : (other : ℕ) → HasKey (keys ++ key ∷ []) other → other ≢ key → HasKey keys other
   listed_before other is differs = elim (split is.0 is.1) [
     | inl below ↦ (is.0, below, sym (front is.0 below) ∙ is.2)
     | inr end ↦ absurd (differs (sym is.2 ∙ ap (slice_index (keys ++ key ∷ [])) end ∙ last))
@@ -44,7 +44,7 @@ module _ (keys : List ℕ) (key : ℕ) where
   kept_before limit within apart place below = (omega (arith, within, below, length_push keys key), front place (omega (arith, within, below)))
 
   -- the key has its place
-  pub placed_after_push : (places : List ℕ) (place : ℕ) → place ≡ length keys → IsPlaced keys places → key < length places → ¬ (IsListed keys key)
+  pub placed_after_push : (places : List ℕ) (place : ℕ) → place ≡ length keys → IsPlaced keys places → key < length places → ¬ (HasKey keys key)
       → IsPlaced (keys ++ key ∷ []) (set places key place)
   placed_after_push places place is placed room absent at below = elim (split at below) [
     | inl less ↦

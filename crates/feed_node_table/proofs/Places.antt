@@ -2,7 +2,7 @@
 use Rattle.std.proofs.Common.{◌≡◌, ◌≢◌, ◌+◌, ◌<◌, ◌≤◌, ◌⊎◌, ℕ, zero, suc, Bool, true, false, List, length, cond, eqb, ltb, eqb-true, lt-ltb, le-ltb, refl, sym, ap, subst, ◌∙◌, arith, inl, inr}
 use Rattle.std.specs.Prelude.{slice_index}
 use Rattle.std.proofs.lemmas.Bool.{cases_lt, eqb-false}
-use Rattle.feed_node_table.specs.Lists.{IsListed, IsPlaced}
+use Rattle.feed_node_table.specs.Lists.{HasKey, IsPlaced}
 
 -- the numbers of a function without this one: the last number is in its place
 abbrev avoiding : (ℕ → ℕ) → ℕ → ℕ → ℕ → ℕ
@@ -50,7 +50,7 @@ at_listed keys key place below = ap (λ b. cond b (slice_index keys place) key) 
 at_last : (keys : List ℕ) (key place : ℕ) → length keys ≤ place → key_at keys key place ≡ key
 at_last keys key place past = ap (λ b. cond b (slice_index keys place) key) (le-ltb place (length keys) past)
 
-pub room_for : (keys places : List ℕ) (key : ℕ) → IsPlaced keys places → key < length places → ¬ (IsListed keys key) → length keys < length places
+pub room_for : (keys places : List ℕ) (key : ℕ) → IsPlaced keys places → key < length places → ¬ (HasKey keys key) → length keys < length places
 room_for keys places key placed below absent = omega (arith, pigeonhole (length keys + 1) (length places) (key_at keys key) into apart)
   where
     into : (place : ℕ) → place < length keys + 1 → key_at keys key place < length places

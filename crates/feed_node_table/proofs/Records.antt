@@ -5,7 +5,7 @@ use Rattle.feed_node_table.specs.declared.table.Table.{Table}
 use Rattle.feed_node_table.specs.Logs.{Entry, Accepted, Replied, Closed, AreFor, AreRecorded, HasRecorded, cause_in, closings}
 use Rattle.feed_node_table.specs.declared.peer.Peer.{Peer}
 use Rattle.feed_node_table.specs.Peers.{cause_of, micros_of}
-use Rattle.feed_node_table.specs.Lists.{IsListed, KeepsBefore}
+use Rattle.feed_node_table.specs.Lists.{HasKey, KeepsBefore}
 use Rattle.feed_node_table.specs.Tables.{peer_at, size_of, over_bytes, ready_keys, KeepsReady, IsRemoved, HasClosed}
 use Rattle.feed_node_table.proofs.Firsts.{same_peer}
 
@@ -28,16 +28,16 @@ module _ {T : Type 0} where
   -- the ready list is as it was
   pub ready_same : (key : ℕ) (old new : Table T) → ready_keys new ≡ ready_keys old → KeepsReady key old new
   ready_same key old new same = record {
-    kept = λ other differs is. subst (λ keys. IsListed keys other) (sym same) is;
-    none_added = λ other differs is. subst (λ keys. IsListed keys other) same is;
+    kept = λ other differs is. subst (λ keys. HasKey keys other) (sym same) is;
+    none_added = λ other differs is. subst (λ keys. HasKey keys other) same is;
     before = subst (λ keys. KeepsBefore key (ready_keys old) keys) (sym same) (same_before key (ready_keys old));
   }
 
   -- it changed after a step that left it
   pub ready_after : (key : ℕ) (old middle new : Table T) → ready_keys middle ≡ ready_keys old → KeepsReady key middle new → KeepsReady key old new
   ready_after key old middle new same rest = record {
-    kept = λ other differs is. rest.kept other differs (subst (λ keys. IsListed keys other) (sym same) is);
-    none_added = λ other differs is. subst (λ keys. IsListed keys other) same (rest.none_added other differs is);
+    kept = λ other differs is. rest.kept other differs (subst (λ keys. HasKey keys other) (sym same) is);
+    none_added = λ other differs is. subst (λ keys. HasKey keys other) same (rest.none_added other differs is);
     before = subst (λ keys. KeepsBefore key keys (ready_keys new)) same rest.before;
   }
 

@@ -2,8 +2,8 @@
 use Rattle.std.specs.Prelude.{◌≡◌, ◌≢◌, ◌<◌, ◌≤◌, ℕ, List, length, slice_index}
 
 -- the key is in the list
-abbrev pub IsListed : List ℕ → ℕ → Type 0
-IsListed keys key = (place : ℕ) × (place < length keys) × (slice_index keys place ≡ key)
+abbrev pub HasKey : List ℕ → ℕ → Type 0
+HasKey keys key = (place : ℕ) × (place < length keys) × (slice_index keys place ≡ key)
 
 -- each key in the list has its place in the table of places, so that it is listed once
 abbrev pub IsPlaced : List ℕ → List ℕ → Type 0

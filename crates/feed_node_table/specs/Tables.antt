@@ -13,7 +13,7 @@ use Rattle.feed_node_table.specs.declared.peer.Outcome.TheVariants.{Waits, Ready
 use Rattle.feed_node_table.specs.declared.peer.Peer.{Peer}
 use Rattle.feed_node_table.specs.declared.table.Table.{Table}
 use Rattle.feed_node_table.specs.Connections.{HasServed}
-use Rattle.feed_node_table.specs.Lists.{IsListed, KeepsBefore}
+use Rattle.feed_node_table.specs.Lists.{HasKey, KeepsBefore}
 use Rattle.feed_node_table.specs.Logs.{Entry, Closed, HasRecorded}
 use Rattle.feed_node_table.specs.Peers.{micros_of, over_in, unsent_in, HasElapsed, IsFollowed, IsLate}
 
@@ -59,7 +59,7 @@ module _ {T : Type 0} where
   ready_keys table = table.ready.keys.items
 
   abbrev pub IsReady : Table T → ℕ → Type 0
-  IsReady table key = IsListed (ready_keys table) key
+  IsReady table key = HasKey (ready_keys table) key
 
   -- the other keys have what they had
   abbrev pub KeepsOthers : ℕ → Table T → Table T → Type 0

@@ -2,7 +2,7 @@
 ghost use Rattle.std.specs.Prelude.{◌≡◌, ◌≢◌, ◌<◌, ◌≤◌, ℕ, []};
 ghost use Rattle.std.specs.Prelude.{slice_index, vec_len, vec_capacity};
 ghost use Rattle.std.specs.Prelude.{IfOk, IfSome, IfNone};
-ghost use Rattle.feed_node_table.specs.Lists.{IsListed, IsPlaced, KeepsBefore};
+ghost use Rattle.feed_node_table.specs.Lists.{HasKey, IsPlaced, KeepsBefore};
 
 use std::alloc::{AllocError, Global};
 
@@ -48,7 +48,7 @@ impl KeySet {
     fn place_of(&self, key: usize) -> Option<usize>
         ensures found { IfSome result (λ place. (place < vec_len self.now.keys)
             × (slice_index self.now.keys.items place ≡ key)) }
-        ensures absent { IfNone result (¬ (IsListed self.now.keys.items key)) }
+        ensures absent { IfNone result (¬ (HasKey self.now.keys.items key)) }
     {
         let place = *self.places.get(key)?;
         let found = *self.keys.get(place)?;
@@ -58,11 +58,11 @@ impl KeySet {
     /// Adds a key at the end of the list, unless the set has it.
     pub(crate) fn insert(&mut self, key: usize)
         requires { key < vec_len self.old.places }
-        ensures added { IsListed self.new.keys.items key }
-        ensures listed { (other : ℕ) → IsListed self.new.keys.items other
-            → other ≢ key → IsListed self.old.keys.items other }
+        ensures added { HasKey self.new.keys.items key }
+        ensures listed { (other : ℕ) → HasKey self.new.keys.items other
+            → other ≢ key → HasKey self.old.keys.items other }
         ensures before { KeepsBefore key self.old.keys.items self.new.keys.items }
-        ensures kept { (other : ℕ) → IsListed self.old.keys.items other → IsListed self.new.keys.items other }
+        ensures kept { (other : ℕ) → HasKey self.old.keys.items other → HasKey self.new.keys.items other }
         ensures places { vec_len self.new.places ≡ vec_len self.old.places }
     {
         if self.place_of(key).is_some() {
@@ -75,10 +75,10 @@ impl KeySet {
 
     /// Removes a key, if the set has it. The last key takes its place.
     pub(crate) fn remove(&mut self, key: usize)
-        ensures gone { ¬ (IsListed self.new.keys.items key) }
-        ensures listed { (other : ℕ) → IsListed self.new.keys.items other → IsListed self.old.keys.items other }
-        ensures others { (other : ℕ) → IsListed self.old.keys.items other
-            → other ≢ key → IsListed self.new.keys.items other }
+        ensures gone { ¬ (HasKey self.new.keys.items key) }
+        ensures listed { (other : ℕ) → HasKey self.new.keys.items other → HasKey self.old.keys.items other }
+        ensures others { (other : ℕ) → HasKey self.old.keys.items other
+            → other ≢ key → HasKey self.new.keys.items other }
         ensures before { KeepsBefore key self.old.keys.items self.new.keys.items }
         ensures places { vec_len self.new.places ≡ vec_len self.old.places }
     {

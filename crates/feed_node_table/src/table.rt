@@ -4,7 +4,7 @@ ghost use Rattle.std.specs.Prelude.{true, false, length, nat_le};
 ghost use Rattle.std.specs.Prelude.{sum_by, vec_len};
 ghost use Rattle.std.specs.Prelude.{slice_index, Some, None, IfOk, IfSome, IfNone, IsSome, IsSomeAnd};
 ghost use Rattle.slab.specs.Slab.{ContainsKey, slab_len};
-ghost use Rattle.feed_node_table.specs.Lists.{IsListed};
+ghost use Rattle.feed_node_table.specs.Lists.{HasKey};
 ghost use Rattle.feed_node_table.specs.Peers.{unsent_in};
 
 use crate::key_set::KeySet;
@@ -30,7 +30,7 @@ pub struct Table<T> {
     ghost few: { slab_len peers ≤ clients },
     ghost reserved: { clients ≤ peers.capacity },
     ghost covered: { peers.capacity ≤ vec_len ready.places },
-    ghost known: { (key : ℕ) → IsListed ready.keys.items key → ContainsKey peers key },
+    ghost known: { (key : ℕ) → HasKey ready.keys.items key → ContainsKey peers key },
     ghost counted: { unsent ≡ sum_by unsent_in peers.slots },
 }
 

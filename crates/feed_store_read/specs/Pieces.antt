@@ -19,8 +19,8 @@ abbrev pub if_named : List ℕ → (Record → Record) → Record → Record
 if_named text f r = if pointwise ◌==◌ text (text_of r.name) then f r else r
 
 -- a row is taken with those before it, or it is improper, or no record has its name
-abbrev pub Takes : (List Row → List ℤ → Content → Content → Type 0) → (Row → Type 0) → Row → List ℤ → List ℤ → List code.Record → List code.Record → Bool → Type 0
-Takes Show IsProper row ids more old new taken =
+abbrev pub IsTakenIfProper : (List Row → List ℤ → Content → Content → Type 0) → (Row → Type 0) → Row → List ℤ → List ℤ → List code.Record → List code.Record → Bool → Type 0
+IsTakenIfProper Show IsProper row ids more old new taken =
     MatchBool taken ((rows : List Row) (start : Content) → Show rows ids start (shown old) → Show (rows ++ row ∷ []) more start (shown new))
     (IsProper row → All (λ r. text_of r.name ≢ text_in row) old)
 

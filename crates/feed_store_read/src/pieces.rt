@@ -7,7 +7,7 @@ ghost use Rattle.feed_keep.specs.Shown.{shown};
 ghost use Rattle.feed_store_model.specs.Live.{IsLive};
 ghost use Rattle.feed_store_model.specs.Tables.{HoldsReleases, IsTabled, IsPieceRow};
 ghost use Rattle.feed_store_checks.specs.Order.{AreNamesAscending};
-ghost use Rattle.feed_store_read.specs.Pieces.{ArePieces, ShowPieces, Takes};
+ghost use Rattle.feed_store_read.specs.Pieces.{ArePieces, ShowPieces, IsTakenIfProper};
 ghost use Rattle.feed_store_read.specs.Releases.{AreReleases, WritesNothing};
 
 use crate::piece_row::piece_in_row;
@@ -60,7 +60,7 @@ fn take_piece(
 ) -> Result<bool, Error>
     requires up { AreNamesAscending (names (shown records.old.items)) }
     ensures names { names (shown records.new.items) ≡ names (shown records.old.items) }
-    ensures taken { IfOk result (Takes ShowPieces IsPieceRow row.now ids.old.items ids.new.items
+    ensures taken { IfOk result (IsTakenIfProper ShowPieces IsPieceRow row.now ids.old.items ids.new.items
         records.old.items records.new.items) }
 {
     let Some(piece) = piece_in_row(row) else {

@@ -8,7 +8,7 @@ ghost use Rattle.feed_keep.specs.Shown.{shown};
 ghost use Rattle.feed_store_model.specs.Live.{IsLive};
 ghost use Rattle.feed_store_model.specs.Tables.{HoldsRecords, IsLayout2, IsReasonRow, content_without_reasons};
 ghost use Rattle.feed_store_checks.specs.Order.{AreNamesAscending};
-ghost use Rattle.feed_store_read.specs.Pieces.{Takes};
+ghost use Rattle.feed_store_read.specs.Pieces.{IsTakenIfProper};
 ghost use Rattle.feed_store_read.specs.Reasons.{AreReasonsOf, ShowReasons, with_first_reason};
 ghost use Rattle.feed_store_read.specs.Releases.{WritesNothing};
 
@@ -58,7 +58,7 @@ fn take_reason(ids: &mut Vec<i64>, records: &mut Vec<Record>, row: &Row) -> Resu
     requires up { AreNamesAscending (names (shown records.old.items)) }
     ensures names { names (shown records.new.items) ≡ names (shown records.old.items) }
     ensures parts { map (λ r. r.parts) (shown records.new.items) ≡ map (λ r. r.parts) (shown records.old.items) }
-    ensures taken { IfOk result (Takes ShowReasons IsReasonRow row.now ids.old.items ids.new.items
+    ensures taken { IfOk result (IsTakenIfProper ShowReasons IsReasonRow row.now ids.old.items ids.new.items
         records.old.items records.new.items) }
 {
     let Some(reason) = reason_in_row(row) else {
