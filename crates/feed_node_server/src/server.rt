@@ -210,7 +210,7 @@ impl Server {
         }
         self.serve_ready(rt, node, log)?;
         let has_more_work = self.accept_waiting(rt, node, log)?;
-        self.end_turn(node, has_more_work, log);
+        self.end_turn(has_more_work, node, log);
         Ok(())
     }
 
@@ -225,8 +225,8 @@ impl Server {
     // Advances all but the connections: the request to another server, the streamed replies, and the clocks.
     fn end_turn<K: Keep + Drop, S: FeedRespond + Drop, L: Log>(
         &mut self,
-        node: &mut ServedNode<'_, K, S>,
         has_more_work: bool,
+        node: &mut ServedNode<'_, K, S>,
         log: &mut L,
     )
         ensures { IsLater S.wanted S.replies node.old node.new }
@@ -269,7 +269,6 @@ impl Server {
     }
 
     // Gives a connection one share of the turn. Returns whether it is still open.
-    #[tactic(auto, using(feed_node_machine::proofs::Later::later_after))]
     fn serve<K: Keep + Drop, S: FeedRespond + Drop, L: Log>(
         &mut self,
         rt: &impl Clock,
@@ -288,7 +287,6 @@ impl Server {
 
     // Has a connection use its share until a reply was sent. The step begins at the last reading of the clock, so that
     // one reading for each step is enough.
-    #[tactic(auto, using(feed_node_machine::proofs::Later::later_after))]
     fn advance<K: Keep + Drop, S: FeedRespond + Drop, L: Log>(
         &mut self,
         key: usize,
