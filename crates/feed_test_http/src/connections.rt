@@ -6,12 +6,13 @@ use crate::ends::{ShortReader, ShortWriter};
 use crate::fault::{Fault, NO_COMMAND};
 use crate::line::Line;
 use crate::node::Node;
-use crate::print::Out;
+use crate::print::print_escaped;
 use feed_http_heads::Request;
 use feed_node_connection::{
     BODY_LIMIT, Connection, IncomingRequest, Reading, Reply, Respond, RespondFault, TURN_SHARE,
     TimeLimits, Wants, Writing, advance,
 };
+use feed_test_output::Out;
 use std::alloc::{AllocError, Global};
 
 // The head of a reply on a connection that persists.
@@ -103,7 +104,7 @@ impl Node<'_> {
 
     fn print_connection(&self, out: &mut Out<'_>) {
         print_wants(out, self.connection.wants());
-        out.number(" ", self.connection.pending_reply().len() as u64);
+        out.labelled(" ", self.connection.pending_reply().len() as u64);
         out.line("");
     }
 
@@ -202,7 +203,7 @@ fn print_turns(out: &mut Out<'_>, alloc: Global, echo: &Echo, reader: ShortReade
         " false "
     };
     out.word(lingers);
-    out.escaped(&sent);
+    print_escaped(out, &sent);
 }
 
 // Moves a connection on 200 times, and returns what it wrote.

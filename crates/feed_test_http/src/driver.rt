@@ -3,8 +3,8 @@ use crate::fault::{Fault, NO_MEMORY};
 use crate::faults::print_faults;
 use crate::line::Line;
 use crate::node::Node;
-use crate::print::Out;
 use feed_http::NamedFile;
+use feed_test_output::Out;
 
 /// The faults of the streams and of the shelf in the next exchange.
 #[derive(Clone, Copy)]
@@ -96,10 +96,10 @@ impl<'a> Driver<'a> {
 
     fn print_counts(&self, out: &mut Out<'_>) -> Result<(), Fault> {
         let counts = self.counts;
-        out.number("reads ", counts.reads as u64);
-        out.number(" writes ", counts.writes as u64);
-        out.number(" longest ", counts.longest as u64);
-        out.number(" failures ", counts.failures);
+        out.labelled("reads ", counts.reads as u64);
+        out.labelled(" writes ", counts.writes as u64);
+        out.labelled(" longest ", counts.longest as u64);
+        out.labelled(" failures ", counts.failures);
         out.line("");
         Ok(())
     }

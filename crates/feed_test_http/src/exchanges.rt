@@ -3,13 +3,14 @@ use crate::driver::{Counts, Driver, Plan};
 use crate::ends::{ShortReader, Sink};
 use crate::fault::{Fault, NO_HOST};
 use crate::line::Line;
-use crate::print::Out;
+use crate::print::print_escaped;
 use crate::shelf::CountingShelf;
 use feed_http::{
     Bytes, Got, HttpFault, MemoryShelf, Method, ReplyScan, Shelf, is_host, read_reply, serve_one,
     write_head_request, write_request,
 };
 use feed_names::ReleaseName;
+use feed_test_output::Out;
 
 impl Driver<'_> {
     /// Runs a command on an exchange.
@@ -27,7 +28,7 @@ impl Driver<'_> {
             "reply-end" => self.reply_end(out, line),
             "request" => self.request(out, line),
             "serve" => self.serve(out, line),
-            _ => self.take_value(out, command, line),
+            _ => self.value(out, command, line),
         }
     }
 
@@ -81,7 +82,7 @@ impl Driver<'_> {
             print_fault(out, fault);
             out.word(" ");
         }
-        out.escaped(&sink.bytes);
+        print_escaped(out, &sink.bytes);
     }
 
     fn reply(&mut self, out: &mut Out<'_>, mut line: Line<'_>) -> Result<(), Fault> {
@@ -105,7 +106,7 @@ impl Driver<'_> {
         let method = line.method();
         let text = line.text(self.rt.alloc())?;
         match end_of(method, &text, self.step) {
-            Some(end) => out.number("complete ", end as u64),
+            Some(end) => out.labelled("complete ", end as u64),
             None => out.word("unfinished"),
         }
         out.line("");
@@ -156,11 +157,11 @@ fn end_of(method: Method, text: &[u8], step: usize) -> Option<usize> {
 
 fn print_outcome(out: &mut Out<'_>, outcome: Result<u16, HttpFault>, reply: &[u8]) {
     match outcome {
-        Ok(status) => out.number("", u64::from(status)),
+        Ok(status) => out.labelled("", u64::from(status)),
         Err(fault) => print_fault(out, fault),
     }
     out.word(" ");
-    out.escaped(reply);
+    print_escaped(out, reply);
 }
 
 fn print_fault(out: &mut Out<'_>, fault: HttpFault) {
@@ -186,7 +187,7 @@ fn print_got(out: &mut Out<'_>, got: Got) {
         } => print_piece(out, first, total, bytes.as_slice()),
         Got::Whole { bytes } => print_whole(out, &Bytes::new(bytes.into_vec())),
         Got::Size(size) => {
-            out.number("size ", size);
+            out.labelled("size ", size);
             out.line("");
         }
         Got::Missing => out.line("missing"),
@@ -199,14 +200,14 @@ fn print_got(out: &mut Out<'_>, got: Got) {
 }
 
 fn print_piece(out: &mut Out<'_>, first: u64, total: Option<u64>, bytes: &[u8]) {
-    out.number("piece ", first);
+    out.labelled("piece ", first);
     out.word(" ");
     out.option(total);
     out.word(" ");
-    out.escaped(bytes);
+    print_escaped(out, bytes);
 }
 
 fn print_whole(out: &mut Out<'_>, bytes: &Bytes) {
     out.word("whole ");
-    out.escaped(bytes.as_slice());
+    print_escaped(out, bytes.as_slice());
 }

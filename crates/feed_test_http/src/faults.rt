@@ -1,9 +1,9 @@
 //! Prints the faults of the crates of HTTP, each value with its text.
 use crate::fault::Fault;
-use crate::print::Out;
 use feed_dial::DialFault;
 use feed_http::{HttpFault, ShelfFault};
 use feed_range::{RangeFault, WriteFault};
+use feed_test_output::Out;
 use std::fmt::{Debug, Display};
 
 // More values than any of the types has.

@@ -80,7 +80,8 @@ mod shelf;
 
 use driver::Driver;
 use fault::{Fault, NO_STEP};
-use print::Out;
+use feed_test_output::Out;
+use print::finish;
 use std::env;
 use std::io::Read;
 use std::process::ExitCode;
@@ -129,7 +130,7 @@ fn run_lines(
 fn run_line(rt: &HostRuntime, driver: &mut Driver<'_>, line: &str) -> Result<(), Fault> {
     let mut out = Out::new(rt);
     driver.take(&mut out, line)?;
-    out.finish()
+    finish(&out)
 }
 
 fn step_of(rt: &HostRuntime) -> Result<usize, Fault> {

@@ -1,7 +1,7 @@
 //! A node: its feed, what it replies to a request, and a connection to it.
 use crate::fault::{Fault, NO_MEMORY};
 use crate::line::Line;
-use crate::print::Out;
+use crate::print::print_escaped;
 use feed_dates::read_date;
 use feed_embargo::Today;
 use feed_http_heads::{FIELD_LIMIT, HeadEnd, head_end};
@@ -14,6 +14,7 @@ use feed_resolver::{keep_releases, respond, respond_as_node};
 use feed_resolver_request::{FetchPolicy, fetch_request, find_request, form_length};
 use feed_resolver_tag::Site;
 use feed_site::SiteFault;
+use feed_test_output::Out;
 use httparse::spans::EMPTY_HEADER_SPAN;
 use std::alloc::Global;
 
@@ -104,7 +105,7 @@ impl<'a> Node<'a> {
         let keeps = line.flag("keep", "close");
         let body = line.word().as_bytes();
         let request = line.text(self.rt.alloc())?;
-        out.number("length ", form_length_of(&request));
+        out.labelled("length ", form_length_of(&request));
         out.line("");
         self.print_reply(out, &request, body, keeps)
     }
@@ -125,7 +126,7 @@ impl<'a> Node<'a> {
             &self.today,
             &self.feed,
         )?;
-        out.escaped(reply.bytes());
+        print_escaped(out, reply.bytes());
         Ok(())
     }
 
@@ -154,7 +155,7 @@ impl<'a> Node<'a> {
             &self.today,
             &self.feed,
         )?;
-        out.escaped(reply.bytes());
+        print_escaped(out, reply.bytes());
         Ok(())
     }
 
@@ -162,7 +163,7 @@ impl<'a> Node<'a> {
         let token = line.word().as_bytes();
         let request = line.text(self.rt.alloc())?;
         match fetch_request(self.rt.alloc(), &request, token) {
-            Some(Ok(name)) => out.escaped(name.text()),
+            Some(Ok(name)) => print_escaped(out, name.text()),
             Some(Err(_)) => out.line("no name"),
             None => out.line("none"),
         }

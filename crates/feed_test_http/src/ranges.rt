@@ -2,22 +2,18 @@
 use crate::driver::Driver;
 use crate::fault::{Fault, NO_ROOM};
 use crate::line::Line;
-use crate::print::Out;
+use crate::print::print_escaped;
 use feed_http::{fetch_gives_slice, head_gives_size, part_reads_back, size_reads_back};
 use feed_range::{
     ContentRange, RangeAsk, RangeFault, WriteFault, ask_reads_back, asks_by_form,
     content_range_reads_back, read_number, write_ask, write_content_range,
 };
+use feed_test_output::Out;
 
 const ROOM: usize = 4_096;
 
 impl Driver<'_> {
-    pub fn take_value(
-        &mut self,
-        out: &mut Out<'_>,
-        command: &str,
-        line: Line<'_>,
-    ) -> Result<(), Fault> {
+    pub fn value(&mut self, out: &mut Out<'_>, command: &str, line: Line<'_>) -> Result<(), Fault> {
         match command {
             "range" => self.range(out, line),
             "content-range" => self.content_range(out, line),
@@ -103,8 +99,8 @@ fn print_ask(out: &mut Out<'_>, ask: RangeAsk) {
 }
 
 fn print_part(out: &mut Out<'_>, first: u64, last: u64) {
-    out.number("part ", first);
-    out.number(" ", last);
+    out.labelled("part ", first);
+    out.labelled(" ", last);
 }
 
 fn print_range(out: &mut Out<'_>, range: ContentRange) {
@@ -114,20 +110,20 @@ fn print_range(out: &mut Out<'_>, range: ContentRange) {
             out.word(" ");
             out.option(total);
         }
-        ContentRange::Unsatisfied { total } => out.number("unsatisfied ", total),
+        ContentRange::Unsatisfied { total } => out.labelled("unsatisfied ", total),
     }
     out.line("");
 }
 
 fn print_fault(out: &mut Out<'_>, fault: RangeFault) {
     out.print(fault);
-    out.number(" ", u64::from(fault as u8));
+    out.labelled(" ", u64::from(fault as u8));
     out.line("");
 }
 
 fn print_value(out: &mut Out<'_>, written: Result<(), WriteFault>, value: &[u8]) {
     match written {
-        Ok(()) => out.escaped(value),
+        Ok(()) => print_escaped(out, value),
         Err(fault) => out.print(format_args!("{fault}\n")),
     }
 }

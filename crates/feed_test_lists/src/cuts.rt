@@ -1,6 +1,6 @@
 //! Checks whether a text that arrives in pieces is UTF-8, for each way to cut it.
 use crate::fault::{Fault, file_of};
-use crate::print::Out;
+use feed_test_output::Out;
 use feed_text::Utf8Check;
 
 // How many cuts there are, and how many of them are accepted.

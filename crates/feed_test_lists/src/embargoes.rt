@@ -1,9 +1,9 @@
 //! The command that evaluates an embargo on a day.
 use crate::fault::Fault;
-use crate::print::Out;
 use crate::words::Words;
 use feed_dates::{DayRange, read_date, write_date};
 use feed_embargo::{Availability, Embargo, OpenDays, Today, availability_of};
+use feed_test_output::Out;
 
 pub fn embargo(out: &mut Out<'_>, mut words: Words<'_>) -> Result<(), Fault> {
     let today = today_of(words.word());

@@ -1,6 +1,6 @@
 //! The commands that read a holdings list from a file.
 use crate::fault::{Fault, file_of};
-use crate::print::Out;
+use crate::print::{print_isbn, print_issn};
 use crate::slow::{Calls, Full, Slow};
 use crate::texts::name_of;
 use crate::words::Words;
@@ -11,6 +11,7 @@ use feed_kbart::{
 };
 use feed_list_check::read_windows;
 use feed_names::ReleaseName;
+use feed_test_output::Out;
 use std::alloc::Global;
 
 pub fn read(out: &mut Out<'_>, mut words: Words<'_>) -> Result<(), Fault> {
@@ -130,13 +131,13 @@ fn print_row(out: &mut Out<'_>, row: &Row) {
 }
 
 fn print_identifiers(out: &mut Out<'_>, row: &Row) {
-    out.maybe_issn(row.print());
+    print_issn(out, row.print());
     out.word(" ");
-    out.maybe_issn(row.online());
+    print_issn(out, row.online());
     out.word(" isbn ");
-    out.maybe_isbn(row.print_isbn());
+    print_isbn(out, row.print_isbn());
     out.word(" ");
-    out.maybe_isbn(row.online_isbn());
+    print_isbn(out, row.online_isbn());
 }
 
 fn print_coverage(out: &mut Out<'_>, row: &Row) {

@@ -45,7 +45,8 @@ mod values;
 mod words;
 
 use fault::Fault;
-use print::Out;
+use feed_test_output::Out;
+use print::finish;
 use std::io;
 use std::process::ExitCode;
 use words::Words;
@@ -67,7 +68,7 @@ fn take_line(rt: &HostRuntime, line: io::Result<String>) -> Result<(), Fault> {
     let (command, rest) = words::split_word(line.as_str());
     let mut out = Out::new(rt);
     run(&mut out, command, rest)?;
-    out.finish()
+    finish(&out)
 }
 
 fn run(out: &mut Out<'_>, command: &str, rest: &str) -> Result<(), Fault> {

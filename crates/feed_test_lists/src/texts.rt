@@ -1,12 +1,13 @@
 //! The commands that parse a text of the line.
 use crate::fault::Fault;
-use crate::print::Out;
+use crate::print::print_days;
 use crate::words::Words;
 use feed_answer::Query;
 use feed_dates::{DayRange, read_date};
 use feed_identifiers::{Isbn, Issn, trim_spaces};
 use feed_kbart::read_volume;
 use feed_names::ReleaseName;
+use feed_test_output::Out;
 use std::alloc::Global;
 
 pub fn issn(out: &mut Out<'_>, text: &str) {
@@ -74,9 +75,9 @@ pub fn date(out: &mut Out<'_>, text: &str) {
     out.word("day ");
     out.maybe_day(read_date(text.as_bytes()));
     out.word(" list ");
-    out.maybe_days(DayRange::of_text(text.as_bytes()));
+    print_days(out, DayRange::of_text(text.as_bytes()));
     out.word(" query ");
-    out.maybe_days(DayRange::of_query(text.as_bytes()));
+    print_days(out, DayRange::of_query(text.as_bytes()));
     out.line("");
 }
 
@@ -139,7 +140,7 @@ fn print_query(out: &mut Out<'_>, query: &Query) {
     print_issns(out, query.issns());
     print_isbns(out, query.isbns());
     out.word("days ");
-    out.maybe_days(query.days());
+    print_days(out, query.days());
     out.word(" volume ");
     out.maybe_number(query.volume());
     out.line("");

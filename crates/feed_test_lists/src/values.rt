@@ -1,9 +1,9 @@
 //! The command that prints each value of the enums whose printed texts are part of the interface.
 use crate::fault::Fault;
-use crate::print::Out;
 use feed_answer::{Grade, QueryFault, WriteFault};
 use feed_kbart::{BadFile, KbartFault, Label, Reason};
 use feed_names::NameFault;
+use feed_test_output::Out;
 use std::alloc::{AllocError, Global};
 use std::fmt::{Debug, Display};
 
