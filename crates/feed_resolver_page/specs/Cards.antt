@@ -1,5 +1,5 @@
 -- The card of a hit.
-use Rattle.std.specs.Prelude.{ℕ, ◌||◌, if◌then◌else◌, List, [], ◌∷◌, ◌++◌, codes, Option, Some, None, unwrap_or}
+use Rattle.std.specs.Prelude.{ℕ, ◌||◌, not, Bool, true, false, if◌then◌else◌, List, [], ◌∷◌, ◌++◌, codes, Option, Some, None, unwrap_or}
 use Rattle.std.specs.Str.{bytes_eq}
 use Rattle.feed_embargo.specs.declared.availability.Availability.{Availability}
 use Rattle.feed_embargo.specs.declared.availability.Availability.TheVariants.{Available, Partly, NotCompared, Embargoed}
@@ -38,12 +38,13 @@ unfoldable pub fit_part : site_file.SiteValue → Fit → List ℕ
 fit_part site fit = joined (
     codes "<p class=\"fit " ∷ fit_class fit ∷ codes "\">" ∷ escaped (text_of site (fit_text fit)) ∷ codes "</p>\n" ∷ [])
 
--- what is said of a hit that is not open to readers, or not all of it
-abbrev pub availability_text : Availability → Option Text
-availability_text Available = None
-availability_text Partly = Some text.Partly
-availability_text NotCompared = None
-availability_text Embargoed = Some text.Embargoed
+-- what is said of a hit that an embargo keeps from readers, or a part of it
+abbrev pub availability_text : Bool → Availability → Option Text
+availability_text has_embargo Available = None
+availability_text true Partly = Some text.Partly
+availability_text false Partly = None
+availability_text has_embargo NotCompared = None
+availability_text has_embargo Embargoed = Some text.Embargoed
 
 unfoldable pub limit_part : List ℕ → List ℕ
 limit_part words = joined (codes "<p class=\"fit partly\">" ∷ escaped words ∷ codes "</p>\n" ∷ [])
@@ -52,11 +53,11 @@ abbrev pub availability_by : site_file.SiteValue → Option Text → List ℕ
 availability_by site None = []
 availability_by site (Some name) = limit_part (text_of site name)
 
-unfoldable pub availability_part : site_file.SiteValue → Availability → List ℕ
-availability_part site availability = availability_by site (availability_text availability)
+unfoldable pub availability_part : site_file.SiteValue → Bool → Availability → List ℕ
+availability_part site has_embargo availability = availability_by site (availability_text has_embargo availability)
 
-unfoldable pub status_part : site_file.SiteValue → Fit → Availability → List ℕ
-status_part site fit availability = fit_part site fit ++ availability_part site availability
+unfoldable pub status_part : site_file.SiteValue → Fit → ReleaseHitValue → List ℕ
+status_part site fit found = fit_part site fit ++ availability_part site (not (is_empty found.hit.row.embargo)) found.availability
 
 -- the host of a URL, or nothing
 abbrev pub host_text : List ℕ → List ℕ
@@ -96,4 +97,4 @@ card_end site row = COVERAGE.now ++ (coverage_words site row ++ CARD_END.now)
 -- the card of a hit, beside a cited title
 unfoldable pub card : site_file.SiteValue → List ℕ → Fit → ReleaseHitValue → List ℕ
 card site cited fit found =
-    card_top site cited found ++ (status_part site fit found.availability ++ card_end site found.hit.row)
+    card_top site cited found ++ (status_part site fit found ++ card_end site found.hit.row)

@@ -75,14 +75,14 @@ fn put_fit(out: &mut Vec<u8>, site: &SiteFile, fit: Fit) -> Result<(), AllocErro
     )
 }
 
-// Returns what an availability says of a hit that is not open to readers, or not all of it.
-fn availability_text(availability: Availability) -> Option<Text>
-    ensures { result ≡ availability_text availability }
+// Returns what is said of a hit that an embargo keeps from readers, or a part of it.
+fn availability_text(has_embargo: bool, availability: Availability) -> Option<Text>
+    ensures { result ≡ availability_text has_embargo availability }
 {
     match availability {
-        Availability::Partly => Some(Text::Partly),
+        Availability::Partly if has_embargo => Some(Text::Partly),
         Availability::Embargoed => Some(Text::Embargoed),
-        Availability::Available | Availability::NotCompared => None,
+        _ => None,
     }
 }
 
@@ -104,11 +104,13 @@ fn put_limit<'a>(out: &mut Vec<u8>, words: &'a [u8]) -> Result<(), AllocError>
 fn put_availability(
     out: &mut Vec<u8>,
     site: &SiteFile,
+    has_embargo: bool,
     availability: Availability,
 ) -> Result<(), AllocError>
-    ensures { OnOk result (out.new.items ≡ out.old.items ++ availability_part site.now availability) }
+    ensures { OnOk result (out.new.items
+        ≡ out.old.items ++ availability_part site.now has_embargo availability) }
 {
-    match availability_text(availability) {
+    match availability_text(has_embargo, availability) {
         Some(name) => put_limit(out, text_of(site, name)),
         None => Ok(()),
     }
@@ -119,12 +121,13 @@ fn put_status(
     out: &mut Vec<u8>,
     site: &SiteFile,
     fit: Fit,
-    availability: Availability,
+    found: &ReleaseHit<'_>,
 ) -> Result<(), AllocError>
-    ensures { OnOk result (out.new.items ≡ out.old.items ++ status_part site.now fit availability) }
+    ensures { OnOk result (out.new.items ≡ out.old.items ++ status_part site.now fit found.now) }
 {
     put_fit(out, site, fit)?;
-    put_availability(out, site, availability)
+    let has_embargo = !found.row().embargo().is_empty();
+    put_availability(out, site, has_embargo, found.availability())
 }
 
 // Returns the host of a URL, or nothing if it has none.
@@ -248,6 +251,6 @@ pub(crate) fn put_card(
     ensures { OnOk result (out.new.items ≡ out.old.items ++ card site.now cited.now fit found.now) }
 {
     put_top(out, site, cited, found)?;
-    put_status(out, site, fit, found.availability())?;
+    put_status(out, site, fit, found)?;
     put_end(out, site, found.row())
 }
