@@ -14,7 +14,7 @@ use Rattle.feed_resolver_hits.specs.Asks.{AskValue, ask_of}
 use Rattle.feed_resolver_hits.specs.Tallies.{TallyValue, tally_of}
 use Rattle.feed_resolver_hits.specs.Tallying.{RunningValue, with_hit, with_hits, no_hits, tally_from}
 use Rattle.feed_resolver_hits.proofs.Tallies.{tally_is}
-use Rattle.feed_resolver.specs.Answers.{Sited, release_hits, hits_among, others_beside, tally_among, texts_behind, answers_body}
+use Rattle.feed_resolver.specs.Answers.{Sited, release_hits, hits_among, others_among, others_beside, tally_among, texts_behind, answers_body}
 use Rattle.feed_resolver.specs.AnswerTexts.{texts_from}
 use Rattle.feed_resolver_page.specs.HitsPage.{hits_page}
 
@@ -39,34 +39,45 @@ text_written representation text query actives old new chosen is =
     is ∙ ap (λ t. old ++ t) (texts_are actives.library actives.today query [] actives.actives)
     ∙ ap (λ (r : Representation). old ++ answers_body r text query actives) (sym chosen)
 
-pub json_written : (representation : Representation) (text : List ℕ) (ask : AskValue) (query : QueryValue) (actives : Sited) (running : RunningValue) (old new : List ℕ)
-    → representation ≡ Json → ask ≡ ask_of text
+pub json_written : (ask : AskValue) (query : QueryValue) (actives : Sited) (running : RunningValue) (old new : List ℕ)
     → running ≡ with_hits no_hits (hits_among query actives) → new ≡ old ++ answer_json ask [] (tally_from running)
+    → new ≡ old ++ answer_json ask [] (tally_among query actives)
+json_written ask query actives running old new made is =
+    is ∙ ap (λ (r : RunningValue). old ++ answer_json ask [] (tally_from r)) made
+    ∙ ap (λ (t : TallyValue). old ++ answer_json ask [] t) (tally_is (hits_among query actives))
+
+pub json_answered : (representation : Representation) (text : List ℕ) (ask : AskValue) (query : QueryValue) (actives : Sited) (old new : List ℕ)
+    → representation ≡ Json → ask ≡ ask_of text → new ≡ old ++ answer_json ask [] (tally_among query actives)
     → new ≡ old ++ answers_body representation text query actives
 unfolding answers_body
-json_written representation text ask query actives running old new chosen read made is =
-    is ∙ ap (λ (a : AskValue). old ++ answer_json a [] (tally_from running)) read
-    ∙ ap (λ (r : RunningValue). old ++ answer_json (ask_of text) [] (tally_from r)) made
-    ∙ ap (λ (t : TallyValue). old ++ answer_json (ask_of text) [] t) (tally_is (hits_among query actives))
+json_answered representation text ask query actives old new chosen read is =
+    is ∙ ap (λ (a : AskValue). old ++ answer_json a [] (tally_among query actives)) read
     ∙ ap (λ (r : Representation). old ++ answers_body r text query actives) (sym chosen)
 
 pub page_written : (text : List ℕ) (site : site_file.SiteValue) (ask : AskValue) (query : QueryValue) (actives : Sited) (running others : RunningValue) (count : ℕ) (old new : List ℕ)
-    → site ≡ actives.library → ask ≡ ask_of text → running ≡ with_hits no_hits (hits_among query actives)
+    → site ≡ actives.library → running ≡ with_hits no_hits (hits_among query actives)
     → count ≡ (tally_from running).count → others ≡ with_hits no_hits (others_beside count query actives)
     → new ≡ old ++ hits_page site text ask (tally_from running) (tally_from others)
-    → new ≡ old ++ answers_body Html text query actives
-unfolding answers_body
-page_written text site ask query actives running others count old new of read made counts beside is =
+    → new ≡ old ++ hits_page actives.library text ask (tally_among query actives) (others_among query actives)
+page_written text site ask query actives running others count old new of made counts beside is =
     let tally : TallyValue = tally_among query actives in
     let counted_is : count ≡ tally.count =
     counts ∙ ap (λ (r : RunningValue). (tally_from r).count) made ∙ ap (λ (t : TallyValue). t.count) (tally_is (hits_among query actives)) in
     is ∙ ap (λ (s : site_file.SiteValue). old ++ hits_page s text ask (tally_from running) (tally_from others)) of
-    ∙ ap (λ (a : AskValue). old ++ hits_page actives.library text a (tally_from running) (tally_from others)) read
-    ∙ ap (λ (r : RunningValue). old ++ hits_page actives.library text (ask_of text) (tally_from r) (tally_from others)) made
-    ∙ ap (λ (t : TallyValue). old ++ hits_page actives.library text (ask_of text) t (tally_from others)) (tally_is (hits_among query actives))
-    ∙ ap (λ (r : RunningValue). old ++ hits_page actives.library text (ask_of text) tally (tally_from r)) beside
-    ∙ ap (λ (t : TallyValue). old ++ hits_page actives.library text (ask_of text) tally t) (tally_is (others_beside count query actives))
-    ∙ ap (λ n. old ++ hits_page actives.library text (ask_of text) tally (tally_of (others_beside n query actives))) counted_is
+    ∙ ap (λ (r : RunningValue). old ++ hits_page actives.library text ask (tally_from r) (tally_from others)) made
+    ∙ ap (λ (t : TallyValue). old ++ hits_page actives.library text ask t (tally_from others)) (tally_is (hits_among query actives))
+    ∙ ap (λ (r : RunningValue). old ++ hits_page actives.library text ask tally (tally_from r)) beside
+    ∙ ap (λ (t : TallyValue). old ++ hits_page actives.library text ask tally t) (tally_is (others_beside count query actives))
+    ∙ ap (λ n. old ++ hits_page actives.library text ask tally (tally_of (others_beside n query actives))) counted_is
+
+pub page_answered : (representation : Representation) (text : List ℕ) (ask : AskValue) (query : QueryValue) (actives : Sited) (old new : List ℕ)
+    → representation ≡ Html → ask ≡ ask_of text
+    → new ≡ old ++ hits_page actives.library text ask (tally_among query actives) (others_among query actives)
+    → new ≡ old ++ answers_body representation text query actives
+unfolding answers_body
+page_answered representation text ask query actives old new chosen read is =
+    is ∙ ap (λ (a : AskValue). old ++ hits_page actives.library text a (tally_among query actives) (others_among query actives)) read
+    ∙ ap (λ (r : Representation). old ++ answers_body r text query actives) (sym chosen)
 
 -- the link that a tally chooses
 pub best_made : (query : QueryValue) (actives : Sited) (running : RunningValue) → running ≡ with_hits no_hits (hits_among query actives)

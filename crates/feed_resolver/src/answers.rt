@@ -1,7 +1,10 @@
 //! Counts the hits of a query in the active releases on a day, and writes the body that lists them.
-ghost use Rattle.std.specs.Prelude.{◌≡◌, ◌++◌, IfOk, OnOk};
+ghost use Rattle.std.specs.Prelude.{◌≡◌, ◌++◌, [], IfOk, OnOk};
 ghost use Rattle.feed_resolver_hits.specs.Tallying.{no_hits, with_hits};
-ghost use Rattle.feed_resolver.specs.Answers.{answers_body, hits_among, is_placed, others_beside};
+ghost use Rattle.feed_resolver_hits.specs.AnswerJson.{answer_json};
+ghost use Rattle.feed_resolver_page.specs.HitsPage.{hits_page};
+ghost use Rattle.feed_resolver.specs.Answers.{answers_body, hits_among, is_placed, others_among};
+ghost use Rattle.feed_resolver.specs.Answers.{others_beside, tally_among};
 ghost use Rattle.feed_resolver.specs.Answers.{release_hits, sited_in};
 ghost use Rattle.feed_resolver.specs.AnswerTexts.{texts_from};
 
@@ -107,22 +110,37 @@ fn put_texts(
     Ok(())
 }
 
-// Writes what a query asks, and the hits of highest rank, as a page. Without a hit, the page shows the hits of the same
-// titles.
-fn put_page(
+// Writes the facts about a query, and its hits of highest rank, as JSON.
+fn put_json(
     alloc: Global,
     out: &mut Vec<u8>,
-    text: &[u8],
+    ask: &Ask,
     context: &Context<'_>,
     query: &Query,
 ) -> Result<(), AllocError>
     ensures { OnOk result (out.new.items
-        ≡ out.old.items ++ answers_body Representation.Html text.now query.now (sited_in context.now)) }
+        ≡ out.old.items ++ answer_json ask.now [] (tally_among query.now (sited_in context.now))) }
 {
-    let ask = Ask::read(alloc, text)?;
+    let tally = tally_among(alloc, context, query)?;
+    put_answer_json(out, ask, b"", &tally)
+}
+
+// Writes the same as a page. Without a hit, the page shows the hits of the same titles.
+fn put_page(
+    alloc: Global,
+    out: &mut Vec<u8>,
+    text: &[u8],
+    ask: &Ask,
+    context: &Context<'_>,
+    query: &Query,
+) -> Result<(), AllocError>
+    ensures { OnOk result (out.new.items
+        ≡ out.old.items ++ hits_page context.now.site.library text.now ask.now
+        (tally_among query.now (sited_in context.now)) (others_among query.now (sited_in context.now))) }
+{
     let tally = tally_among(alloc, context, query)?;
     let others = others_beside(alloc, context, query, tally.count())?;
-    put_hits_page(alloc, out, context.library(), text, &ask, &tally, &others)
+    put_hits_page(alloc, out, context.library(), text, ask, &tally, &others)
 }
 
 /// Writes the answer of the given releases to a query, which is what the text asks for: its hits as text, or what it
@@ -143,9 +161,11 @@ pub(crate) fn put_answer(
         Representation::Text => put_texts(alloc, out, context, query),
         Representation::Json => {
             let ask = Ask::read(alloc, text)?;
-            let tally = tally_among(alloc, context, query)?;
-            put_answer_json(out, &ask, b"", &tally)
+            put_json(alloc, out, &ask, context, query)
         }
-        Representation::Html => put_page(alloc, out, text, context, query),
+        Representation::Html => {
+            let ask = Ask::read(alloc, text)?;
+            put_page(alloc, out, text, &ask, context, query)
+        }
     }
 }
