@@ -36,12 +36,6 @@ active_line active = name_text active.name ++ codes "\n"
 unfoldable pub active_object : ActiveValue → List ℕ
 active_object active = release_members active.name ++ codes "}"
 
--- the active releases
-unfoldable pub status_body : site_file.SiteValue → Representation → List ActiveValue → List ℕ
-status_body site Text actives = flat_map active_line actives
-status_body site Json actives = json_list active_object actives
-status_body site Html actives = page_top site text.Packages ++ (active_items site actives ++ page_foot site)
-
 -- the packages, and the end of the page
 unfoldable pub packages_part : site_file.SiteValue → List ActiveValue → List ℕ
 packages_part site actives = section_heading (text_of site text.Packages) ++ (active_items site actives ++ page_foot site)
@@ -49,6 +43,12 @@ packages_part site actives = section_heading (text_of site text.Packages) ++ (ac
 -- the page with the form and the packages
 unfoldable pub home_page : site_file.SiteValue → List ActiveValue → List ℕ
 home_page site actives = page_top site text.FindHoldings ++ (search_form site [] ++ packages_part site actives)
+
+-- the active releases; as a page, behind the form
+unfoldable pub status_body : site_file.SiteValue → Representation → List ActiveValue → List ℕ
+status_body site Text actives = flat_map active_line actives
+status_body site Json actives = json_list active_object actives
+status_body site Html actives = home_page site actives
 
 -- the object that states an active release
 abbrev pub active_value : ActiveValue → json.Json

@@ -1,7 +1,6 @@
 //! Writes the active releases as text, as JSON and as an HTML page, and the home page.
 ghost use Rattle.std.specs.Prelude.{◌≡◌, ◌++◌, OnOk};
 ghost use Rattle.std.specs.List.{flat_map};
-ghost use Rattle.feed_resolver_request.specs.declared.representation.Representation.TheVariants as representation;
 ghost use Rattle.feed_resolver_reply.specs.JsonLists.{items_from, json_list};
 ghost use Rattle.feed_resolver.specs.Status.{active_item, active_items, active_line, active_object, status_body};
 ghost use Rattle.feed_resolver.specs.Status.{home_page, packages_part};
@@ -106,21 +105,7 @@ fn put_json(out: &mut Vec<u8>, actives: &[ActiveRelease<'_>]) -> Result<(), Allo
     put_list_end(out)
 }
 
-#[tactic(auto, unfolding(crate::specs::Status::status_body))]
-fn put_page(
-    out: &mut Vec<u8>,
-    site: &SiteFile,
-    actives: &[ActiveRelease<'_>],
-) -> Result<(), AllocError>
-    ensures { OnOk result (out.new.items
-        ≡ out.old.items ++ status_body site.now representation.Html actives.now) }
-{
-    put_page_top(out, site, Text::Packages)?;
-    put_items(out, site, actives)?;
-    put_page_foot(out, site)
-}
-
-/// Writes the active releases.
+/// Writes the active releases; as a page, behind the form.
 #[tactic(auto, unfolding(crate::specs::Status::status_body))]
 pub(crate) fn put_status(
     out: &mut Vec<u8>,
@@ -134,7 +119,7 @@ pub(crate) fn put_status(
     match representation {
         Representation::Text => put_lines(out, actives),
         Representation::Json => put_json(out, actives),
-        Representation::Html => put_page(out, site, actives),
+        Representation::Html => put_home_page(out, site, actives),
     }
 }
 
