@@ -197,7 +197,12 @@ fn isbns_among(alloc: Global, pairs: &[Pair<'_>]) -> Result<Vec<Isbn>, AllocErro
     Ok(isbns)
 }
 
-/// Returns the ISSNs that pairs ask for, as a set. In the format of books they do not count.
+/// Returns the ISSNs that the pairs of a query ask for, as a set: each `rft.issn`, `rft.eissn` and `rft_id` that names
+/// one (ANSI/NISO Z39.88-2004, key/value format of journals). In the format of books they do not count.
+///
+/// # Errors
+///
+/// Running out of memory.
 pub fn query_issns(alloc: Global, pairs: &[Pair<'_>]) -> Result<Vec<Issn>, AllocError>
     ensures value { IfOk result (λ issns. issns.items ≡ query_issns pairs.now) }
     ensures ascending { IfOk result (λ issns. IsAscending issns.items) }
@@ -208,7 +213,12 @@ pub fn query_issns(alloc: Global, pairs: &[Pair<'_>]) -> Result<Vec<Issn>, Alloc
     issns_among(alloc, pairs)
 }
 
-/// Returns the ISBNs that pairs ask for, as a set. In the format of journals they do not count.
+/// Returns the ISBNs that the pairs of a query ask for, as a set: each `rft.isbn` that names one (ANSI/NISO
+/// Z39.88-2004, key/value format of books). In the format of journals they do not count.
+///
+/// # Errors
+///
+/// Running out of memory.
 pub fn query_isbns(alloc: Global, pairs: &[Pair<'_>]) -> Result<Vec<Isbn>, AllocError>
     ensures value { IfOk result (λ isbns. isbns.items ≡ query_isbns pairs.now) }
     ensures ascending { IfOk result (λ isbns. IsAscending isbns.items) }

@@ -2,6 +2,7 @@ pub mod Places
 pub mod Steps
 pub mod Readings
 pub mod Columns
+pub mod Ordered
 pub mod Listed
 pub mod Stored
 pub mod Wholes

@@ -1,16 +1,14 @@
 -- The entries of an identifier are those of the rows that have it.
-use Rattle.std.proofs.Common.{◌≡◌, ◌<◌, ◌+◌, ℕ, suc, Bool, true, false, ◌||◌, eqb, List, [], ◌∷◌, ◌++◌, map}
+use Rattle.std.proofs.Common.{◌≡◌, ◌<◌, ◌≤◌, ◌+◌, ℕ, suc, Bool, true, false, ◌||◌, eqb, List, [], ◌∷◌, ◌++◌, map}
 use Rattle.std.proofs.Common.{length, get_or, Option, Some, None, IfSome, option_map, if◌then◌else◌, refl, sym, ap, ◌∙◌, arith}
 use Rattle.std.specs.List.{All, cons_option, enumerate_from, filter, filter_map}
-use Rattle.std.specs.List.Sorted.{IsStableByKey, ties}
+use Rattle.std.specs.List.Sorted.{IsNonDecreasingBy, IsPermutation}
 use Rattle.std.specs.Str.{bytes_eq}
 use Rattle.std.specs.Cmp.Lexicographic.{bytes_decides}
-use Rattle.std.specs.Ordering.{is_lt, nat_cmp}
 use Rattle.std.proofs.lemmas.Bool.Decides.{nat_tests}
 use Rattle.std.proofs.lemmas.List.{get_or_default, length-map, map-append}
 use Rattle.std.proofs.lemmas.List.Elements.{filter-append}
-use Rattle.std.specs.List.Sorted.{IsNonDecreasingBy}
-use Rattle.feed_kbart.specs.Index.{HasIdentifiers, IsIndexOf, each_once, entries_from, entries_of}
+use Rattle.feed_kbart.specs.Index.{HasIdentifiers, IsIndexOf, each_once, entries_from, entries_of, key_of}
 use Rattle.feed_identifiers.specs.Issn.{IsIssn, number_of}
 use Rattle.feed_identifiers.specs.Isbn as isbn
 use Rattle.feed_identifiers.specs.Isbn.{IsIsbn}
@@ -23,13 +21,7 @@ use Rattle.feed_kbart.specs.RowValue.{RowValue}
 use Rattle.feed_kbart.specs.declared.index.Entry.{Entry}
 use Rattle.feed_kbart.specs.declared.index.Index.{Index}
 use Rattle.feed_kbart.proofs.Columns.{beside_entries, column_ascends}
-
--- the places of the entries with a number
-abbrev placed : ℕ → List Entry → List ℕ
-placed n entries = map (λ e. e.place) (filter (λ e. eqb e.number n) entries)
-
-abbrev numbered : ℕ → List ℕ → List Entry
-numbered place numbers = map (λ number. record { number = number; place = place }) numbers
+use Rattle.feed_kbart.proofs.Ordered.{in_file_order, numbered, numbers_ascend, placed}
 
 one : (n place m : ℕ) (xs : List ℕ) → placed n (numbered place (m ∷ [])) ++ xs ≡ cons_option (if eqb m n then Some place else None) xs
 one n place m xs = elim (eqb m n) as (λ b. eqb m n ≡ b → placed n (numbered place (m ∷ [])) ++ xs ≡ cons_option (if b then Some place else None) xs) [
@@ -155,22 +147,12 @@ rows_placed n test place (row ∷ rows) told all =
     ∙ ap (λ xs. placed n (entries_of place row) ++ xs) (rows_placed n test (place + 1) rows told (λ k d within. all (suc k) d (omega (arith, within))))
     ∙ told place row (filter_map (place_by test) (enumerate_from (place + 1) rows)) has
 
-filter_same : {X : Type 0} (p q : X → Bool) (xs : List X) → ((x : X) → p x ≡ q x) → filter p xs ≡ filter q xs
-filter_same p q [] same = refl
-filter_same p q (x ∷ xs) same = rw (same x, filter_same p q xs same) refl
-
-tie_test : (m n : ℕ) → ties (λ x y. is_lt (nat_cmp x y)) m n ≡ eqb n m
-tie_test m n = grind (arith, nat_tests)
-
--- entries that a stable sort by number puts in order give the same places for each number
+-- entries in the order of their keys give the same places for each number
 sorted_placed : (n : ℕ) (test : RowValue → Bool) (rows : List RowValue) (entries sorted : List Entry) → IsTold n test → All HasIdentifiers rows
-    → entries ≡ entries_from 0 rows → IsStableByKey (λ (e : Entry). e.number) nat_cmp entries sorted
-    → map (λ e. e.place) (filter (λ e. eqb e.number n) sorted) ≡ places_by test rows
+    → entries ≡ entries_from 0 rows → IsPermutation entries sorted → IsNonDecreasingBy key_of sorted → placed n sorted ≡ places_by test rows
 unfolding places_by
-sorted_placed n test rows entries sorted told all are stable =
-    let same = λ (xs : List Entry). filter_same (λ e. ties (λ x y. is_lt (nat_cmp x y)) n e.number) (λ e. eqb e.number n) xs (λ e. tie_test n e.number) in
-    ap (map (λ e. e.place)) (sym (same sorted) ∙ stable (record { number = n; place = 0 }) ∙ same entries)
-    ∙ ap (placed n) are ∙ rows_placed n test 0 rows told all
+sorted_placed n test rows entries sorted told all are moved up =
+    in_file_order n rows entries sorted are moved up ∙ ap (placed n) are ∙ rows_placed n test 0 rows told all
 
 -- what holds of the first places, and of the next
 pub holds_next : {X : Type 0} (P : X → Type 0) (xs : List X) (i : ℕ) (x : X) → x ≡ get_or xs i x → i < length xs
@@ -183,16 +165,16 @@ holds_next P xs i x is within all one k d h = elim (eqb k i) as (λ b. eqb k i �
 ] refl
 
 -- the columns of the entries in order are an index
-pub indexed : NumbersTell → (rows : List RowValue) (entries sorted : List Entry) (index : Index) → All HasIdentifiers rows → entries ≡ entries_from 0 rows
-    → IsStableByKey (λ (e : Entry). e.number) nat_cmp entries sorted → IsNonDecreasingBy (λ e. e.number) sorted
+pub indexed : NumbersTell → (rows : List RowValue) (entries sorted : List Entry) (index : Index) → length rows ≤ 4294967296 → All HasIdentifiers rows
+    → entries ≡ entries_from 0 rows → IsPermutation entries sorted → IsNonDecreasingBy key_of sorted
     → index.numbers.items ≡ map (λ e. e.number) sorted → index.places.items ≡ map (λ e. e.place) sorted → IsIndexOf rows index
-indexed tell rows entries sorted index all are stable up numbers places = record {
+indexed tell rows entries sorted index few all are moved up numbers places = record {
   table = record {
     even = rw (numbers, places) (length-map sorted (λ (e : Entry). e.place) ∙ sym (length-map sorted (λ (e : Entry). e.number)));
-    ascending = rw numbers (column_ascends sorted up);
+    ascending = rw numbers (column_ascends sorted (numbers_ascend rows entries sorted few are moved up));
   };
   issns = λ issn i. rw (numbers, places) (beside_entries (number_of issn) sorted
-      ∙ sorted_placed (number_of issn) (has_issn issn) rows entries sorted (λ place row xs has. issn_placed tell issn i place row.identifiers xs has) all are stable);
+      ∙ sorted_placed (number_of issn) (has_issn issn) rows entries sorted (λ place row xs has. issn_placed tell issn i place row.identifiers xs has) all are moved up);
   isbns = λ digits i. rw (numbers, places) (beside_entries (isbn_number digits) sorted
-      ∙ sorted_placed (isbn_number digits) (has_isbn digits) rows entries sorted (λ place row xs has. isbn_placed tell digits i place row.identifiers xs has) all are stable);
+      ∙ sorted_placed (isbn_number digits) (has_isbn digits) rows entries sorted (λ place row xs has. isbn_placed tell digits i place row.identifiers xs has) all are moved up);
 }

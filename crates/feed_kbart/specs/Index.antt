@@ -1,5 +1,5 @@
 -- The index of rows by identifier.
-use Rattle.std.specs.Prelude.{◌≡◌, ℕ, ◌+◌, ◌==◌, List, [], ◌∷◌, ◌++◌, length, map, Option, Some, None, if◌then◌else◌}
+use Rattle.std.specs.Prelude.{◌≡◌, ℕ, ◌+◌, ◌*◌, ◌==◌, List, [], ◌∷◌, ◌++◌, length, map, Option, Some, None, if◌then◌else◌}
 use Rattle.std.specs.List.Sorted.{IsNonDecreasing}
 use Rattle.feed_identifiers.specs.Issn.{IsIssn, number_of}
 use Rattle.feed_identifiers.specs.Isbn.{IsIsbn}
@@ -47,3 +47,7 @@ entries_of place row =
 abbrev pub entries_from : ℕ → List RowValue → List Entry
 entries_from place [] = []
 entries_from place (row ∷ rows) = entries_of place row ++ entries_from (place + 1) rows
+
+-- the key by which entries are sorted: by number, and then by place
+abbrev pub key_of : Entry → ℕ
+key_of entry = entry.number * 4294967296 + entry.place

@@ -10,6 +10,7 @@ pub mod Places
 pub mod Index
 pub mod Rows
 pub mod Stored
+pub mod RecordBytes
 pub mod RecordValue
 pub mod Store
 pub mod HoldingsValue

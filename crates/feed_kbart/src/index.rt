@@ -1,18 +1,32 @@
 //! The index of rows by identifier: two parallel arrays, sorted by the identifiers' numbers.
 ghost use Rattle.std.specs.Prelude.{◌≡◌, ◌≤◌, ◌++◌, IfOk, OnOk, length, map};
 ghost use Rattle.std.specs.List.{All};
-ghost use Rattle.feed_kbart.specs.Index.{HasIdentifiers, IsIndexOf, IsTable, entries_from, entries_of, places_beside};
+ghost use Rattle.feed_kbart.specs.Index.{HasIdentifiers, IsIndexOf, IsTable, entries_from, entries_of, key_of};
+ghost use Rattle.feed_kbart.specs.Index.{places_beside};
 ghost use Rattle.feed_limits.specs.Limits.{file_limit};
 
 use crate::row::Row;
 use feed_identifiers::{issn_numbers_are_small, one_isbn_for_number, one_issn_for_number};
 use std::alloc::{AllocError, Global};
 
-// The number of an identifier, and the place of a row that has it.
+// The memory of this many entries is given back at a time: 8 MiB.
+const GIVEN_BACK: usize = 1_048_576;
+
+// The place of a row, and the number of an identifier that it has. In this order an entry lies in memory as its key.
 #[derive(Clone, Copy)]
 struct Entry {
-    number: u32,
     place: u32,
+    number: u32,
+}
+
+impl Entry {
+    // Returns the key by which entries are sorted: those of a smaller number come first, and those of one number in the
+    // order of their places.
+    fn key(&self) -> u64
+        ensures { result ≡ key_of self.now }
+    {
+        self.number as u64 * 0x1_0000_0000 + self.place as u64
+    }
 }
 
 /// The places of rows by identifier. Each number is paired with the place of a row that has the identifier.
@@ -57,17 +71,30 @@ fn entries_of(alloc: Global, rows: &[Row]) -> Result<Vec<Entry>, AllocError>
     Ok(entries)
 }
 
-// Splits the entries into two columns.
-fn columns_of(alloc: Global, entries: &[Entry]) -> Result<Index, AllocError>
-    ensures numbers { IfOk result (λ index. index.numbers.items ≡ map (λ entry. entry.number) entries.now) }
-    ensures places { IfOk result (λ index. index.places.items ≡ map (λ entry. entry.place) entries.now) }
+// Gives back the memory of entries that were taken out, in large parts.
+fn give_back(entries: &mut Vec<Entry>)
+    ensures { entries.new.items ≡ entries.old.items }
+{
+    if entries.len() % GIVEN_BACK == 0 {
+        entries.shrink_to_fit();
+    }
+}
+
+// Splits the entries into two columns. A list may have 60 million: they are taken out from the end, so that the columns
+// grow as the entries shrink.
+fn columns_of(alloc: Global, mut entries: Vec<Entry>) -> Result<Index, AllocError>
+    ensures numbers { IfOk result (λ index. index.numbers.items ≡ map (λ entry. entry.number) entries.items) }
+    ensures places { IfOk result (λ index. index.places.items ≡ map (λ entry. entry.place) entries.items) }
 {
     let mut numbers = Vec::with_capacity(alloc, entries.len())?;
     let mut places = Vec::with_capacity(alloc, entries.len())?;
-    for entry in entries {
+    while let Some(entry) = entries.pop() {
         numbers.push(entry.number)?;
         places.push(entry.place)?;
+        give_back(&mut entries);
     }
+    numbers.reverse();
+    places.reverse();
     Ok(Index { numbers, places })
 }
 
@@ -81,9 +108,9 @@ impl Index {
         one_isbn_for_number();
         issn_numbers_are_small();
         let mut entries = entries_of(alloc, rows)?;
-        // The sort is stable, so the rows of one identifier keep their order.
-        entries.sort_by_key(|entry| entry.number)?;
-        columns_of(alloc, &entries)
+        // This sort takes no memory, and a list that is in order already takes one pass.
+        entries.sort_unstable_by_key(|entry| entry.key());
+        columns_of(alloc, entries)
     }
 
     /// Returns the places paired with a number.

@@ -14,15 +14,19 @@ use crate::stored_record::{StoredRecord, put_cells};
 use csv::ByteRecord;
 use feed_limits::FILE_LIMIT;
 use std::alloc::{AllocError, Global};
+use std::mem::replace;
 use std::rc::RcSlice;
 
-// The number of bytes from which on a block is full.
+// The number of bytes from which on a block is full. A place below it has 16 bits.
 const BLOCK_SIZE: usize = 65_536;
+
+// The memory of a block that is not the first: mostly enough for the record that fills it.
+const BLOCK_ROOM: usize = BLOCK_SIZE + 4_096;
 
 /// A row whose block is still being filled: the place of its record, and its number.
 #[derive(Clone, Copy)]
 pub(crate) struct Draft {
-    start: u32,
+    start: u16,
     number: u32,
 }
 
@@ -62,9 +66,10 @@ impl RowStore {
         ensures block { OnOk result (self.new.block.items ≡ []) }
         ensures drafts { OnOk result (self.new.drafts.items ≡ []) }
     {
-        let block = RcSlice::from_slice(alloc, &self.block)?;
+        let mut full = replace(&mut self.block, Vec::new(alloc));
+        full.shrink_to_fit();
+        let block = RcSlice::from_vec(full)?;
         add_rows(&mut self.rows, &self.drafts, &block)?;
-        self.block.clear();
         self.drafts.clear();
         Ok(())
     }
@@ -78,6 +83,7 @@ impl RowStore {
             return Ok(());
         }
         self.seal(alloc)?;
+        self.block.reserve_exact(BLOCK_ROOM)?;
         Ok(())
     }
 
@@ -114,7 +120,7 @@ impl KeepRows for RowStore {
         fields: &ByteRecord,
     ) -> Result<(), AllocError> {
         self.make_room(alloc)?;
-        let start = self.block.len() as u32;
+        let start = self.block.len() as u16;
         put_cells(&mut self.block, columns, fields)?;
         self.drafts.push(Draft { start, number })?;
         Ok(())

@@ -1,9 +1,10 @@
-//! A record that is stored in a block of bytes, which it shares with other records.
-ghost use Rattle.std.specs.Prelude.{◌≡◌, ◌↔◌, ◌<◌, ◌++◌, IsTrue, OnOk, Some, drop, map};
+//! A record that is stored in a block of bytes, which it shares with other records, or by itself if it is short.
+ghost use Rattle.std.specs.Prelude.{◌≡◌, ◌↔◌, ◌<◌, ◌++◌, IfSome, IsTrue, OnOk, Some, drop, map};
 ghost use Rattle.std.specs.List.{All, flat_map};
 ghost use Rattle.std.specs.Rc.{rc_slice_items};
 ghost use Rattle.csv.specs.Records.{fields_of};
 ghost use Rattle.feed_kbart.specs.Columns.{cell};
+ghost use Rattle.feed_kbart.specs.RecordBytes.{bytes_of, number_of};
 ghost use Rattle.feed_kbart.specs.Stored.{IsShort, cells_of, in_order, text_bytes, texts_in};
 
 use crate::header::{Columns, cell_of};
@@ -40,41 +41,81 @@ pub(crate) const EMBARGO: usize = 11;
 
 pub(crate) const ACCESS: usize = 12;
 
-/// The number of a record, and its cells in their places. They begin at a place in a block.
+// The bytes of a short record: those of a list with nothing but an ISSN in each row, and one more.
+const SHORT_SIZE: usize = 11;
+
+// The bytes of a record, and its number. Each kind takes 16 bytes.
+#[derive(Debug, Drop)]
+enum Stored {
+    // The record has all its cells here, so no block is kept for it.
+    Short {
+        bytes: [u8; SHORT_SIZE],
+        number: u32,
+    },
+    // The record begins at a place in a block.
+    Shared {
+        start: u16,
+        number: u32,
+        block: RcSlice<u8>,
+    },
+}
+
+/// The number of a record, and its cells in their places.
 #[derive(Debug, Drop)]
 pub(crate) struct StoredRecord {
-    block: RcSlice<u8>,
-    start: u32,
-    number: u32,
+    stored: Stored,
 }
 
 impl Model for StoredRecord {
-    ghost use Rattle.std.specs.Prelude.{drop};
-    ghost use Rattle.std.specs.Rc.{rc_slice_items};
+    ghost use Rattle.feed_kbart.specs.RecordBytes.{bytes_of, number_of};
     ghost use Rattle.feed_kbart.specs.RecordValue.{RecordValue};
     ghost use Rattle.feed_kbart.specs.Stored.{texts_in};
 
     ghost Value = { RecordValue };
 
-    ghost view = { λ r. record { number = r.number; cells = texts_in 13 (drop r.start (rc_slice_items r.block)) } };
+    ghost view = { λ r. record { number = number_of r.stored; cells = texts_in 13 (bytes_of r.stored) } };
+}
+
+impl Stored {
+    fn number(&self) -> u32
+        ensures { result ≡ number_of self.now }
+    {
+        match self {
+            Stored::Short { number, .. } | Stored::Shared { number, .. } => *number,
+        }
+    }
+
+    // Returns the bytes at whose front the cells are.
+    fn bytes(&self) -> &[u8]
+        ensures { result.now ≡ bytes_of self.now }
+    {
+        match self {
+            Stored::Short { bytes, .. } => bytes,
+            Stored::Shared { start, block, .. } => rest_of(block, *start as usize),
+        }
+    }
 }
 
 impl StoredRecord {
-    pub(crate) fn new(block: RcSlice<u8>, start: u32, number: u32) -> StoredRecord
+    pub(crate) fn new(block: RcSlice<u8>, start: u16, number: u32) -> StoredRecord
         ensures { result
             ≡ record { number = number; cells = texts_in 13 (drop start (rc_slice_items block)) } }
     {
-        StoredRecord {
-            block,
-            start,
-            number,
-        }
+        let stored = match short_record(rest_of(&block, start as usize)) {
+            Some(bytes) => Stored::Short { bytes, number },
+            None => Stored::Shared {
+                start,
+                number,
+                block,
+            },
+        };
+        StoredRecord { stored }
     }
 
     pub(crate) fn number(&self) -> u32
         ensures { result ≡ self.now.number }
     {
-        self.number
+        self.stored.number()
     }
 
     /// Returns a cell.
@@ -82,18 +123,28 @@ impl StoredRecord {
         requires { place < 13 }
         ensures { result.now ≡ cell (Some place) self.now.cells }
     {
-        text_at(rest_of(&self.block, self.start as usize), place)
+        text_at(self.stored.bytes(), place)
     }
 
     /// Returns whether another record has the same cells.
     pub(crate) fn has_same_cells(&self, other: &StoredRecord) -> bool
         ensures { IsTrue result ↔ (self.now.cells ≡ other.now.cells) }
     {
-        has_same_texts(
-            rest_of(&self.block, self.start as usize),
-            rest_of(&other.block, other.start as usize),
-            13,
-        )
+        has_same_texts(self.stored.bytes(), other.stored.bytes(), 13)
+    }
+}
+
+// Returns the first bytes of a record if it has all its cells in them: those that follow are empty.
+fn short_record(bytes: &[u8]) -> Option<[u8; SHORT_SIZE]>
+    ensures { IfSome result (λ short. texts_in 13 short ≡ texts_in 13 bytes.now) }
+{
+    // A record has 13 bytes at least. If one of the last two is not 0, no comparison is needed.
+    match bytes {
+        [a, b, c, d, e, f, g, h, i, j, k, 0, 0, ..] => {
+            let short = [*a, *b, *c, *d, *e, *f, *g, *h, *i, *j, *k];
+            has_same_texts(&short, bytes, 13).then_some(short)
+        }
+        _ => None,
     }
 }
 
