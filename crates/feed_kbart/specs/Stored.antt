@@ -54,7 +54,7 @@ after_texts (suc n) bytes = after_texts n (split_text bytes).1
 -- the columns of the labels in use, in the order in which a record's cells are stored
 abbrev pub in_order : Columns → List (Option ℕ)
 in_order columns =
-    columns.publication_type ∷ columns.print ∷ columns.online ∷ columns.first_date ∷ columns.last_date ∷ columns.first_volume ∷ columns.last_volume
+    columns.print ∷ columns.online ∷ columns.publication_type ∷ columns.first_date ∷ columns.last_date ∷ columns.first_volume ∷ columns.last_volume
     ∷ columns.title_id ∷ columns.url ∷ columns.title ∷ columns.depth ∷ columns.embargo ∷ columns.access ∷ []
 
 -- the cells of a record, in that order
@@ -64,9 +64,9 @@ cells_of columns fields = map (λ column. cell column fields) (in_order columns)
 -- the columns of a record that has its cells in this order
 abbrev pub stored_columns : Columns
 stored_columns = record {
-  publication_type = Some 0;
-  print = Some 1;
-  online = Some 2;
+  print = Some 0;
+  online = Some 1;
+  publication_type = Some 2;
   first_date = Some 3;
   last_date = Some 4;
   first_volume = Some 5;

@@ -15,11 +15,12 @@ use std::marker::Model;
 use std::rc::RcSlice;
 
 // The places of the cells. Finding one takes longer the higher its place: those that are asked for most come first.
-pub(crate) const PUBLICATION_TYPE: usize = 0;
+// The identifiers are at the front, so that a record with nothing else is short.
+pub(crate) const PRINT: usize = 0;
 
-pub(crate) const PRINT: usize = 1;
+pub(crate) const ONLINE: usize = 1;
 
-pub(crate) const ONLINE: usize = 2;
+pub(crate) const PUBLICATION_TYPE: usize = 2;
 
 pub(crate) const FIRST_DATE: usize = 3;
 
@@ -41,7 +42,7 @@ pub(crate) const EMBARGO: usize = 11;
 
 pub(crate) const ACCESS: usize = 12;
 
-// The bytes of a short record: those of a list with nothing but an ISSN in each row, and one more.
+// The bytes of a short record. It has room for nothing but an ISSN, printed or online, with its hyphen or without.
 const SHORT_SIZE: usize = 11;
 
 // The bytes of a record, and its number. Each kind takes 16 bytes.
@@ -165,9 +166,9 @@ impl Columns {
         ensures { result ≡ in_order self.now }
     {
         [
-            self.publication_type,
             self.print,
             self.online,
+            self.publication_type,
             self.first_date,
             self.last_date,
             self.first_volume,

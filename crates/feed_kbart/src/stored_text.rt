@@ -40,6 +40,10 @@ pub(crate) fn put_text(block: &mut Vec<u8>, text: &[u8]) -> Result<(), AllocErro
     ensures added { OnOk result (block.new.items ≡ block.old.items ++ text_bytes text.now) }
     ensures short { OnOk result (IsShort text.now) }
 {
+    // Many cells are empty.
+    if text.is_empty() {
+        return put_length(block, 0);
+    }
     let size = length_of(text)?;
     put_length(block, size)?;
     block.extend_from_slice(text)?;
