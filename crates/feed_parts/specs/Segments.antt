@@ -1,5 +1,5 @@
 -- Segments: the stored bytes of a file, a finite map from places to bytes.
-use Rattle.std.specs.Prelude.{◌≡◌, ◌<◌, ◌≤◌, ◌-◌, ◌^◌, ℕ, List, length, Option, Some, None, IsSome, All, slice_index_or}
+use Rattle.std.specs.Prelude.{◌≡◌, ◌<◌, ◌≤◌, ◌+◌, ◌-◌, ◌^◌, ℕ, List, length, Option, Some, None, IsSome, All, slice_get, slice_index_or}
 use Rattle.feed_model.specs.Content.{Part, byte_in, IsText}
 use Rattle.feed_model.specs.Parts.{AreWithin}
 use Rattle.feed_parts.specs.declared.gaps.Gap.{Gap}
@@ -51,3 +51,7 @@ AreFew parts probes = (digits : ℕ) → parts < 2 ^ digits → probes ≤ digit
 -- it is the text of the parts, if these are inside a file and no place is missing
 abbrev pub IsTextOf : List Part → List ℕ → Type 0
 IsTextOf parts text = (size : ℕ) → AreWithin size parts → ((place : ℕ) → place < size → IsSome (byte_in parts place)) → IsText size parts text
+
+-- the parts have these bytes from a place on
+abbrev pub HasRun : List Part → ℕ → List ℕ → Type 0
+HasRun parts place bytes = (k : ℕ) → k < length bytes → byte_in parts (place + k) ≡ slice_get bytes k

@@ -1,12 +1,12 @@
 //! `Segments`, the stored bytes of a file: a finite map from places to bytes.
 ghost use Rattle.std.specs.Prelude.{◌≡◌, ◌≤◌, ◌<◌, ◌+◌, ◌-◌, ◌^◌, ◌↔◌, ℕ, [], length};
-ghost use Rattle.std.specs.Prelude.{false, IfOk, IfSome, IfNone, IsOk, IsTrue, OnErr, OnOk};
+ghost use Rattle.std.specs.Prelude.{false, None, IfOk, IfSome, IfNone, IsOk, IsTrue, OnErr, OnOk};
 ghost use Rattle.feed_model.specs.Reply.{max_piece, missing_below};
 ghost use Rattle.feed_model.specs.Content.{byte_in};
 ghost use Rattle.feed_model.specs.Change.{merged};
 ghost use Rattle.feed_model.specs.Parts.{AgreesIn, Adds, AreWithin, Covers, DiffersIn, HasNew};
 ghost use Rattle.feed_parts.specs.Piece.{joined, total_length};
-ghost use Rattle.feed_parts.specs.Segments.{AreFew, AreSegments, IsFirstGap, IsLastFrom, IsTextOf};
+ghost use Rattle.feed_parts.specs.Segments.{AreFew, AreSegments, HasRun, IsFirstGap, IsLastFrom, IsTextOf};
 ghost use Rattle.feed_parts.specs.Shown.{shown_parts};
 
 use crate::gaps::{self, Gap};
@@ -106,6 +106,25 @@ impl Segments {
         ensures few { AreFew (length self.now.parts) (probes.new - probes.old) }
     {
         find(&self.parts, place, probes)
+    }
+
+    /// Returns the stored bytes from a place on, up to the end of the part that has the place. Returns no bytes exactly if
+    /// the place is missing. Does not allocate.
+    pub fn bytes_from(&self, place: u64) -> &[u8]
+        ensures stored { HasRun self.now.parts place result.now }
+        ensures missing { result.now ≡ [] → byte_in self.now.parts place ≡ None }
+    {
+        let mut probes = 0;
+        let Some(at) = find(&self.parts, place, &mut probes) else {
+            return &[];
+        };
+        let part = &self.parts[at];
+        let skipped = place - part.first;
+        if skipped < part.bytes.len() as u64 {
+            &part.bytes[skipped as usize..]
+        } else {
+            &[]
+        }
     }
 
     /// Returns the first gap of a file that has these segments: from the least missing place to the next one that is

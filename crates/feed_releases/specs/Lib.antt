@@ -12,6 +12,8 @@ pub mod Reason
 pub mod Answered
 pub mod Feeds
 pub mod Actives
+pub mod Running
+pub mod Ahead
 pub mod Growth
 pub mod Committed
 pub mod Statuses

@@ -2,12 +2,14 @@
 ghost use Rattle.std.specs.Prelude.{◌≡◌, ◌≤◌, length};
 ghost use Rattle.feed_model.specs.Reply.{max_held};
 ghost use Rattle.feed_releases.specs.ReleaseValue.{content_of};
+ghost use Rattle.feed_releases.specs.Ahead.{IsAhead};
 
 mod offer;
 mod piece;
 mod reopen;
 
 use crate::actives::{ActiveRelease, actives_of};
+use crate::ahead::Ahead;
 use crate::event::Event;
 use crate::feed::reopen::from_records;
 use crate::release::Release;
@@ -54,9 +56,12 @@ pub struct Feed<K: Keep + Drop> {
     alloc: Global,
     keeper: K,
     releases: Vec<Release>,
+    // The release whose file is read ahead. It changes nothing that a feed answers.
+    ahead: Option<Ahead>,
     ghost mirrors: { K.clean keeper → K.content keeper ≡ content_of releases.items },
     ghost listed: { K.clean keeper → ∥ K.listed keeper ∥₁ },
     ghost few: { length releases.items ≤ max_held },
+    ghost reads: { IsAhead releases.items ahead },
 }
 
 impl<K: Keep + Drop> Feed<K> {
@@ -112,6 +117,7 @@ impl<K: Keep + Drop> Feed<K> {
                 alloc,
                 keeper,
                 releases,
+                ahead: None,
             }),
             Err(cause) => Err(OpenFault { cause, keeper }),
         }
@@ -160,6 +166,22 @@ impl<K: Keep + Drop> Feed<K> {
             answers.push_reserved(self.handle(event));
         }
         Ok(answers)
+    }
+
+    /// Reads ahead in the release that took a piece last: checks at most 131,072 of its stored bytes. So its last piece
+    /// leaves little to check. Returns whether there is more to read. The feed answers as before.
+    pub fn read_on(&mut self) -> bool
+        ensures releases { releases_of self.new ≡ releases_of self.old }
+        ensures keeper { keeper_of self.new ≡ keeper_of self.old }
+    {
+        let Some(Ahead { at, running }) = self.ahead.take() else {
+            return false;
+        };
+        let Some((running, has_more)) = self.releases[at].read_on(self.alloc, running) else {
+            return false;
+        };
+        self.ahead = Some(Ahead { at, running });
+        has_more
     }
 
     /// Returns the active release of a package: the complete and good one with the latest day.
@@ -244,6 +266,7 @@ impl<K: Keep + Drop> Feed<K> {
             alloc: _,
             keeper,
             releases: _,
+            ahead: _,
         } = self;
         keeper
     }

@@ -3,6 +3,7 @@
 #![tactic(auto)]
 
 mod actives;
+mod ahead;
 mod commit;
 mod event;
 mod feed;
@@ -10,6 +11,7 @@ mod laws;
 mod overlap;
 mod release;
 mod releases;
+mod running;
 mod standing;
 mod statuses;
 

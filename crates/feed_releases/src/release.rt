@@ -1,15 +1,17 @@
 //! A recorded release in memory.
-ghost use Rattle.std.specs.Prelude.{◌≡◌, ◌≤◌, ◌+◌, length, None, option_map};
+ghost use Rattle.std.specs.Prelude.{◌≡◌, ◌≤◌, ◌+◌, length, None, IfSome, option_map};
 ghost use Rattle.feed_model.specs.Reply.{max_file, missing_below};
 ghost use Rattle.feed_model.specs.Content.{byte_in};
 ghost use Rattle.feed_model.specs.Change.{new_record};
 ghost use Rattle.feed_releases.specs.NextRange.{IsNextOf};
+ghost use Rattle.feed_releases.specs.Running.{IsRunning};
 ghost use Rattle.feed_releases.specs.ReleaseValue.{IsKnown, IsOverlapOf};
 
 mod growth;
 mod reopen;
 
 use crate::overlap::Overlap;
+use crate::running::Running;
 use crate::standing::Standing;
 use feed_kbart::{BadFile, Holdings};
 use feed_model::State;
@@ -110,6 +112,19 @@ impl Release {
             return None;
         }
         Some((gap.first, gap.first + (gap.end - gap.first).min(max) - 1))
+    }
+
+    /// Has a check of the file read on in the stored bytes, at most a window. Returns the check and whether it can read
+    /// further, or `None` if memory runs out.
+    pub(crate) fn read_on(&self, alloc: Global, running: Running) -> Option<(Running, bool)>
+        ensures { IfSome result (λ read. IsRunning self.now.kept.parts running
+            → IsRunning self.now.kept.parts read.0) }
+    {
+        let Some(running) = running.read_on(alloc, &self.kept) else {
+            return None;
+        };
+        let has_more = running.has_more(&self.kept);
+        Some((running, has_more))
     }
 
     /// Returns how a piece inside the file overlaps the stored bytes. Does not allocate.

@@ -68,6 +68,8 @@ impl<K: Keep + Drop> Feed<K> {
         let Ok(kept_name) = name.try_clone() else {
             return Err(Refusal::Memory);
         };
+        // The places of the releases change.
+        self.ahead = None;
         let at = place_for(&self.releases, name);
         let release = Release::new(self.alloc, kept_name, size);
         commit(&mut self.keeper, &Change::Add { name, size })?;

@@ -1,6 +1,7 @@
 //! The answer of a feed to a piece.
 ghost use Rattle.std.specs.Prelude.{◌≡◌};
 
+use crate::ahead::{Ahead, take_running};
 use crate::feed::Feed;
 use crate::overlap::Overlap;
 use crate::releases::{drop_earlier, find, is_passed};
@@ -67,10 +68,13 @@ impl<K: Keep + Drop> Feed<K> {
             → IsOverlapOf r first bytes.now Overlap.New }
         ensures { IsAnsweredBy self.old self.new (Piece name.now first total bytes.now) result }
     {
-        let growth = self.releases[at].growth(self.alloc, first, bytes)?;
+        let mut running = take_running(&mut self.ahead, at);
+        let growth = self.releases[at].growth(self.alloc, &mut running, first, bytes)?;
         let reply = self.releases[at].grow(&mut self.keeper, growth)?;
         if let Reply::Activated = reply {
             drop_earlier(&mut self.releases, name);
+        } else {
+            self.ahead = Ahead::of(at, running);
         }
         Ok(reply)
     }

@@ -1,17 +1,22 @@
 //! Adding the new bytes of a piece to a release: preparing them, and committing them.
-ghost use Rattle.std.specs.Prelude.{◌≡◌, ◌≤◌, ◌+◌, ℕ, List, length, IfOk, OnOk, OnErr};
-ghost use Rattle.feed_model.specs.Reply.{max_piece};
-ghost use Rattle.feed_model.specs.Change.{IsAllowed};
+ghost use Rattle.std.specs.Prelude.{◌≡◌, ◌≤◌, ◌+◌, ℕ, List, length, IfOk, IfSome, OnOk, OnErr};
+ghost use Rattle.feed_model.specs.Reply.{max_piece, missing_below};
+ghost use Rattle.feed_model.specs.Content.{byte_in};
+ghost use Rattle.feed_model.specs.Change.{IsAllowed, merged};
+ghost use Rattle.feed_model.specs.Parts.{Adds, AgreesIn};
 ghost use Rattle.feed_releases.specs.Committed.{IsCommitted};
 ghost use Rattle.feed_releases.specs.ReleaseValue.{IsOverlapOf};
 ghost use Rattle.feed_releases.specs.Standing.{reply_of, rows_of, record_after};
 ghost use Rattle.feed_releases.specs.Growth.{IsGrowth, change_of, parts_of};
+ghost use Rattle.feed_releases.specs.Judged.{IsJudged};
+ghost use Rattle.feed_releases.specs.Running.{IsRunning};
 
 use crate::commit::commit;
 use crate::overlap::Overlap;
 use crate::release::Release;
+use crate::running::{Running, begin};
 use crate::standing::Standing;
-use feed_kbart::{KbartFault, read_parts};
+use feed_kbart::{Holdings, KbartFault, read_parts};
 use feed_keep::Keep;
 use feed_model::{Refusal, Reply};
 use feed_parts::Segments;
@@ -26,12 +31,22 @@ pub(crate) struct Growth {
 }
 
 impl Release {
-    /// Prepares the new bytes of a piece. The only error is running out of memory.
-    pub(crate) fn growth(&self, alloc: Global, first: u64, bytes: &[u8]) -> Result<Growth, Refusal>
+    /// Prepares the new bytes of a piece. The check that is running goes on, or begins, while places are missing. A piece
+    /// that leaves none ends it. The only error is running out of memory.
+    pub(crate) fn growth(
+        &self,
+        alloc: Global,
+        running: &mut Option<Running>,
+        first: u64,
+        bytes: &[u8],
+    ) -> Result<Growth, Refusal>
         requires inside { first + length bytes.now ≤ self.now.kept.size }
         requires piece { length bytes.now ≤ max_piece }
         requires new { IsOverlapOf self.now.kept first bytes.now Overlap.New }
+        requires reads { IfSome running.old (IsRunning self.now.kept.parts) }
         ensures growth { IfOk result (IsGrowth self.now.kept first bytes.now) }
+        ensures reads { IfOk result (λ growth. IfSome running.new
+            (IsRunning (merged self.now.kept.parts (parts_of growth)))) }
         ensures refused { OnErr result (result ≡ Err Refusal.Memory) }
     {
         let Ok(new) = self.kept.new_parts(alloc, first, bytes) else {
@@ -39,10 +54,10 @@ impl Release {
         };
         let missing = self.kept.missing(self.size).saturating_sub(new.count());
         let standing = if missing > 0 {
+            begin(alloc, running);
             Standing::Partial
         } else {
-            let check = self.kept.reader_with(&new);
-            match read_parts(alloc, check, self.kept.reader_with(&new)) {
+            match self.read_whole(alloc, running.take(), first, bytes, &new) {
                 Ok(holdings) => Standing::Good(holdings),
                 Err(KbartFault::Bad(why)) => Standing::Bad(why),
                 // Parts in memory are within the limit of a file and are always read to their end, so only memory can
@@ -55,6 +70,30 @@ impl Release {
             missing,
             standing,
         })
+    }
+
+    // Reads the file that the new bytes of a piece complete, from where the check that is running stopped.
+    fn read_whole(
+        &self,
+        alloc: Global,
+        running: Option<Running>,
+        first: u64,
+        bytes: &[u8],
+        new: &Segments,
+    ) -> Result<Holdings, KbartFault>
+        requires reads { IfSome running (IsRunning self.now.kept.parts) }
+        requires agrees { AgreesIn self.now.kept.parts first bytes.now }
+        requires adds { Adds self.now.kept.size self.now.kept.parts first bytes.now new.now.parts }
+        requires whole { missing_below (byte_in (merged self.now.kept.parts new.now.parts)) self.now.kept.size ≡ 0 }
+        ensures { IsJudged self.now.kept.size (merged self.now.kept.parts new.now.parts) result }
+    {
+        let check = self.kept.reader_with(new);
+        if let Some(running) = running {
+            if let Some(outcome) = running.finish(alloc, self.size, &self.kept, first, bytes) {
+                return outcome;
+            }
+        }
+        read_parts(alloc, check, self.kept.reader_with(new))
     }
 
     /// Commits the new bytes, and then adds them to the release. Allocates before the commit only.

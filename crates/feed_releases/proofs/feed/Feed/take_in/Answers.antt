@@ -1,12 +1,13 @@
-use Rattle.std.proofs.Common.{inl, refl, sym, ◌∙◌, ap, arith}
+use Rattle.std.proofs.Common.{inl, refl, set, sym, ◌∙◌, ap, arith}
 use Rattle.std.proofs.lemmas.Result.{err_from_is_err_and}
 use Rattle.feed_model.specs.Change.{after}
 use Rattle.feed_model.proofs.Pieces.{piece_refused}
 use Rattle.feed_keep.proofs.Failed.{reported_as}
 use Rattle.feed_releases.specs.ReleaseValue.{ReleaseValue, content_of}
-use Rattle.feed_releases.specs.Growth.{change_of}
+use Rattle.feed_releases.specs.Growth.{change_of, parts_of}
 use Rattle.feed_releases.proofs.Answering.{idle, grown_commits, memory_not, memory_not_full, only_memory, refused, refused_with, taken_in}
 use Rattle.feed_releases.proofs.Growth.{found_here, length-set, name_at, one_at, set_back}
+use Rattle.feed_releases.proofs.ReadAhead.{read_after, read_at}
 use Rattle.feed_releases.proofs.Growing.{grown_right, growth_allowed, taken_activated, taken_kept}
 use Rattle.feed_releases.proofs.feed.Feed.take_in.Goals as goal
 
@@ -20,6 +21,11 @@ growth-requires-clause-piece g c =
 
 pub growth-requires-clause-new : goal.growth-requires-clause-new
 growth-requires-clause-new g c = c.requires.new c.index.result.now.kept (found_here c.args.self.now.releases.items c.args.name.now c.args.at c.index.result.now c.requires.place c.index.ensures)
+
+pub growth-requires-clause-reads : goal.growth-requires-clause-reads
+growth-requires-clause-reads g c =
+    read_at c.args.self.now.releases.items c.args.at c.index.result.now c.take_running-running.result c.index.ensures
+    (c.take_running-running.ensures.reads c.args.self.now.releases.items c.args.self.now.reads)
 
 pub returns-in_err-growth : goal.returns-in_err-growth
 returns-in_err-growth g c =
@@ -59,15 +65,15 @@ returns-in_err-reply g c =
     (reported_as c.in_err-reply.ensures.committed.counted (λ e. cc) (λ e. cc)) c.in_err-reply.ensures.committed.unloaded c.in_err-reply.ensures.committed.fault
     (piece_refused (content_of rs) n c.args.first c.args.total c.args.bytes.now r.kept _ reach lies.0 lies.1 (refused c.in_err-reply.field-0.0 c.in_err-reply.ensures.committed.fault)))
 
-pub invariant_of-self-in-Activated-clause-mirrors : goal.invariant_of-self-in-Activated-clause-mirrors
-invariant_of-self-in-Activated-clause-mirrors g c = λ clean.
+pub invariant_of-self-in-Activated-1-clause-mirrors : goal.invariant_of-self-in-Activated-1-clause-mirrors
+invariant_of-self-in-Activated-1-clause-mirrors g c = λ clean.
     let committed = c.in_ok-reply.ensures.committed in
     committed.made clean ∙ ap (after (change_of c.index_mut.result.now.kept c.in_ok-growth.growth)) (c.args.self.now.mirrors (committed.was clean))
     ∙ sym (taken_activated c.args.self.now.releases.items c.drop_earlier.new.releases.items c.args.name.now c.args.at c.index_mut.result.now c.grow.new.self c.in_ok-growth.growth _
     c.requires.place c.index_mut.ensures.value (ap (λ (y : ReleaseValue). y.kept) c.in_ok-reply.ensures.taken) c.in_ok-reply.ensures.reply c.in-Activated.is c.drop_earlier.ensures.dropped)
 
-pub invariant_of-self-in-Activated-clause-few : goal.invariant_of-self-in-Activated-clause-few
-invariant_of-self-in-Activated-clause-few g c =
+pub invariant_of-self-in-Activated-1-clause-few : goal.invariant_of-self-in-Activated-1-clause-few
+invariant_of-self-in-Activated-1-clause-few g c =
     omega (arith, c.drop_earlier.ensures.fewer, length-set c.args.self.now.releases.items c.args.at c.grow.new.self, c.args.self.now.few)
 
 pub invariant_of-self-in_default-clause-mirrors : goal.invariant_of-self-in_default-clause-mirrors
@@ -99,3 +105,18 @@ returns-in_default g c =
     c.in_ok-reply.ensures.committed.unloaded (grown_commits growth.missing growth.standing)
     (grown_right c.args.self.now.releases.items _ c.args.name.now c.args.at c.args.first c.args.total c.args.bytes.now c.index.result.now c.index_mut.result.now growth c.requires.place c.index.ensures
     c.index_mut.ensures.value c.requires.reaches c.requires.new c.in_ok-growth.ensures.growth content))
+
+pub invariant_of-self-in-Activated-1-clause-reads : goal.invariant_of-self-in-Activated-1-clause-reads
+invariant_of-self-in-Activated-1-clause-reads g c a is = absurd (let none = c.take_running-running.ensures.none in cc)
+
+pub invariant_of-self-in_default-clause-reads : goal.invariant_of-self-in_default-clause-reads
+invariant_of-self-in_default-clause-reads g c =
+    let rs = c.args.self.now.releases.items in
+    let r = c.index_mut.result.now in
+    let x = c.grow.new.self in
+    let growth = c.in_ok-growth.growth in
+    let same = one_at rs c.args.at c.index.result.now r c.requires.place.within c.index.ensures c.index_mut.ensures.value in
+    let reads = rw same at c.in_ok-growth.ensures.reads in
+    c.of.ensures (set rs c.args.at x) (omega (arith, c.requires.place.within, length-set rs c.args.at x))
+    (read_after rs c.args.at r x (parts_of growth) growth.standing c.growth.new.running c.requires.place.within
+    (ap (λ (y : ReleaseValue). y.kept) c.in_ok-reply.ensures.taken) reads)

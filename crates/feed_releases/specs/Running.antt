@@ -1,0 +1,24 @@
+-- A check that reads a file ahead.
+use Rattle.std.specs.Prelude.{◌≡◌, ℕ, List}
+use Rattle.feed_list_check.specs.Checks.{IsCheckOfList}
+use Rattle.feed_model.specs.History.{byte_at, or_else}
+use Rattle.feed_model.specs.Content.{IsText, Part, byte_in}
+use Rattle.feed_releases.specs.declared.running.Running.{Running}
+
+-- the most bytes that are read at once
+abbrev pub window : ℕ
+window = 131072
+
+-- the text that a check received is that of the parts up to its place
+pub record HasRead (parts : List Part) (running : Running) : Type 0 where
+  pub text : List ℕ
+  pub is : IsText running.next parts text
+  pub check : IsCheckOfList text running.check
+
+-- the check received the bytes that the parts have before its place
+abbrev pub IsRunning : List Part → Running → Type 0
+IsRunning parts running = ∥ HasRead parts running ∥₁
+
+-- the parts have the stored bytes, and at the other places those of a piece
+abbrev pub IsUnion : List Part → List Part → ℕ → List ℕ → Type 0
+IsUnion parts kept first bytes = (place : ℕ) → byte_in parts place ≡ or_else (byte_in kept place) (byte_at first bytes place)
