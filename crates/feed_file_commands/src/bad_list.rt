@@ -9,7 +9,7 @@ use std::fs::File;
 use std::io::{Read, Write};
 use std::{fmt, fs, io};
 
-// The most bytes that are read at a time. The first of these blocks is searched for the header.
+// The bytes that are read at a time. Only the first of these blocks is searched for the header.
 const BLOCK: usize = 65_536;
 
 // An incomplete character has at most three bytes.

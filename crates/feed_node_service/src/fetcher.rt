@@ -73,7 +73,7 @@ enum Step {
     End(FetchEnd),
 }
 
-// What has arrived of a reply.
+// What arrived of a reply, before the feed takes it.
 #[derive(Drop)]
 enum Arrived {
     /// Nothing that the feed takes.
