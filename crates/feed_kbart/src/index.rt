@@ -12,7 +12,8 @@ use std::alloc::{AllocError, Global};
 // The memory of this many entries is given back at a time: 8 MiB.
 const GIVEN_BACK: usize = 1_048_576;
 
-// The place of a row, and the number of an identifier that it has. In this order an entry lies in memory as its key.
+// The place of a row, and the number of an identifier that it has. In this order the bytes of an entry are those of its
+// key.
 #[derive(Clone, Copy)]
 struct Entry {
     place: u32,
@@ -80,8 +81,8 @@ fn give_back(entries: &mut Vec<Entry>)
     }
 }
 
-// Splits the entries into two columns. A list may have 60 million: they are taken out from the end, so that the columns
-// grow as the entries shrink.
+// Splits the entries into two columns. A list may have 30 million, so they are taken out from the end: the columns grow
+// as the entries shrink.
 fn columns_of(alloc: Global, mut entries: Vec<Entry>) -> Result<Index, AllocError>
     ensures numbers { IfOk result (λ index. index.numbers.items ≡ map (λ entry. entry.number) entries.items) }
     ensures places { IfOk result (λ index. index.places.items ≡ map (λ entry. entry.place) entries.items) }

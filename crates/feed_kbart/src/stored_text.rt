@@ -9,7 +9,7 @@ use std::alloc::AllocError;
 // The byte before a length of four bytes.
 const LONG: u8 = 255;
 
-// Most rows differ in their first bytes, this many. Each row has more.
+// Most rows differ in their first bytes, this many. Each row in a block has more.
 const NEAR: usize = 16;
 
 // Returns the length of a text. No text of a file is so long that its length does not fit.
