@@ -118,6 +118,15 @@ impl<'a, T: Stream, K: Keep + Drop, S: FeedRespond + Drop> NodeMachine<'a, T, K,
         outcome
     }
 
+    /// Has the feed read ahead in the release that took a piece last, at most 131,072 bytes. Returns whether there is
+    /// more to read.
+    pub fn read_on(&mut self) -> bool
+        ensures history { KeepsHistory S.wanted S.replies self.old self.new }
+        ensures later { IsLater S.wanted S.replies self.old self.new }
+    {
+        self.feed.read_on()
+    }
+
     /// Keeps what the responder computes of the active releases alone, which changes no reply. Returns whether that
     /// changed.
     ///

@@ -70,7 +70,7 @@ pub struct Server {
     last_tick: u64,
     /// Whether connections may wait to be accepted that no event will report.
     may_accept: bool,
-    /// Whether the last turn used all of its share, so that the next one does not block.
+    /// Whether work is left after the last turn, so that the next one does not block.
     has_more_work: bool,
 }
 
@@ -142,6 +142,11 @@ impl Server {
     /// Takes the request to another server, with the bytes of its reply, and with it the connection.
     pub fn take_request(&mut self) -> Option<OutgoingRequest> {
         self.outgoing.take()
+    }
+
+    /// Has the next turn not block, since work is left outside of the server.
+    pub fn skip_wait(&mut self) {
+        self.has_more_work = true;
     }
 
     /// Appends a text to the bodies of the streamed replies.

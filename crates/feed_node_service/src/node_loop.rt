@@ -149,7 +149,7 @@ impl<'a, O: Write> RunningNode<'a, O> {
         End::Memory
     }
 
-    // Runs a turn: the connections, the log, and the fetch that is under way. Returns why the node ends.
+    // Runs a turn: the connections, the log, and a step of the fetch that is under way. Returns why the node ends.
     #[tactic(auto, using(feed_node_machine::proofs::Later::later_after))]
     fn turn<K: Keep + Drop>(
         &mut self,
@@ -166,6 +166,11 @@ impl<'a, O: Write> RunningNode<'a, O> {
         }
         if let Err(fault) = self.log.flush() {
             return Some(End::Print(fault));
+        }
+        // The fetch waits until the list is read as far as it has arrived. So its last piece leaves little to read.
+        if node.read_on() {
+            server.skip_wait();
+            return None;
         }
         let was_busy = node.fetching().is_some();
         if !self.fetcher.advance(server, node) {

@@ -108,8 +108,8 @@ impl Segments {
         find(&self.parts, place, probes)
     }
 
-    /// Returns the stored bytes from a place on, up to the end of the part that has the place. Returns no bytes exactly if
-    /// the place is missing. Does not allocate.
+    /// Returns the stored bytes from a place on, up to the end of the part that has the place. Returns no bytes exactly
+    /// if the place is missing. Does not allocate.
     pub fn bytes_from(&self, place: u64) -> &[u8]
         ensures stored { HasRun self.now.parts place result.now }
         ensures missing { result.now ≡ [] → byte_in self.now.parts place ≡ None }

@@ -81,12 +81,12 @@ text_on n parts kept first bytes text union is = record {
       union_some parts kept first bytes place (get_or text place 0) union (is.bytes place within ∙ some) ∙ sym some);
 }
 
--- the law: a check goes on beside the bytes of a piece
+-- the law: a check continues beside the bytes of a piece
 pub running_on : (parts kept : List Part) (first : ℕ) (bytes : List ℕ) (running : Running) → IsUnion parts kept first bytes → IsRunning kept running → IsRunning parts running
 running_on parts kept first bytes running union running_was = ∥∥₁_map running_was (λ (was : HasRead kept running).
     record { text = was.text; is = text_on running.next parts kept first bytes was.text union was.is; check = was.check })
 
--- the bytes from the place on go on with the text
+-- the bytes from the place on continue the text
 pub running_more : (parts : List Part) (running further : Running) (bytes : List ℕ) → IsRunning parts running → HasRun parts running.next bytes → further.next ≡ running.next + length bytes
     → ((text : List ℕ) → IsCheckOfList text running.check → IsCheckOfList (text ++ bytes) further.check) → IsRunning parts further
 running_more parts running further bytes running_was run next step = ∥∥₁_map running_was (λ (was : HasRead parts running). record {
@@ -148,7 +148,7 @@ more_so parts place (x ∷ xs) false has missing is =
     let here : byte_in parts place ≡ Some x = rw same at (has 0 (omega arith)) in
     (λ more. some_is (byte_in parts place) x here, λ some. refl)
 
--- the check of a release goes on in the list of releases, beside the new parts of a piece
+-- the check of a release continues in the list of releases, beside the new parts of a piece
 pub read_at : (rs : List ReleaseValue) (at : ℕ) (r : ReleaseValue) (running : Option Running) → r ≡ get_or rs at r → IfSome running (IsReadAt rs at) → IfSome running (IsRunning r.kept.parts)
 read_at rs at r running here read = if_some running (IsReadAt rs at) (IsRunning r.kept.parts) read (λ a is. subst (λ (y : ReleaseValue). IsRunning y.kept.parts a) (sym here) (is r))
 

@@ -169,7 +169,7 @@ impl<K: Keep + Drop> Feed<K> {
     }
 
     /// Reads ahead in the release that took a piece last: checks at most 131,072 of its stored bytes. So its last piece
-    /// leaves little to check. Returns whether there is more to read. The feed answers as before.
+    /// leaves little to check. Returns whether there is more to read. Each answer is the one without this call.
     pub fn read_on(&mut self) -> bool
         ensures releases { releases_of self.new ≡ releases_of self.old }
         ensures keeper { keeper_of self.new ≡ keeper_of self.old }

@@ -87,6 +87,7 @@ impl Running {
         let Some(running) = self.read_rest(alloc, size, kept, first, bytes) else {
             return None;
         };
+        // A whole file has every place, so this is never so.
         if running.next != size {
             return None;
         }

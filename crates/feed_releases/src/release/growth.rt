@@ -31,8 +31,8 @@ pub(crate) struct Growth {
 }
 
 impl Release {
-    /// Prepares the new bytes of a piece. The check that is running goes on, or begins, while places are missing. A piece
-    /// that leaves none ends it. The only error is running out of memory.
+    /// Prepares the new bytes of a piece. While places are missing, the check that is running continues, or one begins.
+    /// The piece that completes the file ends it. The only error is running out of memory.
     pub(crate) fn growth(
         &self,
         alloc: Global,
