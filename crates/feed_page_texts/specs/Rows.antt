@@ -95,6 +95,17 @@ row_of text.NoNumber =
     "La demande ne contient ni ISSN ni ISBN avec sa clé de contrôle : aucune recherche n’a été faite."
 row_of text.OtherWays = row "other_ways" "Other ways to it" "Weitere Möglichkeiten" "Autres possibilités"
 row_of text.Request = row "request" "Request it from another library" "Über Fernleihe bestellen" "Demander par le prêt entre bibliothèques"
+row_of text.FindTitles = row "find_titles" "Find titles" "Titel finden" "Trouver des titres"
+row_of text.FieldTitle = row "field_title" "Title, or a part of it" "Titel oder ein Teil davon" "Titre ou une partie du titre"
+row_of text.TitleOrder =
+    row "title_order" "By package, and in the order of each list. Publishers are asked to sort a list from A to Z."
+    "Nach Paket, und in der Reihenfolge jeder Liste. Verlage sollen eine Liste von A bis Z ordnen."
+    "Par bouquet, et dans l’ordre de chaque liste. Les éditeurs sont priés de trier une liste de A à Z."
+row_of text.NoTitles =
+    row "no_titles" "No title contains this here."
+    "Hier enthält kein Titel diesen Text."
+    "Aucun titre ne contient ce texte ici."
+row_of text.FurtherTitles = row "further_titles" "Further titles" "Weitere Titel" "Autres titres"
 row_of text.Packages = row "packages" "Packages" "Pakete" "Bouquets"
 row_of text.FieldIssn = row "field_issn" "ISSN of a journal" "ISSN einer Zeitschrift" "ISSN d’une revue"
 row_of text.FieldIsbn = row "field_isbn" "or ISBN of a book" "oder ISBN eines Buches" "ou ISBN d’un livre"

@@ -1,5 +1,5 @@
 //! The words of each text in English, in the order of the texts.
-pub(crate) static ENGLISH: [&'static str; 70] = [
+pub(crate) static ENGLISH: [&'static str; 75] = [
     "Full text",
     "No full text found",
     "Not answered",
@@ -64,6 +64,11 @@ pub(crate) static ENGLISH: [&'static str; 70] = [
     "The query has no ISSN and no ISBN with its check character, so no holdings were looked up.",
     "Other ways to it",
     "Request it from another library",
+    "Find titles",
+    "Title, or a part of it",
+    "By package, and in the order of each list. Publishers are asked to sort a list from A to Z.",
+    "No title contains this here.",
+    "Further titles",
     "Packages",
     "ISSN of a journal",
     "or ISBN of a book",

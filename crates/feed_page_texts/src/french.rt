@@ -1,5 +1,5 @@
 //! The words of each text in French, in the order of the texts.
-pub(crate) static FRENCH: [&'static str; 70] = [
+pub(crate) static FRENCH: [&'static str; 75] = [
     "Texte intégral",
     "Aucun texte intégral trouvé",
     "Demande non traitée",
@@ -64,6 +64,11 @@ pub(crate) static FRENCH: [&'static str; 70] = [
     "La demande ne contient ni ISSN ni ISBN avec sa clé de contrôle : aucune recherche n’a été faite.",
     "Autres possibilités",
     "Demander par le prêt entre bibliothèques",
+    "Trouver des titres",
+    "Titre ou une partie du titre",
+    "Par bouquet, et dans l’ordre de chaque liste. Les éditeurs sont priés de trier une liste de A à Z.",
+    "Aucun titre ne contient ce texte ici.",
+    "Autres titres",
     "Bouquets",
     "ISSN d’une revue",
     "ou ISBN d’un livre",

@@ -1,5 +1,5 @@
 //! The words of each text in German, in the order of the texts.
-pub(crate) static GERMAN: [&'static str; 70] = [
+pub(crate) static GERMAN: [&'static str; 75] = [
     "Volltext",
     "Kein Volltext gefunden",
     "Nicht beantwortet",
@@ -64,6 +64,11 @@ pub(crate) static GERMAN: [&'static str; 70] = [
     "Die Anfrage enthält keine ISSN oder ISBN mit richtiger Prüfziffer, daher wurde kein Bestand gesucht.",
     "Weitere Möglichkeiten",
     "Über Fernleihe bestellen",
+    "Titel finden",
+    "Titel oder ein Teil davon",
+    "Nach Paket, und in der Reihenfolge jeder Liste. Verlage sollen eine Liste von A bis Z ordnen.",
+    "Hier enthält kein Titel diesen Text.",
+    "Weitere Titel",
     "Pakete",
     "ISSN einer Zeitschrift",
     "oder ISBN eines Buches",

@@ -1,5 +1,5 @@
 //! The name of each text, by which a site file replaces it, in the order of the texts.
-pub(crate) static NAMES: [&'static str; 70] = [
+pub(crate) static NAMES: [&'static str; 75] = [
     "full_text",
     "no_full_text",
     "not_answered",
@@ -64,6 +64,11 @@ pub(crate) static NAMES: [&'static str; 70] = [
     "no_number",
     "other_ways",
     "request",
+    "find_titles",
+    "field_title",
+    "title_order",
+    "no_titles",
+    "further_titles",
     "packages",
     "field_issn",
     "field_isbn",

@@ -67,6 +67,11 @@ pub enum Text {
     NoNumber,
     OtherWays,
     Request,
+    FindTitles,
+    FieldTitle,
+    TitleOrder,
+    NoTitles,
+    FurtherTitles,
     Packages,
     FieldIssn,
     FieldIsbn,
@@ -76,7 +81,7 @@ pub enum Text {
 }
 
 /// All texts.
-pub const TEXTS: [Text; 70] = [
+pub const TEXTS: [Text; 75] = [
     Text::FullText,
     Text::NoFullText,
     Text::NotAnswered,
@@ -141,6 +146,11 @@ pub const TEXTS: [Text; 70] = [
     Text::NoNumber,
     Text::OtherWays,
     Text::Request,
+    Text::FindTitles,
+    Text::FieldTitle,
+    Text::TitleOrder,
+    Text::NoTitles,
+    Text::FurtherTitles,
     Text::Packages,
     Text::FieldIssn,
     Text::FieldIsbn,

@@ -16,7 +16,7 @@ use Rattle.feed_resolver_request.specs.Forms.{form_of}
 use Rattle.feed_resolver_request.specs.declared.form.FormFault.{FormFault}
 use Rattle.feed_resolver_request.specs.declared.form.FormFault.TheVariants as fault
 use Rattle.feed_resolver_request.specs.declared.representation.Representation.{Representation}
-use Rattle.feed_resolver_request.specs.declared.representation.Representation.TheVariants.{Text, Html}
+use Rattle.feed_resolver_request.specs.declared.representation.Representation.TheVariants.{Text, Json, Html}
 use Rattle.feed_resolver_request.specs.declared.target.Resource.{Resource}
 use Rattle.feed_resolver_request.specs.declared.target.Resource.TheVariants as resource
 use Rattle.feed_resolver_reply.specs.Replies.{ReplyValue, refusal, redirect_to, reply_with}
@@ -27,6 +27,11 @@ use Rattle.feed_resolver_hits.specs.Asked.{asked_of}
 use Rattle.feed_resolver_hits.specs.Asks.{AskValue, ask_of, names_work}
 use Rattle.feed_site.specs.Site as site_file
 use Rattle.feed_resolver_page.specs.QueryRefusals.{asks_for_form, form_page, is_numberless, numberless_body, numberless_status, reason_text, unasked_reply}
+use Rattle.feed_resolver_page.specs.TitlesPage.{titles_by}
+use Rattle.feed_titles.specs.Asks as title_asks
+use Rattle.feed_titles.specs.declared.asked.TitleFault.{TitleFault}
+use Rattle.feed_titles.specs.declared.asked.TitleFault.TheVariants.{BadStart, NoText, TooLong}
+use Rattle.feed_releases.specs.Actives.{ActiveValue}
 use Rattle.feed_site.specs.Urls.{is_link, url_limit, is_visible, begins_with}
 use Rattle.feed_resolver_hits.specs.Hits.{best_link}
 use Rattle.feed_resolver_hits.specs.Tallies.{counted}
@@ -102,6 +107,15 @@ go_located : (representation : Representation) (text : List ℕ) (actives : Site
 go_located representation text actives =
     query_located actives status.NotFound representation text (redirect_reply representation text actives) (asked_of text) (best_located representation text actives)
 
+titles_located : (site : site_file.SiteValue) (representation : Representation) (actives : List ActiveValue) (o : Result title_asks.AskValue TitleFault)
+    → IsLocated (titles_by site representation actives o)
+titles_located site representation actives (Ok ask) = plain
+titles_located site Html actives (Err NoText) = plain
+titles_located site Html actives (Err TooLong) = plain
+titles_located site Html actives (Err BadStart) = plain
+titles_located site Text actives (Err why) = plain
+titles_located site Json actives (Err why) = plain
+
 resource_located : (r : Resource) (head : RequestHead) (path query : List ℕ) (actives : Sited) → IsLocated (resource_reply r head path query actives)
 resource_located resource.Home head path query actives = plain
 resource_located resource.Status head path query actives = plain
@@ -110,6 +124,8 @@ resource_located resource.Package head path query actives =
     package_located (representation_of query head) query actives (refusal status.NotFound (representation_of query head) (codes "NoRelease"))
     (position (is_of (package_in path)) actives.actives) plain
 resource_located resource.Go head path query actives = go_located (accepted_representation head) query actives
+resource_located resource.Titles head path query actives =
+    titles_located actives.library (representation_of query head) actives.actives (title_asks.ask_of query)
 resource_located resource.Unknown head path query actives = plain
 
 target_located : (head : RequestHead) (query : List ℕ) (actives : Sited) → IsLocated (target_reply head query actives)
@@ -121,6 +137,7 @@ method_located resource.Status = plain
 method_located resource.Resolve = plain
 method_located resource.Package = plain
 method_located resource.Go = plain
+method_located resource.Titles = plain
 method_located resource.Unknown = plain
 
 plain_located : (head : RequestHead) (actives : Sited) → IsLocated (plain_reply head actives)

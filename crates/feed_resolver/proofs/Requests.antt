@@ -23,6 +23,7 @@ use Rattle.feed_resolver_request.specs.declared.form.FormFault.TheVariants as fa
 use Rattle.feed_resolver_request.specs.declared.representation.Representation.{Representation}
 use Rattle.feed_resolver_request.specs.Targets.{path_in, query_in, resource_of, package_in, is_unsupported_method}
 use Rattle.feed_resolver.specs.Status.{home_page, status_body}
+use Rattle.feed_resolver_page.specs.TitlesPage.{titles_reply}
 use Rattle.feed_resolver_request.specs.declared.representation.Representation.TheVariants.{Text, Html}
 use Rattle.feed_resolver_request.specs.declared.target.Resource.{Resource}
 use Rattle.feed_resolver_request.specs.declared.target.Resource.TheVariants as resource
@@ -156,6 +157,7 @@ same_parts resource.Status head other path query actives wants accepts = rw want
 same_parts resource.Resolve head other path query actives wants accepts = rw wants refl
 same_parts resource.Package head other path query actives wants accepts = rw wants refl
 same_parts resource.Go head other path query actives wants accepts = rw accepts refl
+same_parts resource.Titles head other path query actives wants accepts = rw wants refl
 same_parts resource.Unknown head other path query actives wants accepts = rw accepts refl
 
 same_resource : (r : Resource) (head : RequestHead) (path query : List ℕ) (actives : Sited) → resource_reply r (as_get head) path query actives ≡ resource_reply r head path query actives
@@ -287,6 +289,7 @@ answer_by resource.Status named accepted path query actives = reply_with status.
 answer_by resource.Resolve named accepted path query actives = resolve_reply named query actives
 answer_by resource.Package named accepted path query actives = package_reply named (package_in path) query actives
 answer_by resource.Go named accepted path query actives = go_reply accepted query actives
+answer_by resource.Titles named accepted path query actives = titles_reply actives.library named query actives.actives
 answer_by resource.Unknown named accepted path query actives = refusal status.NotFound accepted (codes "NoTarget")
 
 answered_by : (r : Resource) (head : RequestHead) (path query : List ℕ) (actives : Sited)
@@ -296,6 +299,7 @@ answered_by resource.Status head path query actives = refl
 answered_by resource.Resolve head path query actives = refl
 answered_by resource.Package head path query actives = refl
 answered_by resource.Go head path query actives = refl
+answered_by resource.Titles head path query actives = refl
 answered_by resource.Unknown head path query actives = refl
 
 -- a reply depends on no more of a head than its fields

@@ -26,6 +26,7 @@ use Rattle.feed_resolver_reply.specs.declared.status.Status.TheVariants as statu
 use Rattle.feed_resolver_hits.specs.Asked.{asked_of}
 use Rattle.feed_resolver_hits.specs.Asks.{ask_of}
 use Rattle.feed_resolver_page.specs.QueryRefusals.{unasked_reply}
+use Rattle.feed_resolver_page.specs.TitlesPage.{titles_reply}
 use Rattle.feed_resolver.specs.Answers.{Dated, Sited, dated, is_of, only_at, sited, tally_among, answers_body}
 use Rattle.feed_resolver_tag.specs.Tags.{SiteValue}
 use Rattle.feed_resolver.specs.Status.{status_body, home_page}
@@ -73,6 +74,8 @@ resource_reply resource.Status head path query actives =
 resource_reply resource.Resolve head path query actives = resolve_reply (representation_of query head) query actives
 resource_reply resource.Package head path query actives = package_reply (representation_of query head) (package_in path) query actives
 resource_reply resource.Go head path query actives = go_reply (accepted_representation head) query actives
+resource_reply resource.Titles head path query actives =
+    titles_reply actives.library (representation_of query head) query actives.actives
 resource_reply resource.Unknown head path query actives = refusal status.NotFound (accepted_representation head) (codes "NoTarget")
 
 -- the path of a request's target, and the query in it

@@ -10,6 +10,7 @@ ghost use Rattle.feed_releases.specs.Feeds.{recorded, releases_of};
 ghost use Rattle.feed_resolver_request.specs.Targets.{resource_of};
 ghost use Rattle.feed_resolver_hits.specs.Asks.{ask_of};
 ghost use Rattle.feed_resolver_page.specs.QueryRefusals.{unasked_reply};
+ghost use Rattle.feed_resolver_page.specs.TitlesPage.{titles_reply};
 ghost use Rattle.feed_resolver_reply.specs.Replies.{reply_with};
 ghost use Rattle.feed_resolver_reply.specs.Messages.{IsMessageFor};
 ghost use Rattle.feed_resolver_reply.specs.declared.status.Status.TheVariants as status;
@@ -165,6 +166,24 @@ fn go_reply(alloc: Global, asked: &Asked<'_>, context: &Context<'_>) -> Result<R
     }
 }
 
+fn titles_reply(
+    alloc: Global,
+    asked: &Asked<'_>,
+    context: &Context<'_>,
+) -> Result<Reply, AllocError>
+    ensures { IfOk result (λ reply. reply
+        ≡ titles_reply context.now.site.library asked.now.representation asked.now.text context.now.actives.actives) }
+{
+    let (text, representation) = (asked.text, asked.representation);
+    feed_resolver_page::titles_reply(
+        alloc,
+        context.library(),
+        representation,
+        text,
+        context.actives,
+    )
+}
+
 fn home_reply(
     alloc: Global,
     site: &SiteFile,
@@ -220,6 +239,7 @@ fn resource_reply(
         Resource::Resolve => resolve_reply(alloc, &asked, context),
         Resource::Package => package_reply(alloc, package_in(path), &asked, context),
         Resource::Go => go_reply(alloc, &to_go, context),
+        Resource::Titles => titles_reply(alloc, &asked, context),
         Resource::Unknown => refusal(alloc, Status::NotFound, accepted, b"NoTarget"),
     }
 }

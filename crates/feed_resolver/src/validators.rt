@@ -37,7 +37,7 @@ fn has_validator(resource: Resource) -> bool
 {
     matches!(
         resource,
-        Resource::Status | Resource::Resolve | Resource::Package
+        Resource::Status | Resource::Resolve | Resource::Package | Resource::Titles
     )
 }
 
@@ -201,7 +201,7 @@ fn preflight_of(resource: Resource) -> Option<Status>
     ensures { result ≡ preflight_of resource }
 {
     match resource {
-        Resource::Home | Resource::Status => Some(Status::Preflight),
+        Resource::Home | Resource::Status | Resource::Titles => Some(Status::Preflight),
         Resource::Resolve | Resource::Package | Resource::Go => Some(Status::QueryPreflight),
         Resource::Unknown => None,
     }

@@ -22,6 +22,7 @@ mod top;
 pub use answer_json::put_answer_json;
 pub use ask::{Ask, is_blank, names_work};
 pub use asked::read_query;
+pub use coverage::{days_words, volumes_words};
 pub use hits::{ReleaseHit, name_text};
 pub use hits_json::put_release_members;
 pub use hits_text::put_release;

@@ -17,6 +17,7 @@ use Rattle.feed_resolver_page.specs.CitationPage.{citation_part}
 use Rattle.feed_resolver_page.specs.Frames.{page_top}
 use Rattle.feed_resolver_page.specs.HitsPage.{page_bottom, page_foot, paragraph}
 use Rattle.feed_resolver_page.specs.SearchForms.{search_form}
+use Rattle.feed_resolver_page.specs.TitlesForms.{titles_form}
 use Rattle.feed_page_texts.specs.declared.table.Text.TheVariants as page
 
 -- the name of a reason
@@ -33,9 +34,9 @@ is_numberless reason.NoIssn = true
 is_numberless reason.NoIsbn = true
 is_numberless reason = false
 
--- the citation of the query, and that nothing is looked up
+-- the citation of the query, that nothing is looked up, and the form for its title
 unfoldable pub nothing_part : site_file.SiteValue → AskValue → List ℕ
-nothing_part site ask = citation_part site ask ++ paragraph site page.NoNumber
+nothing_part site ask = citation_part site ask ++ (paragraph site page.NoNumber ++ titles_form site ask.citation.title)
 
 -- the page with the form, for a query
 unfoldable pub nothing_page : site_file.SiteValue → List ℕ → AskValue → List ℕ
@@ -64,9 +65,9 @@ abbrev pub asks_for_form : List ℕ → Representation → Bool
 asks_for_form [] Html = true
 asks_for_form query representation = false
 
--- the page with the form alone
+-- the page with the forms alone
 unfoldable pub form_page : site_file.SiteValue → List ℕ
-form_page site = page_top site page.FindHoldings ++ (search_form site [] ++ page_foot site)
+form_page site = page_top site page.FindHoldings ++ (search_form site [] ++ (titles_form site [] ++ page_foot site))
 
 -- the reply to a query for which nothing is looked up: the form, if a browser sends no query; with this status, if it has no
 -- number and its citation names a work; otherwise it is rejected

@@ -229,8 +229,13 @@ fn put_answer(
     put_found(out, site, ask.citation.title.as_bytes(), tally, others)
 }
 
+/// Writes a link with its label.
 #[tactic(auto, unfolding(crate::specs::HitsPage::link_to))]
-fn put_link_to<'a>(out: &mut Vec<u8>, label: &'a [u8], url: &'a [u8]) -> Result<(), AllocError>
+pub(crate) fn put_link_to<'a>(
+    out: &mut Vec<u8>,
+    label: &'a [u8],
+    url: &'a [u8],
+) -> Result<(), AllocError>
     ensures { OnOk result (out.new.items ≡ out.old.items ++ link_to label.now url.now) }
 {
     put_all(

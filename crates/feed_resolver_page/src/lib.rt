@@ -11,9 +11,14 @@ mod form;
 mod frame;
 mod hits_page;
 mod refusals;
+mod titles;
+mod titles_form;
+mod titles_page;
 
 pub use card::Fit;
 pub use form::put_search_form;
 pub use frame::put_page_top;
 pub use hits_page::{put_hits_page, put_page_foot, put_section_heading};
 pub use refusals::unasked_reply;
+pub use titles_form::put_titles_form;
+pub use titles_page::titles_reply;

@@ -12,6 +12,7 @@ use crate::citation_page::put_citation;
 use crate::form::put_search_form;
 use crate::frame::put_page_top;
 use crate::hits_page::{put_bottom, put_page_foot, put_paragraph};
+use crate::titles_form::put_titles_form;
 use feed_openurl::Refusal;
 use feed_page_texts::Text;
 use feed_pieces::put_all;
@@ -44,7 +45,8 @@ fn put_nothing(out: &mut Vec<u8>, site: &SiteFile, ask: &Ask) -> Result<(), Allo
     ensures { OnOk result (out.new.items ≡ out.old.items ++ nothing_part site.now ask.now) }
 {
     put_citation(out, site, ask)?;
-    put_paragraph(out, site, Text::NoNumber)
+    put_paragraph(out, site, Text::NoNumber)?;
+    put_titles_form(out, site, ask.citation.title.as_bytes())
 }
 
 #[tactic(auto, unfolding(crate::specs::QueryRefusals::nothing_page))]
@@ -147,6 +149,7 @@ fn put_form_page(out: &mut Vec<u8>, site: &SiteFile) -> Result<(), AllocError>
 {
     put_page_top(out, site, Text::FindHoldings)?;
     put_search_form(out, site, &[])?;
+    put_titles_form(out, site, b"")?;
     put_page_foot(out, site)
 }
 

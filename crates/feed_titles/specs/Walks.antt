@@ -36,7 +36,7 @@ walk_at start =
 abbrev pub place_of : WalkValue → ℕ
 place_of walk = walk.start + (look_limit - walk.looks)
 
--- a walk without room for one more row
+-- the walk ends before one more row
 abbrev pub is_full : ℕ → ℕ → ℕ → Bool
 is_full looks room bytes = (looks == 0) || (room == 0) || (bytes == 0)
 

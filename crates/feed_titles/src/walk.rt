@@ -161,7 +161,7 @@ impl<'a> Walk<'a> {
         self.start as usize + LOOK_LIMIT.saturating_sub(self.looks)
     }
 
-    // Returns whether there is no room for one more row.
+    // Returns whether the walk ends before one more row.
     fn is_full(&self) -> bool
         ensures { result ≡ is_full self.now.looks self.now.room self.now.bytes }
     {
