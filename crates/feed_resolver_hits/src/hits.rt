@@ -2,7 +2,7 @@
 ghost use Rattle.std.specs.Prelude.{◌≡◌, IfOk, option_copied};
 ghost use Rattle.std.specs.Cow.{cow_slice_items};
 ghost use Rattle.feed_answer.specs.HitValue.{hit_of};
-ghost use Rattle.feed_resolver_hits.specs.Hits.{days_asked, is_held, link_text, name_text, release_hit};
+ghost use Rattle.feed_resolver_hits.specs.Hits.{days_asked, is_certain, is_held, link_text, name_text, release_hit};
 
 use crate::rank::is_free;
 use crate::search::Search;
@@ -119,6 +119,17 @@ impl<'a> ReleaseHit<'a> {
         ensures { result ≡ self.now.hit.grade }
     {
         self.grade
+    }
+
+    /// Returns whether a reader may be sent to the hit without a choice: all days that the query asks for are open, and
+    /// the row covers the whole of what is asked for.
+    pub(crate) fn is_certain(&self) -> bool
+        ensures { result ≡ is_certain self.now }
+    {
+        matches!(
+            (self.availability, self.grade),
+            (Availability::Available, Grade::Inside)
+        )
     }
 
     /// Returns how the days that the query asks for lie in those that are open to readers.

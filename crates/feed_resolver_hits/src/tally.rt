@@ -6,7 +6,7 @@ ghost use Rattle.feed_answer.specs.Answers.{answer_of};
 ghost use Rattle.feed_answer.specs.HitValue.{hit_of};
 ghost use Rattle.feed_answer.specs.Places.{hit_at};
 ghost use Rattle.feed_resolver_hits.specs.Hits.{library_hits};
-ghost use Rattle.feed_resolver_hits.specs.Tallies.{left_out};
+ghost use Rattle.feed_resolver_hits.specs.Tallies.{left_out, sole_link};
 ghost use Rattle.feed_resolver_hits.specs.Tallying.{no_hits, with_hit, with_hits, tally_from};
 
 use crate::candidates::sole_places;
@@ -105,6 +105,22 @@ impl<'a> Tally<'a> {
         ensures { option_copied result ≡ (tally_from self.now).best }
     {
         self.links.best()
+    }
+
+    /// Returns the link of the sole hit, if there is only one, a reader may be sent there without a choice, and it has
+    /// a link.
+    pub fn sole_link(&self) -> Option<&[u8]>
+        ensures { option_copied result ≡ sole_link (tally_from self.now) }
+    {
+        if self.count() != 1 {
+            return None;
+        }
+        let (found, _) = self.shown().split_first()?;
+        if found.is_certain() {
+            self.best_link()
+        } else {
+            None
+        }
     }
 
     fn count_hit(&mut self, alloc: Global, found: ReleaseHit<'a>) -> Result<(), AllocError>
