@@ -31,7 +31,10 @@ pub enum Text {
     Free,
     AvailableFrom,
     AvailableTo,
+    AvailableFromYear,
+    AvailableToYear,
     To,
+    ToYear,
     ToPresent,
     FromVolume,
     UpToVolume,
@@ -65,6 +68,10 @@ pub enum Text {
     HeldOther,
     NoHoldings,
     NoNumber,
+    NoPage,
+    NoList,
+    LinkNotRead,
+    TooManyNumbers,
     OtherWays,
     Request,
     Packages,
@@ -76,7 +83,7 @@ pub enum Text {
 }
 
 /// All texts.
-pub const TEXTS: [Text; 70] = [
+pub const TEXTS: [Text; 77] = [
     Text::FullText,
     Text::NoFullText,
     Text::NotAnswered,
@@ -105,7 +112,10 @@ pub const TEXTS: [Text; 70] = [
     Text::Free,
     Text::AvailableFrom,
     Text::AvailableTo,
+    Text::AvailableFromYear,
+    Text::AvailableToYear,
     Text::To,
+    Text::ToYear,
     Text::ToPresent,
     Text::FromVolume,
     Text::UpToVolume,
@@ -139,6 +149,10 @@ pub const TEXTS: [Text; 70] = [
     Text::HeldOther,
     Text::NoHoldings,
     Text::NoNumber,
+    Text::NoPage,
+    Text::NoList,
+    Text::LinkNotRead,
+    Text::TooManyNumbers,
     Text::OtherWays,
     Text::Request,
     Text::Packages,

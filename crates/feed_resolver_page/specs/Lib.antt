@@ -6,4 +6,5 @@ pub mod CitationPage
 pub mod Frames
 pub mod SearchForms
 pub mod HitsPage
+pub mod ErrorPages
 pub mod QueryRefusals
