@@ -1,5 +1,5 @@
 //! The words of each text in English, in the order of the texts.
-pub(crate) static ENGLISH: [&'static str; 75] = [
+pub(crate) static ENGLISH: [&'static str; 82] = [
     "Full text",
     "No full text found",
     "Not answered",
@@ -28,6 +28,9 @@ pub(crate) static ENGLISH: [&'static str; 75] = [
     "Free to read",
     "Available from",
     "Available to",
+    "Available from",
+    "Available to",
+    "to",
     "to",
     "to the present",
     "From volume",
@@ -62,6 +65,10 @@ pub(crate) static ENGLISH: [&'static str; 75] = [
     "This library has the title, but not for what you asked for.",
     "No holdings match.",
     "The query has no ISSN and no ISBN with its check character, so no holdings were looked up.",
+    "There is no page at this address. Search for the journal or the book here.",
+    "This package has no list at present. Search in all packages here.",
+    "This link does not cite a journal or a book in a form that can be read. Enter the ISSN or the ISBN here.",
+    "This link has too many ISSNs and ISBNs. Search for one of them here.",
     "Other ways to it",
     "Request it from another library",
     "Find titles",

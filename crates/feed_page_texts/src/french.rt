@@ -1,5 +1,5 @@
 //! The words of each text in French, in the order of the texts.
-pub(crate) static FRENCH: [&'static str; 75] = [
+pub(crate) static FRENCH: [&'static str; 82] = [
     "Texte intégral",
     "Aucun texte intégral trouvé",
     "Demande non traitée",
@@ -28,7 +28,10 @@ pub(crate) static FRENCH: [&'static str; 75] = [
     "Accès libre",
     "Disponible du",
     "Disponible jusqu’au",
+    "Disponible de",
+    "Disponible jusqu’en",
     "au",
+    "à",
     "à aujourd’hui",
     "À partir du volume",
     "Jusqu’au volume",
@@ -62,6 +65,10 @@ pub(crate) static FRENCH: [&'static str; 75] = [
     "Cette bibliothèque possède ce titre, mais pas ce que vous demandez.",
     "Aucune ressource ne correspond à votre demande.",
     "La demande ne contient ni ISSN ni ISBN avec sa clé de contrôle : aucune recherche n’a été faite.",
+    "Il n’y a pas de page à cette adresse. Cherchez ici la revue ou le livre.",
+    "Ce bouquet n’a pas de liste pour le moment. Cherchez ici dans tous les bouquets.",
+    "Ce lien ne cite ni revue ni livre sous une forme lisible. Saisissez ici l’ISSN ou l’ISBN.",
+    "Ce lien contient trop d’ISSN et d’ISBN. Cherchez ici l’un d’eux.",
     "Autres possibilités",
     "Demander par le prêt entre bibliothèques",
     "Trouver des titres",

@@ -1,5 +1,5 @@
 //! The words of each text in German, in the order of the texts.
-pub(crate) static GERMAN: [&'static str; 75] = [
+pub(crate) static GERMAN: [&'static str; 82] = [
     "Volltext",
     "Kein Volltext gefunden",
     "Nicht beantwortet",
@@ -28,7 +28,10 @@ pub(crate) static GERMAN: [&'static str; 75] = [
     "Frei zugänglich",
     "Verfügbar vom",
     "Verfügbar bis zum",
+    "Verfügbar von",
+    "Verfügbar bis",
     "bis zum",
+    "bis",
     "bis heute",
     "Ab Band",
     "Bis Band",
@@ -62,6 +65,10 @@ pub(crate) static GERMAN: [&'static str; 75] = [
     "Diese Bibliothek hat den Titel, aber nicht für Ihre Anfrage.",
     "Kein Bestand passt zu Ihrer Anfrage.",
     "Die Anfrage enthält keine ISSN oder ISBN mit richtiger Prüfziffer, daher wurde kein Bestand gesucht.",
+    "Unter dieser Adresse gibt es keine Seite. Suchen Sie hier nach der Zeitschrift oder dem Buch.",
+    "Für dieses Paket gibt es derzeit keine Liste. Suchen Sie hier in allen Paketen.",
+    "Dieser Link nennt keine Zeitschrift und kein Buch in lesbarer Form. Geben Sie hier die ISSN oder die ISBN ein.",
+    "Dieser Link enthält zu viele ISSN und ISBN. Suchen Sie hier nach einer davon.",
     "Weitere Möglichkeiten",
     "Über Fernleihe bestellen",
     "Titel finden",

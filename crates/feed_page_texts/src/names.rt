@@ -1,5 +1,5 @@
 //! The name of each text, by which a site file replaces it, in the order of the texts.
-pub(crate) static NAMES: [&'static str; 75] = [
+pub(crate) static NAMES: [&'static str; 82] = [
     "full_text",
     "no_full_text",
     "not_answered",
@@ -28,7 +28,10 @@ pub(crate) static NAMES: [&'static str; 75] = [
     "free",
     "available_from",
     "available_to",
+    "available_from_year",
+    "available_to_year",
     "to",
+    "to_year",
     "to_present",
     "from_volume",
     "up_to_volume",
@@ -62,6 +65,10 @@ pub(crate) static NAMES: [&'static str; 75] = [
     "held_other",
     "no_holdings",
     "no_number",
+    "no_page",
+    "no_list",
+    "link_not_read",
+    "too_many_numbers",
     "other_ways",
     "request",
     "find_titles",

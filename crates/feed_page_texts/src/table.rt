@@ -31,7 +31,10 @@ pub enum Text {
     Free,
     AvailableFrom,
     AvailableTo,
+    AvailableFromYear,
+    AvailableToYear,
     To,
+    ToYear,
     ToPresent,
     FromVolume,
     UpToVolume,
@@ -65,6 +68,10 @@ pub enum Text {
     HeldOther,
     NoHoldings,
     NoNumber,
+    NoPage,
+    NoList,
+    LinkNotRead,
+    TooManyNumbers,
     OtherWays,
     Request,
     FindTitles,
@@ -81,7 +88,7 @@ pub enum Text {
 }
 
 /// All texts.
-pub const TEXTS: [Text; 75] = [
+pub const TEXTS: [Text; 82] = [
     Text::FullText,
     Text::NoFullText,
     Text::NotAnswered,
@@ -110,7 +117,10 @@ pub const TEXTS: [Text; 75] = [
     Text::Free,
     Text::AvailableFrom,
     Text::AvailableTo,
+    Text::AvailableFromYear,
+    Text::AvailableToYear,
     Text::To,
+    Text::ToYear,
     Text::ToPresent,
     Text::FromVolume,
     Text::UpToVolume,
@@ -144,6 +154,10 @@ pub const TEXTS: [Text; 75] = [
     Text::HeldOther,
     Text::NoHoldings,
     Text::NoNumber,
+    Text::NoPage,
+    Text::NoList,
+    Text::LinkNotRead,
+    Text::TooManyNumbers,
     Text::OtherWays,
     Text::Request,
     Text::FindTitles,

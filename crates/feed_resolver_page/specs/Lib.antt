@@ -9,4 +9,5 @@ pub mod HitsPage
 pub mod TitlesForms
 pub mod Titles
 pub mod TitlesPage
+pub mod ErrorPages
 pub mod QueryRefusals
