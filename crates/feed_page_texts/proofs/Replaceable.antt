@@ -83,6 +83,7 @@ texts_have_names text.FieldTitle = refl
 texts_have_names text.TitleOrder = refl
 texts_have_names text.NoTitles = refl
 texts_have_names text.FurtherTitles = refl
+texts_have_names text.TitlesNotRead = refl
 texts_have_names text.Packages = refl
 texts_have_names text.FieldIssn = refl
 texts_have_names text.FieldIsbn = refl

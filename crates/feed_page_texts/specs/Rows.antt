@@ -125,6 +125,10 @@ row_of text.NoTitles =
     "Hier enthält kein Titel diesen Text."
     "Aucun titre ne contient ce texte ici."
 row_of text.FurtherTitles = row "further_titles" "Further titles" "Weitere Titel" "Autres titres"
+row_of text.TitlesNotRead =
+    row "titles_not_read" "This search cannot be read. Enter a title, or a part of it, here."
+    "Diese Suche ist nicht lesbar. Geben Sie hier einen Titel oder einen Teil davon ein."
+    "Cette recherche n’est pas lisible. Saisissez ici un titre ou une partie du titre."
 row_of text.Packages = row "packages" "Packages" "Pakete" "Bouquets"
 row_of text.FieldIssn = row "field_issn" "ISSN of a journal" "ISSN einer Zeitschrift" "ISSN d’une revue"
 row_of text.FieldIsbn = row "field_isbn" "or ISBN of a book" "oder ISBN eines Buches" "ou ISBN d’un livre"

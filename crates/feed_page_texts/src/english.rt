@@ -1,5 +1,5 @@
 //! The words of each text in English, in the order of the texts.
-pub(crate) static ENGLISH: [&'static str; 82] = [
+pub(crate) static ENGLISH: [&'static str; 83] = [
     "Full text",
     "No full text found",
     "Not answered",
@@ -76,6 +76,7 @@ pub(crate) static ENGLISH: [&'static str; 82] = [
     "By package, and in the order of each list. Publishers are asked to sort a list from A to Z.",
     "No title contains this here.",
     "Further titles",
+    "This search cannot be read. Enter a title, or a part of it, here.",
     "Packages",
     "ISSN of a journal",
     "or ISBN of a book",

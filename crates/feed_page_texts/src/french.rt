@@ -1,5 +1,5 @@
 //! The words of each text in French, in the order of the texts.
-pub(crate) static FRENCH: [&'static str; 82] = [
+pub(crate) static FRENCH: [&'static str; 83] = [
     "Texte intégral",
     "Aucun texte intégral trouvé",
     "Demande non traitée",
@@ -76,6 +76,7 @@ pub(crate) static FRENCH: [&'static str; 82] = [
     "Par bouquet, et dans l’ordre de chaque liste. Les éditeurs sont priés de trier une liste de A à Z.",
     "Aucun titre ne contient ce texte ici.",
     "Autres titres",
+    "Cette recherche n’est pas lisible. Saisissez ici un titre ou une partie du titre.",
     "Bouquets",
     "ISSN d’une revue",
     "ou ISBN d’un livre",

@@ -1,5 +1,5 @@
 //! The words of each text in German, in the order of the texts.
-pub(crate) static GERMAN: [&'static str; 82] = [
+pub(crate) static GERMAN: [&'static str; 83] = [
     "Volltext",
     "Kein Volltext gefunden",
     "Nicht beantwortet",
@@ -76,6 +76,7 @@ pub(crate) static GERMAN: [&'static str; 82] = [
     "Nach Paket, und in der Reihenfolge jeder Liste. Verlage sollen eine Liste von A bis Z ordnen.",
     "Hier enthält kein Titel diesen Text.",
     "Weitere Titel",
+    "Diese Suche ist nicht lesbar. Geben Sie hier einen Titel oder einen Teil davon ein.",
     "Pakete",
     "ISSN einer Zeitschrift",
     "oder ISBN eines Buches",

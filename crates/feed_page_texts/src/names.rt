@@ -1,5 +1,5 @@
 //! The name of each text, by which a site file replaces it, in the order of the texts.
-pub(crate) static NAMES: [&'static str; 82] = [
+pub(crate) static NAMES: [&'static str; 83] = [
     "full_text",
     "no_full_text",
     "not_answered",
@@ -76,6 +76,7 @@ pub(crate) static NAMES: [&'static str; 82] = [
     "title_order",
     "no_titles",
     "further_titles",
+    "titles_not_read",
     "packages",
     "field_issn",
     "field_isbn",

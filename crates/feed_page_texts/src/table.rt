@@ -79,6 +79,7 @@ pub enum Text {
     TitleOrder,
     NoTitles,
     FurtherTitles,
+    TitlesNotRead,
     Packages,
     FieldIssn,
     FieldIsbn,
@@ -88,7 +89,7 @@ pub enum Text {
 }
 
 /// All texts.
-pub const TEXTS: [Text; 82] = [
+pub const TEXTS: [Text; 83] = [
     Text::FullText,
     Text::NoFullText,
     Text::NotAnswered,
@@ -165,6 +166,7 @@ pub const TEXTS: [Text; 82] = [
     Text::TitleOrder,
     Text::NoTitles,
     Text::FurtherTitles,
+    Text::TitlesNotRead,
     Text::Packages,
     Text::FieldIssn,
     Text::FieldIsbn,

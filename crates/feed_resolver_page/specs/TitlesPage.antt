@@ -25,6 +25,7 @@ use Rattle.feed_titles.specs.Walks.{WalkValue, titles_from}
 use Rattle.feed_titles.specs.declared.asked.TitleFault.{TitleFault}
 use Rattle.feed_titles.specs.declared.asked.TitleFault.TheVariants as fault
 use Rattle.feed_resolver_page.specs.Coverage.{coverage_words}
+use Rattle.feed_resolver_page.specs.ErrorPages.{advice_part}
 use Rattle.feed_resolver_page.specs.Frames.{page_top}
 use Rattle.feed_resolver_page.specs.HitsPage.{link_to, page_foot, paragraph}
 use Rattle.feed_resolver_page.specs.Titles.{title_link, titles_json, titles_text}
@@ -105,11 +106,19 @@ fault_text fault.NoText = codes "NoText"
 fault_text fault.TooLong = codes "TooLong"
 fault_text fault.BadStart = codes "BadStart"
 
+-- the page for a query that is not read
+unfoldable pub titles_error_page : site_file.SiteValue → List ℕ → List ℕ
+titles_error_page site name =
+    page_top site text.NotAnswered
+    ++ (advice_part site text.TitlesNotRead name ++ (titles_form site [] ++ page_foot site))
+
 -- a browser that asks for nothing gets the form
 abbrev pub titles_refusal : site_file.SiteValue → Representation → TitleFault → ReplyValue
 titles_refusal site Html fault.NoText = reply_with status.Good Html (titles_form_page site)
-titles_refusal site Html fault.TooLong = refusal status.BadRequest Html (fault_text fault.TooLong)
-titles_refusal site Html fault.BadStart = refusal status.BadRequest Html (fault_text fault.BadStart)
+titles_refusal site Html fault.TooLong =
+    reply_with status.BadRequest Html (titles_error_page site (fault_text fault.TooLong))
+titles_refusal site Html fault.BadStart =
+    reply_with status.BadRequest Html (titles_error_page site (fault_text fault.BadStart))
 titles_refusal site Text why = refusal status.BadRequest Text (fault_text why)
 titles_refusal site Json why = refusal status.BadRequest Json (fault_text why)
 

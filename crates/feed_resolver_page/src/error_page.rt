@@ -28,8 +28,9 @@ fn put_name<'a>(out: &mut Vec<u8>, name: &'a [u8]) -> Result<(), AllocError>
     )
 }
 
+/// Writes what the reader may do about an error, and its name.
 #[tactic(auto, unfolding(crate::specs::ErrorPages::advice_part))]
-fn put_advice(
+pub(crate) fn put_advice(
     out: &mut Vec<u8>,
     site: &SiteFile,
     advice: Text,

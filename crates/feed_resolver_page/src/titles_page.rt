@@ -5,7 +5,7 @@ ghost use Rattle.percent_encoding.specs.Percent.{percent_encode};
 ghost use Rattle.percent_encoding.specs.declared.ascii_set.TheConstants.{NON_ALPHANUMERIC};
 ghost use Rattle.feed_resolver_page.specs.TitlesPage.{card_back, card_front, fault_text, found_titles};
 ghost use Rattle.feed_resolver_page.specs.TitlesPage.{further_part, further_target, number_sentence, numbers_words, order_part};
-ghost use Rattle.feed_resolver_page.specs.TitlesPage.{row_card, title_card, title_cards, titles_body, titles_form_page};
+ghost use Rattle.feed_resolver_page.specs.TitlesPage.{row_card, title_card, title_cards, titles_body, titles_error_page, titles_form_page};
 ghost use Rattle.feed_resolver_page.specs.TitlesPage.{titles_page, titles_part, titles_refusal, titles_reply};
 ghost use Rattle.feed_resolver_request.specs.declared.representation.Representation.TheVariants as representation;
 ghost use Rattle.feed_resolver_reply.specs.Replies.{reply_with};
@@ -13,6 +13,7 @@ ghost use Rattle.feed_resolver_reply.specs.declared.status.Status.TheVariants as
 ghost use Rattle.feed_titles.specs.Walks.{titles_from};
 
 use crate::coverage::put_coverage;
+use crate::error_page::put_advice;
 use crate::frame::put_page_top;
 use crate::hits_page::{put_link_to, put_page_foot, put_paragraph};
 use crate::titles::{put_titles_json, put_titles_text, title_target};
@@ -256,6 +257,16 @@ fn put_form_page(out: &mut Vec<u8>, site: &SiteFile) -> Result<(), AllocError>
     put_page_foot(out, site)
 }
 
+#[tactic(auto, unfolding(crate::specs::TitlesPage::titles_error_page))]
+fn put_error_page(out: &mut Vec<u8>, site: &SiteFile, name: &[u8]) -> Result<(), AllocError>
+    ensures { OnOk result (out.new.items ≡ out.old.items ++ titles_error_page site.now name.now) }
+{
+    put_page_top(out, site, Text::NotAnswered)?;
+    put_advice(out, site, Text::TitlesNotRead, name)?;
+    put_titles_form(out, site, b"")?;
+    put_page_foot(out, site)
+}
+
 #[tactic(auto, unfolding(crate::specs::TitlesPage::titles_body))]
 fn put_body(
     out: &mut Vec<u8>,
@@ -308,6 +319,15 @@ fn form_reply(alloc: Global, site: &SiteFile) -> Result<Reply, AllocError>
     Ok(Reply::new(Status::Good, Representation::Html, body))
 }
 
+fn error_reply(alloc: Global, site: &SiteFile, name: &[u8]) -> Result<Reply, AllocError>
+    ensures { IfOk result (λ reply. reply
+        ≡ reply_with status.BadRequest representation.Html (titles_error_page site.now name.now)) }
+{
+    let mut body = Vec::new(alloc);
+    put_error_page(&mut body, site, name)?;
+    Ok(Reply::new(Status::BadRequest, Representation::Html, body))
+}
+
 fn titles_refusal(
     alloc: Global,
     site: &SiteFile,
@@ -316,10 +336,15 @@ fn titles_refusal(
 ) -> Result<Reply, AllocError>
     ensures { IfOk result (λ reply. reply ≡ titles_refusal site.now representation fault) }
 {
-    if representation == Representation::Html && fault == TitleFault::NoText {
-        return form_reply(alloc, site);
+    let name = fault_text(fault);
+    if representation != Representation::Html {
+        return refusal(alloc, Status::BadRequest, representation, name);
     }
-    refusal(alloc, Status::BadRequest, representation, fault_text(fault))
+    if fault == TitleFault::NoText {
+        form_reply(alloc, site)
+    } else {
+        error_reply(alloc, site, name)
+    }
 }
 
 /// Returns the reply to a query for titles in the given releases: those that contain the text of `q`, from the place
