@@ -47,7 +47,7 @@ impl Identifiers {
     }
 }
 
-// The set of some identifiers: ascending, each once.
+// Returns the set of some identifiers: ascending, each once.
 fn set_of<T: Ord + Copy>(alloc: Global, identifiers: &[T]) -> Result<Vec<T>, AllocError>
     ensures { IfOk result (λ set. set.items ≡ fold (insert_key T.cmp) [] identifiers.now) }
 {
