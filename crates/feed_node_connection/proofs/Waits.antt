@@ -1,4 +1,4 @@
--- After a step that blocks, a connection waits for the stream that blocked.
+-- What a connection waits for after a step that blocks.
 use Rattle.std.proofs.Common.{◌≡◌, inl, inr, sym, ◌∙◌}
 use Rattle.feed_node_connection.specs.declared.connection.Connection.{Connection}
 use Rattle.feed_node_connection.specs.declared.connection.Wants.TheVariants.{Bytes, Room, Close}

@@ -231,8 +231,8 @@ impl<T: Stream> Peer<T> {
         }
     }
 
-    // Returns the share of a turn that this connection may use. It may make no further reply if a part of the last one
-    // is still to be sent and the table has no room for another.
+    // Returns the share that this connection may use: without a reply if a part of the last one is still to be sent and
+    // there is no room for another.
     fn share(&self, has_room: bool, share: Share) -> Share
         ensures bytes { result.bytes ≡ share.bytes }
         ensures given { IsGiven has_room self.now.connection share result }
