@@ -9,7 +9,7 @@ use std::fs::File;
 use std::io::{Read, Write};
 use std::{fmt, fs, io};
 
-// The bytes that are read at a time. Only the first of these blocks is searched for the header.
+// A file is read in blocks of at most this many bytes. The header is looked for in the first block.
 const BLOCK: usize = 65_536;
 
 // An incomplete character has at most three bytes.

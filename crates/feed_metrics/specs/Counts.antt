@@ -49,10 +49,11 @@ target_place target.Home = 0
 target_place target.Status = 1
 target_place target.Resolve = 2
 target_place target.Go = 3
-target_place target.Feed = 4
-target_place target.Metrics = 5
-target_place target.Health = 6
-target_place target.Other = 7
+target_place target.Titles = 4
+target_place target.Feed = 5
+target_place target.Metrics = 6
+target_place target.Health = 7
+target_place target.Other = 8
 
 -- the class of a status
 abbrev pub class_of : ℕ → StatusClass

@@ -26,13 +26,13 @@ impl Model for Metrics {
 
     ghost view = { λ m. record { counters = m.counters; requests = m.requests; times = m.times } };
 
-    ghost invariant = { λ m. (length m.counters ≡ 12) × (length m.requests ≡ 32) };
+    ghost invariant = { λ m. (length m.counters ≡ 12) × (length m.requests ≡ 36) };
 }
 
 // Returns the place of the counter of a target and a class.
 fn request_place(target: Target, class: StatusClass) -> usize
     ensures value { result ≡ request_place target class }
-    ensures below { result < 32 }
+    ensures below { result < 36 }
 {
     target.place() * 4 + class.place()
 }
@@ -46,7 +46,7 @@ impl Metrics {
     {
         Ok(Metrics {
             counters: Counters::new(alloc, 12)?,
-            requests: Counters::new(alloc, 32)?,
+            requests: Counters::new(alloc, 36)?,
             times: Histogram::new(alloc)?,
         })
     }

@@ -10,6 +10,7 @@ pub enum Target {
     Status,
     Resolve,
     Go,
+    Titles,
     Feed,
     Metrics,
     Health,
@@ -25,11 +26,12 @@ pub enum StatusClass {
     ServerError,
 }
 
-pub(crate) const TARGETS: [Target; 8] = [
+pub(crate) const TARGETS: [Target; 9] = [
     Target::Home,
     Target::Status,
     Target::Resolve,
     Target::Go,
+    Target::Titles,
     Target::Feed,
     Target::Metrics,
     Target::Health,
@@ -46,17 +48,18 @@ pub(crate) const CLASSES: [StatusClass; 4] = [
 impl Target {
     pub(crate) fn place(self) -> usize
         ensures value { result ≡ target_place self }
-        ensures below { result < 8 }
+        ensures below { result < 9 }
     {
         match self {
             Target::Home => 0,
             Target::Status => 1,
             Target::Resolve => 2,
             Target::Go => 3,
-            Target::Feed => 4,
-            Target::Metrics => 5,
-            Target::Health => 6,
-            Target::Other => 7,
+            Target::Titles => 4,
+            Target::Feed => 5,
+            Target::Metrics => 6,
+            Target::Health => 7,
+            Target::Other => 8,
         }
     }
 
@@ -68,6 +71,7 @@ impl Target {
             Target::Status => b"status",
             Target::Resolve => b"resolve",
             Target::Go => b"go",
+            Target::Titles => b"titles",
             Target::Feed => b"feed",
             Target::Metrics => b"metrics",
             Target::Health => b"health",

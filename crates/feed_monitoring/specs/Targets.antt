@@ -30,6 +30,7 @@ resource_target resource.Status = target.Status
 resource_target resource.Resolve = target.Resolve
 resource_target resource.Package = target.Resolve
 resource_target resource.Go = target.Go
+resource_target resource.Titles = target.Titles
 resource_target resource.Unknown = target.Other
 
 -- the target of a report, or else of a resource

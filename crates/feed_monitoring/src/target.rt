@@ -36,6 +36,7 @@ fn resource_target(resource: Resource) -> Target
         Resource::Resolve => Target::Resolve,
         Resource::Package => Target::Resolve,
         Resource::Go => Target::Go,
+        Resource::Titles => Target::Titles,
         Resource::Unknown => Target::Other,
     }
 }

@@ -17,7 +17,7 @@ use Rattle.feed_http_heads.specs.Targets.{origin_form}
 use Rattle.feed_resolver_request.specs.Targets.{path_in, resource_of, names_package}
 use Rattle.feed_resolver_request.specs.FetchRequests.{FetchPolicyValue, name_to_fetch, name_after_feed}
 use Rattle.feed_resolver_request.specs.Forms.{form_limit, takes_form, is_form_post, has_form_type, stated_length, form_by, form_in, length_of_form, form_length}
-use Rattle.feed_resolver_request.specs.declared.target.Resource.TheVariants.{Home, Status, Resolve, Package, Go, Unknown}
+use Rattle.feed_resolver_request.specs.declared.target.Resource.TheVariants.{Home, Status, Resolve, Package, Go, Titles, Unknown}
 use Rattle.feed_resolver_request.specs.declared.form.FormFault.{FormFault}
 use Rattle.feed_resolver_request.specs.declared.form.FormFault.TheVariants.{Coding}
 use Rattle.feed_resolver_reply.specs.Replies.{ResponseValue}
@@ -52,19 +52,21 @@ differs path other feed not_feed = by (cases_Bool (bytes_eq path other))
         absurd (false≢true (sym not_feed ∙ (bytes_eq-Decides (take 6 other) (codes "/feed/")).1 (ap (take 6) (sym is) ∙ feed)))
     by (inr other_is) = other_is
 
-no_form_by : (home status resolve go packaged : Bool) → resolve ≡ false → go ≡ false → packaged ≡ false
-    → takes_form (if home then Home else (if status then Status else (if resolve then Resolve else (if go then Go else (if packaged then Package else Unknown))))) ≡ false
-no_form_by true status resolve go packaged r g p = refl
-no_form_by false true resolve go packaged r g p = refl
-no_form_by false false true go packaged r g p = absurd (cc)
-no_form_by false false false true packaged r g p = absurd (cc)
-no_form_by false false false false true r g p = absurd (cc)
-no_form_by false false false false false r g p = refl
+no_form_by : (home status resolve go titles packaged : Bool) → resolve ≡ false → go ≡ false → packaged ≡ false
+    → takes_form (if home then Home else (if status then Status else (if resolve then Resolve else (if go then Go
+    else (if titles then Titles else (if packaged then Package else Unknown)))))) ≡ false
+no_form_by true status resolve go titles packaged r g p = refl
+no_form_by false true resolve go titles packaged r g p = refl
+no_form_by false false true go titles packaged r g p = absurd (cc)
+no_form_by false false false true titles packaged r g p = absurd (cc)
+no_form_by false false false false true packaged r g p = refl
+no_form_by false false false false false true r g p = absurd (cc)
+no_form_by false false false false false false r g p = refl
 
 no_form_below_feed : (path : List ℕ) → take 6 path ≡ codes "/feed/" → takes_form (resource_of path) ≡ false
 no_form_below_feed path feed =
     no_form_by (bytes_eq path (codes "/")) (bytes_eq path (codes "/status")) (bytes_eq path (codes "/resolve")) (bytes_eq path (codes "/go"))
-    (names_package path) (differs path (codes "/resolve") feed refl) (differs path (codes "/go") feed refl)
+    (bytes_eq path (codes "/titles")) (names_package path) (differs path (codes "/resolve") feed refl) (differs path (codes "/go") feed refl)
     (differs (take 9 path) (codes "/resolve/") (take-take 6 9 path (omega arith) ∙ feed) refl)
 
 no_form_post : (is_post has_host takes : Bool) (form : Result ℕ FormFault) → takes ≡ false

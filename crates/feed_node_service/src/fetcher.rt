@@ -73,14 +73,14 @@ enum Step {
     End(FetchEnd),
 }
 
-// What arrived of a reply, before the feed takes it.
+// The result of looking at a reply.
 #[derive(Drop)]
 enum Arrived {
-    /// Nothing that the feed takes.
+    /// No bytes for the feed, and the next step.
     Step(Step),
     /// A part of a whole file.
     Part(WholePart),
-    /// The whole reply, or why there is none.
+    /// The whole reply, or the error in place of it.
     Reply(Result<Got, RequestFault>),
     /// More than 8,388,608 bytes of a whole file whose length the reply does not state.
     NoRanges,

@@ -11,7 +11,7 @@ use Rattle.feed_resolver_hits.specs.Hits.{ReleaseHitValue}
 use Rattle.feed_resolver_hits.specs.HitsText.{release_text}
 use Rattle.feed_resolver_hits.specs.AnswerJson.{answer_json}
 use Rattle.feed_resolver_hits.specs.Asks.{AskValue, ask_of}
-use Rattle.feed_resolver_hits.specs.Tallies.{TallyValue, tally_of}
+use Rattle.feed_resolver_hits.specs.Tallies.{TallyValue, sole_link, tally_of}
 use Rattle.feed_resolver_hits.specs.Tallying.{RunningValue, with_hit, with_hits, no_hits, tally_from}
 use Rattle.feed_resolver_hits.proofs.Tallies.{tally_is}
 use Rattle.feed_resolver.specs.Answers.{Sited, release_hits, hits_among, others_among, others_beside, tally_among, texts_behind, answers_body}
@@ -83,3 +83,7 @@ page_answered representation text ask query actives old new chosen read is =
 pub best_made : (query : QueryValue) (actives : Sited) (running : RunningValue) → running ≡ with_hits no_hits (hits_among query actives)
     → (tally_from running).best ≡ (tally_of (hits_among query actives)).best
 best_made query actives running made = ap (λ (r : RunningValue). (tally_from r).best) made ∙ ap (λ (t : TallyValue). t.best) (tally_is (hits_among query actives))
+
+pub sole_made : (query : QueryValue) (actives : Sited) (running : RunningValue) → running ≡ with_hits no_hits (hits_among query actives)
+    → sole_link (tally_from running) ≡ sole_link (tally_of (hits_among query actives))
+sole_made query actives running made = ap (λ (r : RunningValue). sole_link (tally_from r)) made ∙ ap sole_link (tally_is (hits_among query actives))

@@ -16,7 +16,7 @@ use Rattle.feed_resolver_request.specs.Forms.{form_of}
 use Rattle.feed_resolver_request.specs.declared.form.FormFault.{FormFault}
 use Rattle.feed_resolver_request.specs.declared.form.FormFault.TheVariants as fault
 use Rattle.feed_resolver_request.specs.declared.representation.Representation.{Representation}
-use Rattle.feed_resolver_request.specs.declared.representation.Representation.TheVariants.{Text, Html}
+use Rattle.feed_resolver_request.specs.declared.representation.Representation.TheVariants.{Text, Json, Html}
 use Rattle.feed_resolver_request.specs.declared.target.Resource.{Resource}
 use Rattle.feed_resolver_request.specs.declared.target.Resource.TheVariants as resource
 use Rattle.feed_resolver_reply.specs.Replies.{ReplyValue, refusal, redirect_to, reply_with}
@@ -26,12 +26,22 @@ use Rattle.feed_resolver_reply.specs.declared.status.Status.TheVariants as statu
 use Rattle.feed_resolver_hits.specs.Asked.{asked_of}
 use Rattle.feed_resolver_hits.specs.Asks.{AskValue, ask_of, names_work}
 use Rattle.feed_site.specs.Site as site_file
-use Rattle.feed_resolver_page.specs.QueryRefusals.{asks_for_form, form_page, is_numberless, numberless_body, numberless_status, reason_text, unasked_reply}
+use Rattle.feed_resolver_hits.proofs.SoleHits.{sole_is}
+use Rattle.feed_resolver_hits.specs.Laws.{IsSoleHit}
+use Rattle.feed_page_texts.specs.declared.table.Text.TheVariants as advice
+use Rattle.feed_resolver_page.specs.ErrorPages.{error_reply}
+use Rattle.feed_resolver_page.specs.QueryRefusals.{advice_on, asks_for_form, form_page, is_numberless, numberless_body, numberless_status, reason_text, unasked_reply}
+use Rattle.feed_resolver_page.specs.TitlesPage.{titles_by}
+use Rattle.feed_titles.specs.Asks as title_asks
+use Rattle.feed_titles.specs.declared.asked.TitleFault.{TitleFault}
+use Rattle.feed_titles.specs.declared.asked.TitleFault.TheVariants.{BadStart, NoText, TooLong}
+use Rattle.feed_releases.specs.Actives.{ActiveValue}
 use Rattle.feed_site.specs.Urls.{is_link, url_limit, is_visible, begins_with}
 use Rattle.feed_resolver_hits.specs.Hits.{best_link}
-use Rattle.feed_resolver_hits.specs.Tallies.{counted}
+use Rattle.feed_resolver_hits.specs.Tallies.{counted, sole_link}
 use Rattle.feed_resolver_hits.proofs.Redirects.{best_is}
-use Rattle.feed_resolver.specs.Answers.{Sited, is_of, hits_among}
+use Rattle.feed_resolver.specs.Answers.{Sited, is_of, hits_among, tally_among}
+use Rattle.feed_resolver.specs.Replies.{found_reply, sole_redirect}
 use Rattle.feed_resolver.specs.Replies.{query_reply, hits_reply, resolve_reply, resolve_reply_at, redirect_reply, go_reply, resource_reply, path_of, target_query, target_reply, has_coded_body}
 use Rattle.feed_resolver.specs.Replies.{method_refusal, plain_reply, form_refusal, reply_by_form, reply_to}
 
@@ -70,7 +80,7 @@ unasked_located : (site : site_file.SiteValue) (query : List ℕ) (code : Status
 unasked_located site query code representation ask why =
     let read : ReplyValue =
     reply_with (numberless_status (names_work ask.citation) code) representation (numberless_body site query (names_work ask.citation) representation ask why) in
-    let refused : ReplyValue = refusal status.BadRequest representation (reason_text why) in
+    let refused : ReplyValue = error_reply site query status.BadRequest representation (advice_on why) (reason_text why) in
     either_located (asks_for_form query representation) (reply_with status.Good Html (form_page site))
     (if is_numberless why then read else refused) plain
     (either_located (is_numberless why) read refused plain plain)
@@ -80,19 +90,34 @@ query_located : (actives : Sited) (code : Status) (representation : Representati
 query_located actives code representation text reply (Ok query) located = located query
 query_located actives code representation text reply (Err why) located = unasked_located actives.library text code representation (ask_of text) why
 
-resolve_located : (representation : Representation) (text : List ℕ) (actives : Sited) → IsLocated (resolve_reply representation text actives)
-resolve_located representation text actives =
-    query_located actives status.Good representation text (hits_reply status.Good representation text actives) (asked_of text) (λ query. plain)
+-- a browser is redirected to a sole hit
+sole_wanted : (wants : Bool) (link : Option (List ℕ)) (url : List ℕ) → (if wants then link else None) ≡ Some url → (wants ≡ true) × (link ≡ Some url)
+sole_wanted true link url e = (refl, e)
+sole_wanted false link url e = absurd (cc)
 
-package_located : (representation : Representation) (text : List ℕ) (actives : Sited) (other : ReplyValue) (o : Option ℕ) → IsLocated other
-    → IsLocated (option_map_or (resolve_reply_at representation text actives) o other)
-package_located representation text actives other None located = located
-package_located representation text actives other (Some place) located = resolve_located representation text _
+pub sole_hit : (representation : Representation) (actives : Sited) (query : QueryValue) (url : List ℕ) → sole_redirect representation actives query ≡ Some url
+    → (representation ≡ Html) × (actives.library.redirects_sole_hit ≡ true) × IsSoleHit (hits_among query actives) url
+sole_hit Text actives query url e = absurd (cc)
+sole_hit Json actives query url e = absurd (cc)
+sole_hit Html actives query url e =
+    let wanted = sole_wanted actives.library.redirects_sole_hit (sole_link (tally_among query actives)) url e in
+    (refl, wanted.0, (sole_is (hits_among query actives) url).0 wanted.1)
 
 redirect_located : (hits_link : Option (List ℕ)) (other : ReplyValue) → ((url : List ℕ) → hits_link ≡ Some url → is_link url ≡ true) → IsLocated other
     → IsLocated (option_map_or redirect_to hits_link other)
 redirect_located None other links located = located
 redirect_located (Some url) other links located = (link_location url (links url refl), refl, refl)
+
+resolve_located : (representation : Representation) (text : List ℕ) (actives : Sited) → IsLocated (resolve_reply representation text actives)
+resolve_located representation text actives =
+    query_located actives status.Good representation text (found_reply representation text actives) (asked_of text)
+    (λ query. redirect_located (sole_redirect representation actives query) (hits_reply status.Good representation text actives query)
+    (λ url is. (sole_hit representation actives query url is).2.link) plain)
+
+package_located : (representation : Representation) (text : List ℕ) (actives : Sited) (other : ReplyValue) (o : Option ℕ) → IsLocated other
+    → IsLocated (option_map_or (resolve_reply_at representation text actives) o other)
+package_located representation text actives other None located = located
+package_located representation text actives other (Some place) located = resolve_located representation text _
 
 best_located : (representation : Representation) (text : List ℕ) (actives : Sited) (query : QueryValue) → IsLocated (redirect_reply representation text actives query)
 best_located representation text actives query =
@@ -102,14 +127,25 @@ go_located : (representation : Representation) (text : List ℕ) (actives : Site
 go_located representation text actives =
     query_located actives status.NotFound representation text (redirect_reply representation text actives) (asked_of text) (best_located representation text actives)
 
+titles_located : (site : site_file.SiteValue) (representation : Representation) (actives : List ActiveValue) (o : Result title_asks.AskValue TitleFault)
+    → IsLocated (titles_by site representation actives o)
+titles_located site representation actives (Ok ask) = plain
+titles_located site Html actives (Err NoText) = plain
+titles_located site Html actives (Err TooLong) = plain
+titles_located site Html actives (Err BadStart) = plain
+titles_located site Text actives (Err why) = plain
+titles_located site Json actives (Err why) = plain
+
 resource_located : (r : Resource) (head : RequestHead) (path query : List ℕ) (actives : Sited) → IsLocated (resource_reply r head path query actives)
 resource_located resource.Home head path query actives = plain
 resource_located resource.Status head path query actives = plain
 resource_located resource.Resolve head path query actives = resolve_located (representation_of query head) query actives
 resource_located resource.Package head path query actives =
-    package_located (representation_of query head) query actives (refusal status.NotFound (representation_of query head) (codes "NoRelease"))
+    package_located (representation_of query head) query actives (error_reply actives.library query status.NotFound (representation_of query head) advice.NoList (codes "NoRelease"))
     (position (is_of (package_in path)) actives.actives) plain
 resource_located resource.Go head path query actives = go_located (accepted_representation head) query actives
+resource_located resource.Titles head path query actives =
+    titles_located actives.library (representation_of query head) actives.actives (title_asks.ask_of query)
 resource_located resource.Unknown head path query actives = plain
 
 target_located : (head : RequestHead) (query : List ℕ) (actives : Sited) → IsLocated (target_reply head query actives)
@@ -121,6 +157,7 @@ method_located resource.Status = plain
 method_located resource.Resolve = plain
 method_located resource.Package = plain
 method_located resource.Go = plain
+method_located resource.Titles = plain
 method_located resource.Unknown = plain
 
 plain_located : (head : RequestHead) (actives : Sited) → IsLocated (plain_reply head actives)

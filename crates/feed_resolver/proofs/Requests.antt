@@ -23,7 +23,8 @@ use Rattle.feed_resolver_request.specs.declared.form.FormFault.TheVariants as fa
 use Rattle.feed_resolver_request.specs.declared.representation.Representation.{Representation}
 use Rattle.feed_resolver_request.specs.Targets.{path_in, query_in, resource_of, package_in, is_unsupported_method}
 use Rattle.feed_resolver.specs.Status.{home_page, status_body}
-use Rattle.feed_resolver_request.specs.declared.representation.Representation.TheVariants.{Text, Html}
+use Rattle.feed_resolver_request.specs.declared.representation.Representation.TheVariants.{Text, Json, Html}
+use Rattle.feed_resolver_page.specs.TitlesPage.{titles_reply}
 use Rattle.feed_resolver_request.specs.declared.target.Resource.{Resource}
 use Rattle.feed_resolver_request.specs.declared.target.Resource.TheVariants as resource
 use Rattle.feed_resolver_reply.specs.Replies.{ReplyValue, ResponseValue, reply_with, refusal, redirect_to, response_of, reply_body, status_code}
@@ -32,19 +33,23 @@ use Rattle.feed_resolver_reply.specs.declared.status.Status.TheVariants as statu
 use Rattle.feed_resolver_reply.proofs.HeadsRead.{head_of, sent_as}
 use Rattle.feed_resolver_hits.specs.Hits.{ReleaseHitValue, best_link}
 use Rattle.feed_resolver_hits.specs.Asked.{asked_of}
+use Rattle.feed_resolver_hits.specs.Laws.{IsSoleHit}
 use Rattle.feed_resolver_hits.specs.Ranks.{IsBestLink}
 use Rattle.feed_site.specs.Urls.{is_link}
-use Rattle.feed_resolver_hits.specs.Tallies.{counted}
+use Rattle.feed_resolver_hits.specs.Tallies.{counted, sole_link}
+use Rattle.feed_page_texts.specs.declared.table.Text.TheVariants as advice
+use Rattle.feed_resolver_page.specs.ErrorPages.{error_reply}
 use Rattle.feed_resolver_hits.proofs.BestLinks as links
 use Rattle.feed_resolver_tag.specs.Tags.{SiteValue}
-use Rattle.feed_resolver.specs.Answers.{Dated, Sited, sited, is_of, hits_among}
+use Rattle.feed_resolver.specs.Answers.{Dated, Sited, sited, is_of, hits_among, tally_among}
+use Rattle.feed_resolver.specs.Replies.{found_reply, sole_redirect}
 use Rattle.feed_resolver.specs.Replies.{resource_reply, resolve_reply, package_reply, redirect_reply, go_reply, hits_reply, query_reply, target_reply, target_query, path_of}
 use Rattle.feed_resolver.specs.Replies.{method_refusal, has_coded_body, resolve_reply_at, reply_by_form, reply_to, tagged_reply, response_to, IsResponse}
 use Rattle.feed_resolver.specs.Answered.{IsGoodIn, IsAnswered, IsAnsweredTo}
 use Rattle.feed_resolver.specs.Validators.{is_tagged, has_validator, resource_in}
 use Rattle.feed_resolver.specs.NodeReplies.{node_reply, IsNodeReply, AsksForNoFetch}
-use Rattle.feed_resolver.specs.Messages.{as_get, HeadIsHeadOfGet, AsksToGo, GoesTo, GoesToBest, FormIsGet}
-use Rattle.feed_resolver.proofs.Locations.{link_location, reply_located}
+use Rattle.feed_resolver.specs.Messages.{as_get, HeadIsHeadOfGet, AsksToGo, GoesTo, GoesToBest, FormIsGet, RedirectsSoleHit}
+use Rattle.feed_resolver.proofs.Locations.{link_location, reply_located, sole_hit}
 use Rattle.feed_resolver.proofs.Tagged.{final_by, tag_asked, tagged_cases, no_preflight, tagged_statable, tagged_young}
 use Rattle.feed_resolver.proofs.SameBytes.{one_reply}
 
@@ -123,27 +128,38 @@ pub status_answered : (target : List ℕ) (actives : Sited) → resource_of (pat
 status_answered target actives is head =
     subst (λ r. IsGoodIn (representation_of (query_in target) head) (resource_reply r head (path_in target) (query_in target) actives)) (sym is) (refl, refl)
 
-query_answered : (representation : Representation) (text : List ℕ) (actives : Sited) (o : Result QueryValue Refusal) (query : QueryValue) → o ≡ Ok query
-    → IsGoodIn representation (query_reply actives status.Good representation text (hits_reply status.Good representation text actives) o)
-query_answered representation text actives (Ok other) query is = (refl, refl)
-query_answered representation text actives (Err why) query is = absurd (cc)
+-- a library that redirects no browser
+shown : (representation : Representation) (text : List ℕ) (actives : Sited) (query : QueryValue) → actives.library.redirects_sole_hit ≡ false
+    → IsGoodIn representation (found_reply representation text actives query)
+shown Text text actives query off = (refl, refl)
+shown Json text actives query off = (refl, refl)
+shown Html text actives query off =
+    let none : sole_redirect Html actives query ≡ None = ap (λ b. if b then sole_link (tally_among query actives) else None) off in
+    subst (λ (o : Option (List ℕ)). IsGoodIn Html (option_map_or redirect_to o (hits_reply status.Good Html text actives query))) (sym none) (refl, refl)
 
-pub resolve_answered : (target : List ℕ) (actives : Sited) (query : QueryValue) → resource_of (path_in target) ≡ resource.Resolve → asked_of (query_in target) ≡ Ok query
-    → IsAnswered target actives
-resolve_answered target actives query is valid head =
+query_answered : (representation : Representation) (text : List ℕ) (actives : Sited) (o : Result QueryValue Refusal) (query : QueryValue)
+    → actives.library.redirects_sole_hit ≡ false → o ≡ Ok query
+    → IsGoodIn representation (query_reply actives status.Good representation text (found_reply representation text actives) o)
+query_answered representation text actives (Ok other) query off is = shown representation text actives other off
+query_answered representation text actives (Err why) query off is = absurd (cc)
+
+pub resolve_answered : (target : List ℕ) (actives : Sited) (query : QueryValue) → resource_of (path_in target) ≡ resource.Resolve
+    → actives.library.redirects_sole_hit ≡ false → asked_of (query_in target) ≡ Ok query → IsAnswered target actives
+resolve_answered target actives query is off valid head =
     subst (λ r. IsGoodIn (representation_of (query_in target) head) (resource_reply r head (path_in target) (query_in target) actives)) (sym is)
-    (query_answered (representation_of (query_in target) head) (query_in target) actives (asked_of (query_in target)) query valid)
+    (query_answered (representation_of (query_in target) head) (query_in target) actives (asked_of (query_in target)) query off valid)
 
 placed_answered : (representation : Representation) (text : List ℕ) (actives : Sited) (query : QueryValue) (o : Option ℕ) (other : ReplyValue) → is_some o ≡ true
-    → asked_of text ≡ Ok query → IsGoodIn representation (option_map_or (resolve_reply_at representation text actives) o other)
-placed_answered representation text actives query (Some place) other some valid = query_answered representation text _ (asked_of text) query valid
-placed_answered representation text actives query None other some valid = absurd (cc)
+    → actives.library.redirects_sole_hit ≡ false → asked_of text ≡ Ok query → IsGoodIn representation (option_map_or (resolve_reply_at representation text actives) o other)
+placed_answered representation text actives query (Some place) other some off valid = query_answered representation text _ (asked_of text) query off valid
+placed_answered representation text actives query None other some off valid = absurd (cc)
 
 pub package_answered : (target : List ℕ) (actives : Sited) (query : QueryValue) → resource_of (path_in target) ≡ resource.Package
-    → is_some (position (is_of (package_in (path_in target))) actives.actives) ≡ true → asked_of (query_in target) ≡ Ok query → IsAnswered target actives
-package_answered target actives query is some valid head =
+    → is_some (position (is_of (package_in (path_in target))) actives.actives) ≡ true → actives.library.redirects_sole_hit ≡ false → asked_of (query_in target) ≡ Ok query
+    → IsAnswered target actives
+package_answered target actives query is some off valid head =
     subst (λ r. IsGoodIn (representation_of (query_in target) head) (resource_reply r head (path_in target) (query_in target) actives)) (sym is)
-    (placed_answered (representation_of (query_in target) head) (query_in target) actives query (position (is_of (package_in (path_in target))) actives.actives) _ some valid)
+    (placed_answered (representation_of (query_in target) head) (query_in target) actives query (position (is_of (package_in (path_in target))) actives.actives) _ some off valid)
 
 -- ---- HEAD
 
@@ -156,6 +172,7 @@ same_parts resource.Status head other path query actives wants accepts = rw want
 same_parts resource.Resolve head other path query actives wants accepts = rw wants refl
 same_parts resource.Package head other path query actives wants accepts = rw wants refl
 same_parts resource.Go head other path query actives wants accepts = rw accepts refl
+same_parts resource.Titles head other path query actives wants accepts = rw wants refl
 same_parts resource.Unknown head other path query actives wants accepts = rw accepts refl
 
 same_resource : (r : Resource) (head : RequestHead) (path query : List ℕ) (actives : Sited) → resource_reply r (as_get head) path query actives ≡ resource_reply r head path query actives
@@ -245,6 +262,29 @@ goes_to_best site keeps actives bytes body head query response begins asks is =
     ∙ go_replied head body query (sited site actives) asks) in
     (best_link hits, best, subst (λ (v : ResponseValue). GoesTo (best_link hits) v) (sym same) (goes keeps (is_head head) hits (best_link hits) other best refl))
 
+-- ---- a sole hit
+
+redirect_of : (o : Option (List ℕ)) (other : ReplyValue) → other.status ≡ status.Good → (option_map_or redirect_to o other).status ≡ status.Found
+    → o ≡ Some (option_map_or redirect_to o other).location
+redirect_of None other good found = absurd (cc)
+redirect_of (Some url) other good found = refl
+
+sole_redirected : (representation : Representation) (text : List ℕ) (actives : Sited) (o : Result QueryValue Refusal) (query : QueryValue) → o ≡ Ok query
+    → (query_reply actives status.Good representation text (found_reply representation text actives) o).status ≡ status.Found
+    → (representation ≡ Html) × (actives.library.redirects_sole_hit ≡ true)
+    × IsSoleHit (hits_among query actives) (query_reply actives status.Good representation text (found_reply representation text actives) o).location
+sole_redirected representation text actives o query is found =
+    let at : query_reply actives status.Good representation text (found_reply representation text actives) o ≡ found_reply representation text actives query =
+    ap (query_reply actives status.Good representation text (found_reply representation text actives)) is in
+    let link = sole_redirect representation actives query in
+    let other : ReplyValue = hits_reply status.Good representation text actives query in
+    let own = sole_hit representation actives query (option_map_or redirect_to link other).location
+    (redirect_of link other refl (subst (λ (r : ReplyValue). r.status ≡ status.Found) at found)) in
+    (own.0, own.1, subst (λ (r : ReplyValue). IsSoleHit (hits_among query actives) r.location) (sym at) own.2)
+
+pub redirects_sole_hit : RedirectsSoleHit
+redirects_sole_hit representation text query actives asked found = sole_redirected representation text actives (asked_of text) query asked found
+
 -- ---- forms
 
 both : (a b : Bool) → (a && b) ≡ true → (a ≡ true) × (b ≡ true)
@@ -287,7 +327,8 @@ answer_by resource.Status named accepted path query actives = reply_with status.
 answer_by resource.Resolve named accepted path query actives = resolve_reply named query actives
 answer_by resource.Package named accepted path query actives = package_reply named (package_in path) query actives
 answer_by resource.Go named accepted path query actives = go_reply accepted query actives
-answer_by resource.Unknown named accepted path query actives = refusal status.NotFound accepted (codes "NoTarget")
+answer_by resource.Titles named accepted path query actives = titles_reply actives.library named query actives.actives
+answer_by resource.Unknown named accepted path query actives = error_reply actives.library query status.NotFound accepted advice.NoPage (codes "NoTarget")
 
 answered_by : (r : Resource) (head : RequestHead) (path query : List ℕ) (actives : Sited)
     → resource_reply r head path query actives ≡ answer_by r (representation_of query head) (accepted_representation head) path query actives
@@ -296,6 +337,7 @@ answered_by resource.Status head path query actives = refl
 answered_by resource.Resolve head path query actives = refl
 answered_by resource.Package head path query actives = refl
 answered_by resource.Go head path query actives = refl
+answered_by resource.Titles head path query actives = refl
 answered_by resource.Unknown head path query actives = refl
 
 -- a reply depends on no more of a head than its fields

@@ -7,16 +7,20 @@ use Rattle.feed_http_heads.specs.Targets.{origin_form}
 use Rattle.feed_answer.specs.QueryValue.{QueryValue}
 use Rattle.feed_resolver_request.specs.FoundRequests.{BeginsWith, HasNoHead}
 use Rattle.feed_resolver_request.specs.Targets.{resource_of, path_in, query_in}
+use Rattle.feed_resolver_request.specs.declared.representation.Representation.{Representation}
+use Rattle.feed_resolver_request.specs.declared.representation.Representation.TheVariants.{Html}
 use Rattle.feed_resolver_request.specs.declared.target.Resource.TheVariants.{Go}
 use Rattle.feed_resolver_reply.specs.Replies.{ResponseValue, response_of}
 use Rattle.feed_resolver_reply.specs.Messages.{IsMessage, IsMessageFor}
+use Rattle.feed_resolver_reply.specs.declared.status.Status.TheVariants as status
 use Rattle.feed_resolver_hits.specs.Asked.{asked_of}
+use Rattle.feed_resolver_hits.specs.Laws.{IsSoleHit}
 use Rattle.feed_resolver_hits.specs.Ranks.{IsBestLink}
 use Rattle.feed_resolver_hits.specs.Tallies.{counted}
 use Rattle.feed_resolver_tag.specs.Tags.{SiteValue}
-use Rattle.feed_resolver.specs.Answers.{Dated, hits_among, sited}
+use Rattle.feed_resolver.specs.Answers.{Dated, Sited, hits_among, sited}
 use Rattle.feed_resolver_request.specs.Forms.{form_of}
-use Rattle.feed_resolver.specs.Replies.{IsResponse, reply_to, has_coded_body, path_of, target_query}
+use Rattle.feed_resolver.specs.Replies.{IsResponse, reply_to, has_coded_body, path_of, resolve_reply, target_query}
 
 -- the response to these bytes is one head and a body whose length the head states, or the head alone if the bytes begin
 -- with a HEAD; the head announces that the connection is closed exactly if it is not kept
@@ -70,6 +74,15 @@ GoesToBest =
     (site : SiteValue) (keeps : Bool) (actives : Dated) (bytes body : List ℕ) (head : RequestHead) (query : QueryValue) (response : ResponseValue)
     → BeginsWith bytes head → AsksToGo head query → IsResponse site bytes body keeps actives response
     → (best : Option (List ℕ)) × IsBestLink (counted (hits_among query (sited site actives))) best × GoesTo best response
+
+-- `/resolve` redirects a browser only, only if the library wants it, and to the link of the only hit: one that is available
+-- and covers the whole of what is asked for
+abbrev pub RedirectsSoleHit : Type 0
+RedirectsSoleHit =
+    (representation : Representation) (text : List ℕ) (query : QueryValue) (actives : Sited)
+    → asked_of text ≡ Ok query → (resolve_reply representation text actives).status ≡ status.Found
+    → (representation ≡ Html) × (actives.library.redirects_sole_hit ≡ true)
+    × IsSoleHit (hits_among query actives) (resolve_reply representation text actives).location
 
 -- a GET that asks what a form asks: the same fields and path, and the form as its query
 pub record IsGetOfForm (post get : RequestHead) (body : List ℕ) : Type 0 where

@@ -17,7 +17,7 @@ use Rattle.feed_resolver_request.specs.declared.form.FormFault.TheVariants as fa
 use Rattle.feed_resolver_request.specs.Representations.{accepted_representation, representation_of}
 use Rattle.feed_resolver_request.specs.Targets.{path_in, query_in, resource_of, package_in, is_unsupported_method}
 use Rattle.feed_resolver_request.specs.declared.representation.Representation.{Representation}
-use Rattle.feed_resolver_request.specs.declared.representation.Representation.TheVariants.{Text, Html}
+use Rattle.feed_resolver_request.specs.declared.representation.Representation.TheVariants.{Text, Json, Html}
 use Rattle.feed_resolver_request.specs.declared.target.Resource.{Resource}
 use Rattle.feed_resolver_request.specs.declared.target.Resource.TheVariants as resource
 use Rattle.feed_resolver_reply.specs.Replies.{ReplyValue, ResponseValue, reply_with, redirect_to, refusal, response_of, bad_head_response}
@@ -25,7 +25,11 @@ use Rattle.feed_resolver_reply.specs.declared.status.Status.{Status}
 use Rattle.feed_resolver_reply.specs.declared.status.Status.TheVariants as status
 use Rattle.feed_resolver_hits.specs.Asked.{asked_of}
 use Rattle.feed_resolver_hits.specs.Asks.{ask_of}
+use Rattle.feed_resolver_hits.specs.Tallies.{sole_link}
+use Rattle.feed_page_texts.specs.declared.table.Text.TheVariants as advice
+use Rattle.feed_resolver_page.specs.ErrorPages.{error_reply}
 use Rattle.feed_resolver_page.specs.QueryRefusals.{unasked_reply}
+use Rattle.feed_resolver_page.specs.TitlesPage.{titles_reply}
 use Rattle.feed_resolver.specs.Answers.{Dated, Sited, dated, is_of, only_at, sited, tally_among, answers_body}
 use Rattle.feed_resolver_tag.specs.Tags.{SiteValue}
 use Rattle.feed_resolver.specs.Status.{status_body, home_page}
@@ -41,10 +45,22 @@ query_reply actives code representation text reply (Err reason) =
 abbrev pub hits_reply : Status → Representation → List ℕ → Sited → QueryValue → ReplyValue
 hits_reply code representation text actives query = reply_with code representation (answers_body representation text query actives)
 
+-- the link that a browser is redirected to: that of the sole hit, if the library wants it
+abbrev pub sole_redirect : Representation → Sited → QueryValue → Option (List ℕ)
+sole_redirect Text actives query = None
+sole_redirect Json actives query = None
+sole_redirect Html actives query =
+    if actives.library.redirects_sole_hit then sole_link (tally_among query actives) else None
+
+-- a redirect to the sole hit, or the hits
+abbrev pub found_reply : Representation → List ℕ → Sited → QueryValue → ReplyValue
+found_reply representation text actives query = option_map_or redirect_to
+    (sole_redirect representation actives query) (hits_reply status.Good representation text actives query)
+
 -- the answer of all packages, by package
 abbrev pub resolve_reply : Representation → List ℕ → Sited → ReplyValue
 resolve_reply representation text actives =
-    query_reply actives status.Good representation text (hits_reply status.Good representation text actives) (asked_of text)
+    query_reply actives status.Good representation text (found_reply representation text actives) (asked_of text)
 
 -- the answer of the release at a place
 abbrev pub resolve_reply_at : Representation → List ℕ → Sited → ℕ → ReplyValue
@@ -53,7 +69,8 @@ resolve_reply_at representation text actives place = resolve_reply representatio
 -- the answer of one package, if it has an active release
 abbrev pub package_reply : Representation → List ℕ → List ℕ → Sited → ReplyValue
 package_reply representation stem text actives = option_map_or (resolve_reply_at representation text actives)
-    (position (is_of stem) actives.actives) (refusal status.NotFound representation (codes "NoRelease"))
+    (position (is_of stem) actives.actives)
+    (error_reply actives.library text status.NotFound representation advice.NoList (codes "NoRelease"))
 
 -- a redirect to the best of the counted hits, or the answer if none has a link
 abbrev pub redirect_reply : Representation → List ℕ → Sited → QueryValue → ReplyValue
@@ -73,7 +90,10 @@ resource_reply resource.Status head path query actives =
 resource_reply resource.Resolve head path query actives = resolve_reply (representation_of query head) query actives
 resource_reply resource.Package head path query actives = package_reply (representation_of query head) (package_in path) query actives
 resource_reply resource.Go head path query actives = go_reply (accepted_representation head) query actives
-resource_reply resource.Unknown head path query actives = refusal status.NotFound (accepted_representation head) (codes "NoTarget")
+resource_reply resource.Titles head path query actives =
+    titles_reply actives.library (representation_of query head) query actives.actives
+resource_reply resource.Unknown head path query actives =
+    error_reply actives.library query status.NotFound (accepted_representation head) advice.NoPage (codes "NoTarget")
 
 -- the path of a request's target, and the query in it
 abbrev pub path_of : RequestHead → List ℕ

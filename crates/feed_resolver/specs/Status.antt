@@ -12,6 +12,7 @@ use Rattle.feed_resolver_reply.specs.Pieces.{joined}
 use Rattle.feed_resolver_page.specs.Frames.{page_top}
 use Rattle.feed_resolver_page.specs.HitsPage.{page_foot, section_heading}
 use Rattle.feed_resolver_page.specs.SearchForms.{search_form}
+use Rattle.feed_resolver_page.specs.TitlesForms.{titles_form}
 use Rattle.feed_site.specs.Site as site_file
 use Rattle.feed_site.specs.Packages.{shown_package}
 use Rattle.feed_site.specs.Texts.{text_of}
@@ -40,9 +41,10 @@ active_object active = release_members active.name ++ codes "}"
 unfoldable pub packages_part : site_file.SiteValue → List ActiveValue → List ℕ
 packages_part site actives = section_heading (text_of site text.Packages) ++ (active_items site actives ++ page_foot site)
 
--- the page with the form and the packages
+-- the page with the forms and the packages
 unfoldable pub home_page : site_file.SiteValue → List ActiveValue → List ℕ
-home_page site actives = page_top site text.FindHoldings ++ (search_form site [] ++ packages_part site actives)
+home_page site actives =
+    page_top site text.FindHoldings ++ (search_form site [] ++ (titles_form site [] ++ packages_part site actives))
 
 -- the active releases; as a page, behind the form
 unfoldable pub status_body : site_file.SiteValue → Representation → List ActiveValue → List ℕ

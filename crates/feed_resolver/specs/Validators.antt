@@ -26,6 +26,7 @@ abbrev pub has_validator : Resource → Bool
 has_validator resource.Status = true
 has_validator resource.Resolve = true
 has_validator resource.Package = true
+has_validator resource.Titles = true
 has_validator other = false
 
 -- the resource that a request names
@@ -66,6 +67,7 @@ preflight_of resource.Status = Some status.Preflight
 preflight_of resource.Resolve = Some status.QueryPreflight
 preflight_of resource.Package = Some status.QueryPreflight
 preflight_of resource.Go = Some status.QueryPreflight
+preflight_of resource.Titles = Some status.Preflight
 preflight_of resource.Unknown = None
 
 -- the status of the reply to a preflight; a request without a host is none, and nor is one of `/feed`

@@ -1,7 +1,7 @@
 //! Laws of all replies, each stated as the contract of a function with an empty body.
 ghost use Rattle.feed_resolver.specs.Laws.{SameReleasesSameBytes, SameReleasesSameNodeBytes, StatusIsJson};
 ghost use Rattle.feed_resolver.specs.Laws.{HitsAreHeld, LinksAreHeld, WholeTextIsWritten};
-ghost use Rattle.feed_resolver.specs.Messages.{FormIsGet, GoesToBest, HeadIsHeadOfGet};
+ghost use Rattle.feed_resolver.specs.Messages.{FormIsGet, GoesToBest, HeadIsHeadOfGet, RedirectsSoleHit};
 ghost use Rattle.feed_resolver.specs.TagLaws.{SameReleasesSameTag, SameInputsSameBytes, NotModifiedHasTagOfGood};
 
 /// Two nodes that report the same releases, and have stored their published files, give each request of a day the same
@@ -23,6 +23,11 @@ pub fn head_is_head_of_get()
 /// `/go` redirects to a hit above which no hit ranks, of the first 1,000,000, that may be linked to.
 pub fn goes_to_best()
     ensures { GoesToBest }
+{}
+
+/// `/resolve` redirects only a browser, only if the library wants it, and only to the sole hit.
+pub fn redirects_sole_hit()
+    ensures { RedirectsSoleHit }
 {}
 
 /// The active releases in JSON are, by its grammar (RFC 8259), an array with one object for each, in their order.

@@ -15,8 +15,9 @@ mod validators;
 pub use feed_replies::{FeedTarget, respond_about_feed};
 pub use laws::{
     form_is_get, goes_to_best, head_is_head_of_get, hits_are_held, links_are_held,
-    not_modified_has_tag_of_good, same_inputs_same_bytes, same_releases_same_bytes,
-    same_releases_same_node_bytes, same_releases_same_tag, status_is_json, whole_text_is_written,
+    not_modified_has_tag_of_good, redirects_sole_hit, same_inputs_same_bytes,
+    same_releases_same_bytes, same_releases_same_node_bytes, same_releases_same_tag,
+    status_is_json, whole_text_is_written,
 };
 pub use node::respond_as_node;
 pub use responses::{respond, respond_with};

@@ -9,13 +9,16 @@ ghost use Rattle.feed_model.specs.Content.{IsContent};
 ghost use Rattle.feed_releases.specs.Feeds.{recorded, releases_of};
 ghost use Rattle.feed_resolver_request.specs.Targets.{resource_of};
 ghost use Rattle.feed_resolver_hits.specs.Asks.{ask_of};
+ghost use Rattle.feed_resolver_hits.specs.Tallies.{sole_link};
 ghost use Rattle.feed_resolver_page.specs.QueryRefusals.{unasked_reply};
+ghost use Rattle.feed_resolver_page.specs.TitlesPage.{titles_reply};
 ghost use Rattle.feed_resolver_reply.specs.Replies.{reply_with};
 ghost use Rattle.feed_resolver_reply.specs.Messages.{IsMessageFor};
 ghost use Rattle.feed_resolver_reply.specs.declared.status.Status.TheVariants as status;
 ghost use Rattle.feed_resolver.specs.Answers.{dated, sited_in, is_of, tally_among};
 ghost use Rattle.feed_resolver.specs.Replies.{IsResponse, IsResponseAt, hits_reply, go_reply, resolve_reply};
-ghost use Rattle.feed_resolver.specs.Replies.{package_reply, redirect_reply, resource_reply};
+ghost use Rattle.feed_resolver.specs.Replies.{found_reply, package_reply, redirect_reply, resource_reply};
+ghost use Rattle.feed_resolver.specs.Replies.{sole_redirect};
 ghost use Rattle.feed_resolver.specs.Replies.{method_refusal, plain_reply, form_refusal, form_reply};
 ghost use Rattle.feed_resolver.specs.Replies.{reply_to, response_to};
 ghost use Rattle.feed_resolver.specs.Validators.{unless_preflight};
@@ -32,8 +35,10 @@ use feed_embargo::Today;
 use feed_http_heads::{FIELD_LIMIT, Request, origin_form};
 use feed_keep::Keep;
 use feed_openurl::Refusal;
+use feed_page_texts::Text;
 use feed_releases::{ActiveRelease, Feed};
 use feed_resolver_hits::{Ask, read_query};
+use feed_resolver_page::error_reply;
 use feed_resolver_reply::{Reply, Response, Status, bad_head_response, refusal};
 use feed_resolver_request::{
     FormFault, Representation, Resource, accepted_representation, find_request, form_of,
@@ -82,6 +87,60 @@ fn unasked_reply(
     feed_resolver_page::unasked_reply(alloc, site, text, status, representation, &ask, reason)
 }
 
+fn copied(alloc: Global, link: Option<&[u8]>) -> Result<Option<Vec<u8>>, AllocError>
+    ensures { IfOk result (λ copy. option_map (λ text. text.items) copy ≡ option_copied link.entry) }
+{
+    match link {
+        Some(link) => Ok(Some(Vec::from_slice(alloc, link)?)),
+        None => Ok(None),
+    }
+}
+
+fn sole_link(
+    alloc: Global,
+    context: &Context<'_>,
+    query: &Query,
+) -> Result<Option<Vec<u8>>, AllocError>
+    ensures { IfOk result (λ link. option_map (λ text. text.items) link
+        ≡ sole_link (tally_among query.now (sited_in context.now))) }
+{
+    let tally = tally_among(alloc, context, query)?;
+    copied(alloc, tally.sole_link())
+}
+
+// Returns the link of the sole hit, if the reply is a page and the library wants browsers to be redirected to it.
+fn sole_redirect(
+    alloc: Global,
+    representation: Representation,
+    context: &Context<'_>,
+    query: &Query,
+) -> Result<Option<Vec<u8>>, AllocError>
+    ensures { IfOk result (λ link. option_map (λ text. text.items) link
+        ≡ sole_redirect representation (sited_in context.now) query.now) }
+{
+    match representation {
+        Representation::Html if context.library().redirects_sole_hit() => {
+            sole_link(alloc, context, query)
+        }
+        _ => Ok(None),
+    }
+}
+
+fn found_reply(
+    alloc: Global,
+    asked: &Asked<'_>,
+    context: &Context<'_>,
+    query: &Query,
+) -> Result<Reply, AllocError>
+    ensures { IfOk result (λ reply. reply
+        ≡ found_reply asked.now.representation asked.now.text (sited_in context.now) query.now) }
+{
+    match sole_redirect(alloc, asked.representation, context, query)? {
+        Some(link) => Ok(Reply::redirect(alloc, link)),
+        None => hits_reply(alloc, Status::Good, asked, context, query),
+    }
+}
+
 fn resolve_reply(
     alloc: Global,
     asked: &Asked<'_>,
@@ -91,7 +150,7 @@ fn resolve_reply(
         ≡ resolve_reply asked.now.representation asked.now.text (sited_in context.now)) }
 {
     match read_query(alloc, asked.text)? {
-        Ok(query) => hits_reply(alloc, Status::Good, asked, context, &query),
+        Ok(query) => found_reply(alloc, asked, context, &query),
         Err(reason) => unasked_reply(alloc, Status::Good, asked, context.library(), reason),
     }
 }
@@ -115,16 +174,15 @@ fn package_reply(
 {
     match position_of(context.actives, package) {
         Some(place) => resolve_reply(alloc, asked, &context.only(place)),
-        None => refusal(alloc, Status::NotFound, asked.representation, b"NoRelease"),
-    }
-}
-
-fn copied(alloc: Global, link: Option<&[u8]>) -> Result<Option<Vec<u8>>, AllocError>
-    ensures { IfOk result (λ copy. option_map (λ text. text.items) copy ≡ option_copied link.entry) }
-{
-    match link {
-        Some(link) => Ok(Some(Vec::from_slice(alloc, link)?)),
-        None => Ok(None),
+        None => error_reply(
+            alloc,
+            context.library(),
+            asked.text,
+            Status::NotFound,
+            asked.representation,
+            Text::NoList,
+            b"NoRelease",
+        ),
     }
 }
 
@@ -163,6 +221,24 @@ fn go_reply(alloc: Global, asked: &Asked<'_>, context: &Context<'_>) -> Result<R
         Ok(query) => redirect_reply(alloc, asked, context, &query),
         Err(reason) => unasked_reply(alloc, Status::NotFound, asked, context.library(), reason),
     }
+}
+
+fn titles_reply(
+    alloc: Global,
+    asked: &Asked<'_>,
+    context: &Context<'_>,
+) -> Result<Reply, AllocError>
+    ensures { IfOk result (λ reply. reply
+        ≡ titles_reply context.now.site.library asked.now.representation asked.now.text context.now.actives.actives) }
+{
+    let (text, representation) = (asked.text, asked.representation);
+    feed_resolver_page::titles_reply(
+        alloc,
+        context.library(),
+        representation,
+        text,
+        context.actives,
+    )
 }
 
 fn home_reply(
@@ -220,7 +296,16 @@ fn resource_reply(
         Resource::Resolve => resolve_reply(alloc, &asked, context),
         Resource::Package => package_reply(alloc, package_in(path), &asked, context),
         Resource::Go => go_reply(alloc, &to_go, context),
-        Resource::Unknown => refusal(alloc, Status::NotFound, accepted, b"NoTarget"),
+        Resource::Titles => titles_reply(alloc, &asked, context),
+        Resource::Unknown => error_reply(
+            alloc,
+            context.library(),
+            query,
+            Status::NotFound,
+            accepted,
+            Text::NoPage,
+            b"NoTarget",
+        ),
     }
 }
 

@@ -9,7 +9,9 @@ use feed_page_texts::Text;
 use feed_pieces::put_all;
 use feed_releases::ActiveRelease;
 use feed_resolver_hits::{name_text, put_release_members};
-use feed_resolver_page::{put_page_foot, put_page_top, put_search_form, put_section_heading};
+use feed_resolver_page::{
+    put_page_foot, put_page_top, put_search_form, put_section_heading, put_titles_form,
+};
 use feed_resolver_reply::{Piece, put, put_comma, put_list_end, put_list_start};
 use feed_resolver_request::Representation;
 use feed_site::{SiteFile, shown_package, text_of};
@@ -136,7 +138,7 @@ fn put_packages(
     put_page_foot(out, site)
 }
 
-/// Writes the page with the form and the packages.
+/// Writes the page with the forms and the packages.
 #[tactic(auto, unfolding(crate::specs::Status::home_page))]
 pub(crate) fn put_home_page(
     out: &mut Vec<u8>,
@@ -147,5 +149,6 @@ pub(crate) fn put_home_page(
 {
     put_page_top(out, site, Text::FindHoldings)?;
     put_search_form(out, site, &[])?;
+    put_titles_form(out, site, b"")?;
     put_packages(out, site, actives)
 }

@@ -1,6 +1,6 @@
 //! Entity tags, replies to clients that have the representation, and preflights (RFC 9110, sections 8.8.3 and 13.1.2;
 //! Fetch standard, section 3.3).
-ghost use Rattle.std.specs.Prelude.{◌≡◌, IfOk, true, Ok};
+ghost use Rattle.std.specs.Prelude.{◌≡◌, IfOk, true, false, Ok};
 ghost use Rattle.std.specs.List.{flat_map};
 ghost use Rattle.httparse.specs.Grammar.{RequestHead};
 ghost use Rattle.feed_http_heads.specs.Requests.{IsInBuffer, HasHead};
@@ -11,7 +11,6 @@ ghost use Rattle.feed_resolver.specs.Status.{active_line};
 ghost use Rattle.feed_resolver.specs.Validators.{has_validator, is_tagged, tag_of, tag_to, validated_by, validated};
 ghost use Rattle.feed_resolver.specs.Validators.{preflight_of, preflight_status};
 ghost use Rattle.feed_embargo.specs.Today.{TodayValue};
-ghost use Rattle.feed_site.specs.Site as site_file;
 ghost use Rattle.feed_resolver.specs.Answers.{dated, sited_by, sited_in};
 ghost use Rattle.feed_resolver.specs.Answered.{IsAnswered, IsAnsweredTo};
 ghost use Rattle.feed_resolver.specs.Replies.{reply_to};
@@ -30,6 +29,7 @@ use feed_resolver_request::{
     resource_of,
 };
 use feed_resolver_tag::{Digested, Site};
+use feed_site::SiteFile;
 use std::alloc::{AllocError, Global};
 
 fn has_validator(resource: Resource) -> bool
@@ -37,7 +37,7 @@ fn has_validator(resource: Resource) -> bool
 {
     matches!(
         resource,
-        Resource::Status | Resource::Resolve | Resource::Package
+        Resource::Status | Resource::Resolve | Resource::Package | Resource::Titles
     )
 }
 
@@ -115,23 +115,36 @@ fn is_query(alloc: Global, text: &[u8]) -> Result<bool, AllocError>
     }
 }
 
+// Returns whether the reply to a query shows its hits, without looking at any: a library that redirects browsers to a
+// sole hit has to count them first.
+fn shows_hits(alloc: Global, library: &SiteFile, text: &[u8]) -> Result<bool, AllocError>
+    ensures { IfOk result (λ is. is ≡ true
+        → (library.now.redirects_sole_hit ≡ false) × ((query : QueryValue) × (asked_of text.now ≡ Ok query))) }
+{
+    if library.redirects_sole_hit() {
+        return Ok(false);
+    }
+    is_query(alloc, text)
+}
+
 // Returns whether the reply to a target is a 200, without looking at any holdings. A target without a tag is left to
 // `reply_to`.
 fn is_answered(
     alloc: Global,
     target: &[u8],
+    library: &SiteFile,
     actives: &[ActiveRelease<'_>],
 ) -> Result<bool, AllocError>
     ensures { IfOk result (λ is. is ≡ true
-        → (site : site_file.SiteValue) (today : TodayValue) → IsAnswered target.now (sited_by site today actives.now)) }
+        → (today : TodayValue) → IsAnswered target.now (sited_by library.now today actives.now)) }
 {
     let path = path_in(target);
     match resource_of(path) {
         Resource::Status => Ok(true),
-        Resource::Resolve => is_query(alloc, query_in(target)),
+        Resource::Resolve => shows_hits(alloc, library, query_in(target)),
         Resource::Package => {
             if position_of(actives, package_in(path)).is_some() {
-                is_query(alloc, query_in(target))
+                shows_hits(alloc, library, query_in(target))
             } else {
                 Ok(false)
             }
@@ -144,17 +157,17 @@ fn is_answered(
 fn is_answered_to(
     alloc: Global,
     request: &Request<'_>,
+    library: &SiteFile,
     actives: &[ActiveRelease<'_>],
 ) -> Result<bool, AllocError>
     requires { IsInBuffer request.now }
     ensures { IfOk result (λ is. is ≡ true → (head : RequestHead) → HasHead request.now head
-        → is_tagged head ≡ true → (site : site_file.SiteValue) (today : TodayValue)
-        → IsAnsweredTo head (sited_by site today actives.now)) }
+        → is_tagged head ≡ true → (today : TodayValue) → IsAnsweredTo head (sited_by library.now today actives.now)) }
 {
     if request.lacks_host() || request.fields().has_field(b"transfer-encoding") {
         return Ok(false);
     }
-    is_answered(alloc, origin_form(request.target()), actives)
+    is_answered(alloc, origin_form(request.target()), library, actives)
 }
 
 fn validated_by(alloc: Global, reply: Reply, has: bool, tag: Vec<u8>, max_age: u32) -> Reply
@@ -188,7 +201,7 @@ pub(crate) fn validated_reply(
     }
     let max_age = context.site.max_age();
     let has = has_tag(&tag, &request.fields());
-    if has && is_answered_to(alloc, request, context.actives)? {
+    if has && is_answered_to(alloc, request, context.library(), context.actives)? {
         let query = query_in(origin_form(request.target()));
         let representation = representation_of(query, &request.fields());
         return Ok(Reply::not_modified(alloc, tag, max_age, representation));
@@ -201,7 +214,7 @@ fn preflight_of(resource: Resource) -> Option<Status>
     ensures { result ≡ preflight_of resource }
 {
     match resource {
-        Resource::Home | Resource::Status => Some(Status::Preflight),
+        Resource::Home | Resource::Status | Resource::Titles => Some(Status::Preflight),
         Resource::Resolve | Resource::Package | Resource::Go => Some(Status::QueryPreflight),
         Resource::Unknown => None,
     }

@@ -9,3 +9,4 @@ pub mod Tallies
 pub mod SolePlaces
 pub mod TitlesAsked
 pub mod LinksKept
+pub mod SoleHits

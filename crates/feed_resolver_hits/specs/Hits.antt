@@ -1,5 +1,5 @@
 -- The hits of a query, each with its release and its availability, and the best link among them.
-use Rattle.std.specs.Prelude.{ℕ, ◌+◌, ◌*◌, ◌-◌, Bool, nat_lt, if◌then◌else◌, List, [], ◌∷◌, codes, Option, Some, None, filter, map, option_map}
+use Rattle.std.specs.Prelude.{ℕ, ◌+◌, ◌*◌, ◌-◌, ◌&&◌, Bool, true, false, nat_lt, if◌then◌else◌, List, [], ◌∷◌, codes, Option, Some, None, filter, map, option_map}
 use Rattle.std.specs.Str.{str_eq_ignore_ascii_case}
 use Rattle.feed_names.specs.ReleaseName.{Name, text_of}
 use Rattle.feed_identifiers.specs.Text.{trimmed}
@@ -74,6 +74,20 @@ link_text found = through found.prefix found.hit.row.url
 -- the text of a release's name
 unfoldable pub name_text : Name → List ℕ
 name_text name = text_of name
+
+-- all days that the query asks for are open to readers
+abbrev pub is_available : Availability → Bool
+is_available Available = true
+is_available availability = false
+
+-- the row covers the whole of what is asked for
+abbrev pub is_inside : Grade → Bool
+is_inside Inside = true
+is_inside grade = false
+
+-- a reader may be sent to the hit without a choice
+abbrev pub is_certain : ReleaseHitValue → Bool
+is_certain found = is_available found.availability && is_inside found.hit.grade
 
 -- available ranks above partly available, that above not compared, and that above embargoed
 abbrev pub availability_rank : Availability → ℕ

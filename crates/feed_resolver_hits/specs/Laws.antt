@@ -1,20 +1,22 @@
 -- The laws of redirects and of hits in JSON.
-use Rattle.std.specs.Prelude.{◌≡◌, ◌↔◌, ◌<◌, ◌^◌, ℕ, List, Some, true, All}
+use Rattle.std.specs.Prelude.{◌≡◌, ◌↔◌, ◌<◌, ◌^◌, ℕ, List, [], ◌∷◌, Some, true, All}
 use Rattle.json.specs.Json.{document, array}
 use Rattle.json.specs.Value.{items_of}
 use Rattle.feed_names.specs.ReleaseName.{Name}
 use Rattle.feed_embargo.specs.Today.{TodayValue}
+use Rattle.feed_embargo.specs.declared.availability.Availability.TheVariants.{Available}
 use Rattle.feed_site.specs.Proxies.{proxied}
 use Rattle.feed_site.specs.Site as site_file
 use Rattle.feed_answer.specs.HitValue.{HitValue}
 use Rattle.feed_answer.specs.QueryValue.{QueryValue}
+use Rattle.feed_answer.specs.declared.grade.Grade.TheVariants.{Inside}
 use Rattle.feed_resolver_hits.specs.AnswerJson.{answer_json, answer_value}
 use Rattle.feed_resolver_hits.specs.Asks.{AskValue}
 use Rattle.feed_site.specs.Urls.{is_link}
 use Rattle.feed_resolver_hits.specs.Hits.{ReleaseHitValue, best_link, is_free, link_text, rank_of, release_hit}
 use Rattle.feed_resolver_hits.specs.HitsJson.{hits_json, item_values}
 use Rattle.feed_resolver_hits.specs.Ranks.{IsBestLink, IsPreferred}
-use Rattle.feed_resolver_hits.specs.Tallies.{TallyValue, tally_of}
+use Rattle.feed_resolver_hits.specs.Tallies.{TallyValue, sole_link, tally_of, text_limit, text_size}
 use Rattle.feed_resolver_hits.specs.Tallying.{no_hits, with_hits, tally_from}
 
 -- a redirect goes to a URL of `http` or `https` in visible ASCII, within the limit of a link
@@ -34,6 +36,22 @@ BestLinkRanksHighest = (hits : List ReleaseHitValue) → IsBestLink hits (best_l
 -- grade is better, or both are the same and its depth and access are, or these are too and the site lists its package first
 abbrev pub RanksInOrder : Type 0
 RanksInOrder = (one other : ReleaseHitValue) → (rank_of other < rank_of one) ↔ IsPreferred one other
+
+-- the hits are a single one: all days that are asked for are open, it covers the whole of what is asked for, and it may be
+-- linked to, by this link
+pub record IsSoleHit (hits : List ReleaseHitValue) (url : List ℕ) : Type 0 where
+  pub found : ReleaseHitValue
+  pub sole : hits ≡ found ∷ []
+  pub available : found.availability ≡ Available
+  pub inside : found.hit.grade ≡ Inside
+  pub link : is_link url ≡ true
+  pub means : url ≡ link_text found
+
+-- a sole link is that of such a hit; and such a hit has one, if its texts are within the limit of a reply
+abbrev pub SoleLinkIsOfSoleHit : Type 0
+SoleLinkIsOfSoleHit = (hits : List ReleaseHitValue) (url : List ℕ)
+    → (sole_link (tally_of hits) ≡ Some url → IsSoleHit hits url)
+    × ((is : IsSoleHit hits url) → text_size is.found < text_limit → sole_link (tally_of hits) ≡ Some url)
 
 -- what a tally says after the hits of a list were added one after another
 abbrev pub TallyTellsOfHits : Type 0

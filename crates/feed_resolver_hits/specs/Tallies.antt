@@ -1,7 +1,7 @@
 -- The hits of a query that a reply counts, shows and chooses from.
-use Rattle.std.specs.Prelude.{ℕ, ◌+◌, ◌-◌, ◌&&◌, nat_lt, nat_le, Bool, if◌then◌else◌, List, [], ◌∷◌, length, take, Option}
+use Rattle.std.specs.Prelude.{ℕ, ◌+◌, ◌-◌, ◌==◌, ◌&&◌, nat_lt, nat_le, Bool, if◌then◌else◌, List, [], ◌∷◌, length, take, Option, None}
 use Rattle.feed_site.specs.Proxies.{room_of}
-use Rattle.feed_resolver_hits.specs.Hits.{ReleaseHitValue, name_text, best_link}
+use Rattle.feed_resolver_hits.specs.Hits.{ReleaseHitValue, name_text, best_link, is_certain}
 use Rattle.feed_resolver_hits.specs.Ranks.{ranked}
 
 -- the most hits of a query that are counted
@@ -52,6 +52,15 @@ tally_of hits = record {
   top = first_within shown_limit text_limit (ranked (counted hits));
   best = best_link (counted hits);
 }
+
+-- a link, if a reader may be sent to the first of some hits without a choice
+abbrev pub link_if_certain : List ReleaseHitValue → Option (List ℕ) → Option (List ℕ)
+link_if_certain [] link = None
+link_if_certain (found ∷ more) link = if is_certain found then link else None
+
+-- the link of the sole hit, if there is only one and a reader may be sent there without a choice
+abbrev pub sole_link : TallyValue → Option (List ℕ)
+sole_link tally = if tally.count == 1 then link_if_certain tally.shown tally.best else None
 
 -- how many of the counted hits JSON and a page do not show
 abbrev pub left_out : TallyValue → ℕ

@@ -97,7 +97,7 @@ fn span_words(
 
 /// Returns the days of a row in words, such as `from 1996-03-01 to 2001-06-30`.
 #[tactic(auto, unfolding(crate::specs::Coverages::days_words))]
-pub(crate) fn days_words(alloc: Global, row: &Row) -> Result<Vec<u8>, AllocError>
+pub fn days_words(alloc: Global, row: &Row) -> Result<Vec<u8>, AllocError>
     ensures { IfOk result (λ words. words.items ≡ days_words row.now) }
 {
     let first = day_text(alloc, row.first_day())?;
@@ -107,7 +107,7 @@ pub(crate) fn days_words(alloc: Global, row: &Row) -> Result<Vec<u8>, AllocError
 
 /// Returns the volumes of a row in words, such as `volumes 1 to 7`.
 #[tactic(auto, unfolding(crate::specs::Coverages::volumes_words))]
-pub(crate) fn volumes_words(alloc: Global, row: &Row) -> Result<Vec<u8>, AllocError>
+pub fn volumes_words(alloc: Global, row: &Row) -> Result<Vec<u8>, AllocError>
     ensures { IfOk result (λ words. words.items ≡ volumes_words row.now) }
 {
     let first = volume_text(alloc, row.first_volume())?;

@@ -2,7 +2,8 @@
 ghost use Rattle.std.specs.Prelude.{◌≡◌, IfOk, option_copied};
 ghost use Rattle.std.specs.Cow.{cow_slice_items};
 ghost use Rattle.feed_answer.specs.HitValue.{hit_of};
-ghost use Rattle.feed_resolver_hits.specs.Hits.{days_asked, is_held, link_text, name_text, release_hit};
+ghost use Rattle.feed_site.specs.Packages.{package_place};
+ghost use Rattle.feed_resolver_hits.specs.Hits.{days_asked, is_certain, is_held, link_text, name_text, release_hit};
 
 use crate::rank::is_free;
 use crate::search::Search;
@@ -11,7 +12,7 @@ use feed_dates::DayRange;
 use feed_embargo::{Availability, Today, availability_of};
 use feed_kbart::{Kind, Row};
 use feed_names::ReleaseName;
-use feed_site::{SiteFile, library_has, link_to, package_place, prefix_for};
+use feed_site::{SiteFile, library_has, link_to, prefix_for};
 use std::alloc::{AllocError, Global};
 use std::borrow::CowSlice;
 use std::marker::Model;
@@ -44,13 +45,16 @@ impl<'a> Model for ReleaseHit<'a> {
 }
 
 impl<'a> ReleaseHit<'a> {
+    /// Returns a hit of a release whose package has this place in the order of the site.
     pub(crate) fn new(
         site: &'a SiteFile,
         today: &Today,
         search: &Search<'_>,
         name: &'a ReleaseName,
+        site_place: usize,
         hit: &Hit<'a>,
     ) -> ReleaseHit<'a>
+        requires { site_place ≡ package_place site.now name.now.stem }
         ensures { result ≡ release_hit site.now today.now search.now name.now (hit_of hit.now) }
     {
         let row = hit.row;
@@ -61,7 +65,7 @@ impl<'a> ReleaseHit<'a> {
             grade: hit.grade,
             availability: availability_of(today, row.embargo(), first, last, search.days()),
             prefix: prefix_for(site, row.url(), is_free(row)),
-            place: package_place(site, name.package()),
+            place: site_place,
         }
     }
 
@@ -119,6 +123,17 @@ impl<'a> ReleaseHit<'a> {
         ensures { result ≡ self.now.hit.grade }
     {
         self.grade
+    }
+
+    /// Returns whether a reader may be sent to the hit without a choice: all days that the query asks for are open, and
+    /// the row covers the whole of what is asked for.
+    pub(crate) fn is_certain(&self) -> bool
+        ensures { result ≡ is_certain self.now }
+    {
+        matches!(
+            (self.availability, self.grade),
+            (Availability::Available, Grade::Inside)
+        )
     }
 
     /// Returns how the days that the query asks for lie in those that are open to readers.

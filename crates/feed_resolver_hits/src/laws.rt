@@ -1,6 +1,7 @@
 //! Laws of hits, each stated as the contract of a function with an empty body.
 ghost use Rattle.feed_resolver_hits.specs.Laws.{AnswerIsJson, BestLinkRanksHighest, HitsAreJson, RedirectsToLink};
-ghost use Rattle.feed_resolver_hits.specs.Laws.{LinksAreProxied, RanksInOrder, TallyTellsOfHits};
+ghost use Rattle.feed_resolver_hits.specs.Laws.{LinksAreProxied, RanksInOrder, SoleLinkIsOfSoleHit};
+ghost use Rattle.feed_resolver_hits.specs.Laws.{TallyTellsOfHits};
 
 /// The URL of a redirect is one of `http` or `https` in at most 8,000 bytes of visible ASCII, so no byte of a file can
 /// end a line of a reply's head.
@@ -22,6 +23,12 @@ pub fn best_link_ranks_highest()
 /// both are the same and its depth and access are.
 pub fn ranks_in_order()
     ensures { RanksInOrder }
+{}
+
+/// A sole link is that of the only hit, which is available and covers the whole of what is asked for; and such a hit
+/// has one.
+pub fn sole_link_is_of_sole_hit()
+    ensures { SoleLinkIsOfSoleHit }
 {}
 
 /// A tally that is made hit by hit says how many hits there are, up to 1,000,000, the first ones, those of the highest

@@ -22,12 +22,13 @@ mod top;
 pub use answer_json::put_answer_json;
 pub use ask::{Ask, is_blank, names_work};
 pub use asked::read_query;
+pub use coverage::{days_words, volumes_words};
 pub use hits::{ReleaseHit, name_text};
 pub use hits_json::put_release_members;
 pub use hits_text::put_release;
 pub use laws::{
     answer_is_json, best_link_ranks_highest, hits_are_json, links_are_proxied, ranks_in_order,
-    redirects_to_link, tally_tells_of_hits,
+    redirects_to_link, sole_link_is_of_sole_hit, tally_tells_of_hits,
 };
 pub use rank::{is_free, is_full_text};
 pub use search::Search;

@@ -5,8 +5,9 @@ ghost use Rattle.std.specs.List.{filter_map};
 ghost use Rattle.feed_answer.specs.Answers.{answer_of};
 ghost use Rattle.feed_answer.specs.HitValue.{hit_of};
 ghost use Rattle.feed_answer.specs.Places.{hit_at};
+ghost use Rattle.feed_site.specs.Packages.{package_place};
 ghost use Rattle.feed_resolver_hits.specs.Hits.{library_hits};
-ghost use Rattle.feed_resolver_hits.specs.Tallies.{left_out};
+ghost use Rattle.feed_resolver_hits.specs.Tallies.{left_out, sole_link};
 ghost use Rattle.feed_resolver_hits.specs.Tallying.{no_hits, with_hit, with_hits, tally_from};
 
 use crate::candidates::sole_places;
@@ -19,7 +20,7 @@ use feed_answer::places_of;
 use feed_embargo::Today;
 use feed_kbart::{Holdings, Row};
 use feed_names::ReleaseName;
-use feed_site::SiteFile;
+use feed_site::{SiteFile, package_place};
 use std::alloc::{AllocError, Global};
 use std::marker::Model;
 
@@ -107,6 +108,22 @@ impl<'a> Tally<'a> {
         self.links.best()
     }
 
+    /// Returns the link of the sole hit, if there is only one, a reader may be sent there without a choice, and it has
+    /// a link.
+    pub fn sole_link(&self) -> Option<&[u8]>
+        ensures { option_copied result ≡ sole_link (tally_from self.now) }
+    {
+        if self.count() != 1 {
+            return None;
+        }
+        let (found, _) = self.shown().split_first()?;
+        if found.is_certain() {
+            self.best_link()
+        } else {
+            None
+        }
+    }
+
     fn count_hit(&mut self, alloc: Global, found: ReleaseHit<'a>) -> Result<(), AllocError>
         ensures { OnOk result (self.new ≡ with_hit self.old found.entry) }
     {
@@ -129,10 +146,12 @@ impl<'a> Tally<'a> {
         site: &'a SiteFile,
         today: &Today,
         name: &'a ReleaseName,
+        site_place: usize,
         rows: &'a [Row],
         place: u32,
         search: &Search<'_>,
     ) -> Result<(), AllocError>
+        requires { site_place ≡ package_place site.now name.now.stem }
         ensures { OnOk result (self.new
             ≡ with_hits self.old (library_hits site.now today.now search.now name.now
             (filter_map (hit_at search.now rows.now) (place ∷ [])))) }
@@ -140,7 +159,8 @@ impl<'a> Tally<'a> {
         match search.hit_at(rows, place) {
             Some(hit) => {
                 if is_held(site, search, name, &hit) {
-                    self.count_hit(alloc, ReleaseHit::new(site, today, search, name, &hit))
+                    let found = ReleaseHit::new(site, today, search, name, site_place, &hit);
+                    self.count_hit(alloc, found)
                 } else {
                     Ok(())
                 }
@@ -155,10 +175,12 @@ impl<'a> Tally<'a> {
         site: &'a SiteFile,
         today: &Today,
         name: &'a ReleaseName,
+        site_place: usize,
         rows: &'a [Row],
         places: &[u32],
         search: &Search<'_>,
     ) -> Result<(), AllocError>
+        requires { site_place ≡ package_place site.now name.now.stem }
         ensures { OnOk result (self.new
             ≡ with_hits self.old (library_hits site.now today.now search.now name.now
             (filter_map (hit_at search.now rows.now) places.now))) }
@@ -167,7 +189,7 @@ impl<'a> Tally<'a> {
             if !self.is_whole {
                 return Ok(());
             }
-            self.add_hit_at(alloc, site, today, name, rows, *place, search)?;
+            self.add_hit_at(alloc, site, today, name, site_place, rows, *place, search)?;
         }
         Ok(())
     }
@@ -187,19 +209,22 @@ impl<'a> Tally<'a> {
             ≡ with_hits self.old (library_hits site.now today.now search.now name.now
             (answer_of holdings.now search.now))) }
     {
+        let site_place = package_place(site, name.package());
         match sole_places(holdings, search.query()) {
             Some(places) => self.add_hits_at(
                 alloc,
                 site,
                 today,
                 name,
+                site_place,
                 holdings.rows(),
                 places,
                 search,
             ),
             None => {
                 let places = places_of(alloc, holdings, search.query())?;
-                self.add_hits_at(alloc, site, today, name, holdings.rows(), &places, search)
+                let rows = holdings.rows();
+                self.add_hits_at(alloc, site, today, name, site_place, rows, &places, search)
             }
         }
     }

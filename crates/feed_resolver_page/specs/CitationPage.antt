@@ -1,5 +1,5 @@
 -- The citation of a query in a page.
-use Rattle.std.specs.Prelude.{ℕ, ◌||◌, ◌==◌, Bool, true, if◌then◌else◌, List, [], ◌∷◌, ◌++◌, codes}
+use Rattle.std.specs.Prelude.{ℕ, ◌&&◌, ◌||◌, ◌==◌, Bool, true, if◌then◌else◌, List, [], ◌∷◌, ◌++◌, codes}
 use Rattle.std.specs.List.{list_all}
 use Rattle.std.specs.Char.{is_ascii_alphanumeric}
 use Rattle.feed_answer.specs.Pairs.{is_empty}
@@ -8,6 +8,7 @@ use Rattle.feed_site.specs.Site as site_file
 use Rattle.feed_resolver_reply.specs.Escapes.{escaped}
 use Rattle.feed_resolver_reply.specs.Pieces.{joined}
 use Rattle.feed_resolver_hits.specs.Asks.{AskValue, is_blank}
+use Rattle.feed_resolver_page.specs.SearchForms.{isbn_in, issn_in}
 use Rattle.feed_site.specs.Texts.{text_of}
 use Rattle.feed_page_texts.specs.declared.table.Text.{Text}
 use Rattle.feed_page_texts.specs.declared.table.Text.TheVariants as text
@@ -52,6 +53,14 @@ unfoldable pub name_row : List ℕ → List ℕ → List ℕ → List ℕ
 name_row label front value =
     if is_empty value then [] else if list_all is_plain value then link_row label front value else plain_row label value
 
+-- a number of a query, if it has one
+unfoldable pub number_row : List ℕ → List ℕ → List ℕ
+number_row label value = if is_empty value then [] else plain_row label value
+
+-- the ISSN and the ISBN of a query, as in the form
+unfoldable pub number_rows : List (List ℕ × List ℕ) → List ℕ
+number_rows pairs = number_row (codes "ISSN") (issn_in pairs) ++ number_row (codes "ISBN") (isbn_in pairs)
+
 -- what is cited
 unfoldable pub work_rows : site_file.SiteValue → CitationValue → List ℕ
 work_rows site citation =
@@ -76,10 +85,15 @@ unfoldable pub name_rows : site_file.SiteValue → CitationValue → List ℕ
 name_rows site citation =
     cited_row site text.Page citation.page true ++ (doi_row citation.doi ++ pmid_row citation.pmid)
 
-unfoldable pub citation_rows : site_file.SiteValue → AskValue → List ℕ
-citation_rows site ask = work_rows site ask.citation ++ (place_rows site ask ++ name_rows site ask.citation)
+unfoldable pub citation_rows : site_file.SiteValue → List (List ℕ × List ℕ) → AskValue → List ℕ
+citation_rows site pairs ask =
+    work_rows site ask.citation ++ (number_rows pairs ++ (place_rows site ask ++ name_rows site ask.citation))
+
+-- there is nothing to cite
+abbrev pub is_uncited : List (List ℕ × List ℕ) → AskValue → Bool
+is_uncited pairs ask = is_blank ask.citation && is_empty (issn_in pairs) && is_empty (isbn_in pairs)
 
 -- the citation as a list, if there is anything in it
-unfoldable pub citation_part : site_file.SiteValue → AskValue → List ℕ
-citation_part site ask =
-    if is_blank ask.citation then [] else codes "<dl>\n" ++ (citation_rows site ask ++ codes "</dl>\n")
+unfoldable pub citation_part : site_file.SiteValue → List (List ℕ × List ℕ) → AskValue → List ℕ
+citation_part site pairs ask =
+    if is_uncited pairs ask then [] else codes "<dl>\n" ++ (citation_rows site pairs ask ++ codes "</dl>\n")

@@ -1,5 +1,5 @@
 -- The coverage of a row, and how it is read, in words.
-use Rattle.std.specs.Prelude.{ℕ, if◌then◌else◌, List, [], ◌∷◌, ◌++◌, codes, Option, Some, None}
+use Rattle.std.specs.Prelude.{ℕ, ◌&&◌, Bool, if◌then◌else◌, List, [], ◌∷◌, ◌++◌, codes, Option, Some, None}
 use Rattle.std.specs.Fmt.{decimal}
 use Rattle.std.specs.Option.{option_and_then}
 use Rattle.feed_dates.specs.Days.{date_of_day}
@@ -8,33 +8,50 @@ use Rattle.feed_site.specs.Site as site_file
 use Rattle.feed_resolver_reply.specs.Escapes.{escaped}
 use Rattle.feed_resolver_reply.specs.Pieces.{joined}
 use Rattle.feed_resolver_hits.specs.Hits.{is_free, is_full_text}
-use Rattle.feed_resolver_page.specs.Dates.{date_words}
+use Rattle.feed_resolver_page.specs.Dates.{begins_year, date_words, ends_year, year_words}
 use Rattle.feed_resolver_page.specs.EmbargoTexts.{embargo_part, sentence}
 use Rattle.feed_site.specs.Texts.{text_of}
 use Rattle.feed_page_texts.specs.declared.table.Text.{Text}
 use Rattle.feed_page_texts.specs.declared.table.Text.TheVariants as text
 
--- a text, and a date after it
-unfoldable pub date_after : site_file.SiteValue → Text → List ℕ → List ℕ
-date_after site name date = joined (escaped (text_of site name) ∷ codes " " ∷ []) ++ date_words site date
+-- the texts before the first date, the last one, and the last one without a first, of days or of whole years
+abbrev pub from_text : Bool → Text
+from_text in_years = if in_years then text.AvailableFromYear else text.AvailableFrom
 
-unfoldable pub date_sentence : site_file.SiteValue → Text → List ℕ → List ℕ
-date_sentence site name date = date_after site name date ++ codes ". "
+abbrev pub to_text : Bool → Text
+to_text in_years = if in_years then text.ToYear else text.To
+
+abbrev pub until_text : Bool → Text
+until_text in_years = if in_years then text.AvailableToYear else text.AvailableTo
+
+-- a date in words, or its year alone
+abbrev pub when_words : site_file.SiteValue → Bool → List ℕ → List ℕ
+when_words site in_years date = if in_years then year_words date else date_words site date
+
+-- a text, and a date or a year after it
+unfoldable pub date_after : site_file.SiteValue → Text → Bool → List ℕ → List ℕ
+date_after site name in_years date =
+    joined (escaped (text_of site name) ∷ codes " " ∷ []) ++ when_words site in_years date
+
+unfoldable pub date_sentence : site_file.SiteValue → Text → Bool → List ℕ → List ℕ
+date_sentence site name in_years date = date_after site name in_years date ++ codes ". "
 
 -- the days of a coverage without a last day
-unfoldable pub from_words : site_file.SiteValue → List ℕ → List ℕ
-from_words site first =
-    date_after site text.AvailableFrom first ++ joined (codes " " ∷ escaped (text_of site text.ToPresent) ∷ codes ". " ∷ [])
+unfoldable pub from_words : site_file.SiteValue → Bool → List ℕ → List ℕ
+from_words site in_years first =
+    date_after site (from_text in_years) in_years first
+    ++ joined (codes " " ∷ escaped (text_of site text.ToPresent) ∷ codes ". " ∷ [])
 
-unfoldable pub days_between : site_file.SiteValue → List ℕ → List ℕ → List ℕ
-days_between site first last = date_after site text.AvailableFrom first ++ (codes " " ++ date_sentence site text.To last)
+unfoldable pub days_between : site_file.SiteValue → Bool → List ℕ → List ℕ → List ℕ
+days_between site in_years first last =
+    date_after site (from_text in_years) in_years first ++ (codes " " ++ date_sentence site (to_text in_years) in_years last)
 
--- the days from a first to a last one, as far as they are known
+-- the days from a first to a last one, as far as they are known; whole years as years
 abbrev pub days_by : site_file.SiteValue → Option (List ℕ) → Option (List ℕ) → List ℕ
 days_by site None None = []
-days_by site None (Some last) = date_sentence site text.AvailableTo last
-days_by site (Some first) None = from_words site first
-days_by site (Some first) (Some last) = days_between site first last
+days_by site None (Some last) = date_sentence site (until_text (ends_year last)) (ends_year last) last
+days_by site (Some first) None = from_words site (begins_year first) first
+days_by site (Some first) (Some last) = days_between site (begins_year first && ends_year last) first last
 
 -- the days that a row covers
 unfoldable pub days_words : site_file.SiteValue → RowValue → List ℕ

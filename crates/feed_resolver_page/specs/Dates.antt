@@ -1,5 +1,5 @@
 -- Dates in words.
-use Rattle.std.specs.Prelude.{ℕ, ◌==◌, if◌then◌else◌, List, [], ◌∷◌, ◌++◌, codes}
+use Rattle.std.specs.Prelude.{ℕ, ◌==◌, ◌&&◌, Bool, false, if◌then◌else◌, List, [], ◌∷◌, ◌++◌, codes}
 use Rattle.feed_site.specs.Site as site_file
 use Rattle.feed_resolver_reply.specs.Escapes.{escaped}
 use Rattle.feed_resolver_reply.specs.Pieces.{joined}
@@ -42,6 +42,21 @@ day_words site tens ones =
 -- a month and its year, after a day
 unfoldable pub month_words : site_file.SiteValue → Text → List ℕ → List ℕ
 month_words site month year = joined (codes " " ∷ escaped (text_of site month) ∷ codes " " ∷ year ∷ [])
+
+-- a date is the first day of a year
+abbrev pub begins_year : List ℕ → Bool
+begins_year (a ∷ b ∷ c ∷ d ∷ h ∷ e ∷ f ∷ k ∷ i ∷ j ∷ []) = (e == 48) && (f == 49) && (i == 48) && (j == 49)
+begins_year _ = false
+
+-- a date is the last day of a year
+abbrev pub ends_year : List ℕ → Bool
+ends_year (a ∷ b ∷ c ∷ d ∷ h ∷ e ∷ f ∷ k ∷ i ∷ j ∷ []) = (e == 49) && (f == 50) && (i == 51) && (j == 49)
+ends_year _ = false
+
+-- the year of a date
+unfoldable pub year_words : List ℕ → List ℕ
+year_words (a ∷ b ∷ c ∷ d ∷ h ∷ e ∷ f ∷ k ∷ i ∷ j ∷ []) = a ∷ b ∷ c ∷ d ∷ []
+year_words _ = []
 
 -- a date that is written `YYYY-MM-DD`
 unfoldable pub date_words : site_file.SiteValue → List ℕ → List ℕ

@@ -13,7 +13,7 @@ use Rattle.feed_resolver_hits.specs.Tallies.{TallyValue, left_out}
 use Rattle.feed_resolver_page.specs.Cards.{card}
 use Rattle.feed_resolver_page.specs.CitationPage.{citation_part}
 use Rattle.feed_resolver_page.specs.Frames.{page_end, page_top}
-use Rattle.feed_resolver_page.specs.SearchForms.{search_form, value_at}
+use Rattle.feed_resolver_page.specs.SearchForms.{isbn_in, issn_in, search_form}
 use Rattle.feed_site.specs.Texts.{text_of}
 use Rattle.feed_resolver_page.specs.declared.card.Fit.TheVariants.{Hit, Outside}
 use Rattle.feed_resolver_page.specs.declared.hits_page.TheConstants.{LIST, LIST_END}
@@ -71,8 +71,8 @@ found_part site cited tally others =
     if tally.count == 0 then others_part site cited others else hits_part site cited tally
 
 -- the citation of the query, and what was found
-unfoldable pub answer_part : site_file.SiteValue → AskValue → TallyValue → TallyValue → List ℕ
-answer_part site ask tally others = citation_part site ask ++ found_part site ask.citation.title tally others
+unfoldable pub answer_part : site_file.SiteValue → List (List ℕ × List ℕ) → AskValue → TallyValue → TallyValue → List ℕ
+answer_part site pairs ask tally others = citation_part site pairs ask ++ found_part site ask.citation.title tally others
 
 unfoldable pub link_to : List ℕ → List ℕ → List ℕ
 link_to label url = joined (codes "<p><a href=\"" ∷ escaped url ∷ codes "\">" ∷ escaped label ∷ codes "</a></p>\n" ∷ [])
@@ -104,8 +104,8 @@ cited_of ask pairs = record {
   volume = ask.citation.volume;
   issue = ask.citation.issue;
   page = ask.citation.page;
-  issn = value_at (codes "rft.issn") (codes "issn") pairs;
-  isbn = value_at (codes "rft.isbn") (codes "isbn") pairs;
+  issn = issn_in pairs;
+  isbn = isbn_in pairs;
   doi = ask.citation.doi;
   pmid = ask.citation.pmid;
 }
@@ -126,15 +126,18 @@ unfoldable pub page_foot : site_file.SiteValue → List ℕ
 page_foot site = help_part site ++ page_end
 
 -- what follows an answer
-unfoldable pub page_bottom : site_file.SiteValue → List ℕ → AskValue → List ℕ
-page_bottom site query ask =
-    request_part site ask (form.parse query) ++ (search_part site (form.parse query) ++ page_foot site)
+unfoldable pub page_bottom : site_file.SiteValue → List (List ℕ × List ℕ) → AskValue → List ℕ
+page_bottom site pairs ask = request_part site ask pairs ++ (search_part site pairs ++ page_foot site)
 
 -- the heading, by the number of hits
 abbrev pub page_name : ℕ → Text
 page_name count = if count == 0 then text.NoFullText else text.FullText
 
--- the page of the hits of a query; if there are none, it shows the other tally
-unfoldable pub hits_page : site_file.SiteValue → List ℕ → AskValue → TallyValue → TallyValue → List ℕ
-hits_page site query ask tally others =
-    page_top site (page_name tally.count) ++ (answer_part site ask tally others ++ page_bottom site query ask)
+-- the page of the hits of a query with these pairs; if there are none, it shows the other tally
+unfoldable pub page_of_hits : site_file.SiteValue → List (List ℕ × List ℕ) → AskValue → TallyValue → TallyValue → List ℕ
+page_of_hits site pairs ask tally others =
+    page_top site (page_name tally.count) ++ (answer_part site pairs ask tally others ++ page_bottom site pairs ask)
+
+-- the same of a query as it is sent
+abbrev pub hits_page : site_file.SiteValue → List ℕ → AskValue → TallyValue → TallyValue → List ℕ
+hits_page site query ask tally others = page_of_hits site (form.parse query) ask tally others

@@ -6,4 +6,8 @@ pub mod CitationPage
 pub mod Frames
 pub mod SearchForms
 pub mod HitsPage
+pub mod ErrorPages
+pub mod TitlesForms
+pub mod Titles
+pub mod TitlesPage
 pub mod QueryRefusals

@@ -14,6 +14,13 @@ abbrev pub value_at : List ℕ → List ℕ → List (List ℕ × List ℕ) → 
 value_at key other [] = []
 value_at key other (pair ∷ pairs) = if has_key key pair || has_key other pair then pair.1 else value_at key other pairs
 
+-- the ISSN and the ISBN that a query has for the form
+abbrev pub issn_in : List (List ℕ × List ℕ) → List ℕ
+issn_in pairs = value_at (codes "rft.issn") (codes "issn") pairs
+
+abbrev pub isbn_in : List (List ℕ × List ℕ) → List ℕ
+isbn_in pairs = value_at (codes "rft.isbn") (codes "isbn") pairs
+
 -- a field with its label and a value
 unfoldable pub field : site_file.SiteValue → Text → List ℕ → List ℕ → List ℕ
 field site label key value = joined (
@@ -23,8 +30,7 @@ field site label key value = joined (
 -- the fields for an ISSN and an ISBN
 unfoldable pub first_fields : site_file.SiteValue → List (List ℕ × List ℕ) → List ℕ
 first_fields site pairs =
-    field site text.FieldIssn (codes "issn") (value_at (codes "rft.issn") (codes "issn") pairs)
-    ++ field site text.FieldIsbn (codes "isbn") (value_at (codes "rft.isbn") (codes "isbn") pairs)
+    field site text.FieldIssn (codes "issn") (issn_in pairs) ++ field site text.FieldIsbn (codes "isbn") (isbn_in pairs)
 
 -- those for a date and a volume
 unfoldable pub last_fields : site_file.SiteValue → List (List ℕ × List ℕ) → List ℕ

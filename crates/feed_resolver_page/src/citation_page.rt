@@ -2,9 +2,12 @@
 ghost use Rattle.std.specs.Prelude.{◌≡◌, ◌++◌, OnOk};
 ghost use Rattle.std.specs.List.{list_all};
 ghost use Rattle.feed_resolver_page.specs.CitationPage.{citation_part, citation_rows, cited_row, doi_row, is_mark};
-ghost use Rattle.feed_resolver_page.specs.CitationPage.{is_plain, link_row, name_row, name_rows, noted_row, place_rows};
+ghost use Rattle.feed_resolver_page.specs.CitationPage.{is_plain, is_uncited, link_row, name_row, name_rows, noted_row};
+ghost use Rattle.feed_resolver_page.specs.CitationPage.{number_row, number_rows, place_rows};
 ghost use Rattle.feed_resolver_page.specs.CitationPage.{plain_row, pmid_row, text_row, work_rows};
 
+use crate::form::{isbn_in, issn_in};
+use feed_answer::Pair;
 use feed_openurl::Citation;
 use feed_page_texts::Text;
 use feed_pieces::put_all;
@@ -169,6 +172,25 @@ fn put_name<'a>(
     }
 }
 
+// Writes a number of a query, if it has one.
+#[tactic(auto, unfolding(crate::specs::CitationPage::number_row))]
+fn put_number(out: &mut Vec<u8>, label: &[u8], number: &[u8]) -> Result<(), AllocError>
+    ensures { OnOk result (out.new.items ≡ out.old.items ++ number_row label.now number.now) }
+{
+    if number.is_empty() {
+        return Ok(());
+    }
+    put_plain(out, label, number)
+}
+
+#[tactic(auto, unfolding(crate::specs::CitationPage::number_rows))]
+fn put_numbers(out: &mut Vec<u8>, pairs: &[Pair<'_>]) -> Result<(), AllocError>
+    ensures { OnOk result (out.new.items ≡ out.old.items ++ number_rows pairs.now) }
+{
+    put_number(out, b"ISSN", issn_in(pairs))?;
+    put_number(out, b"ISBN", isbn_in(pairs))
+}
+
 #[tactic(auto, unfolding(crate::specs::CitationPage::work_rows))]
 fn put_work(out: &mut Vec<u8>, site: &SiteFile, citation: &Citation) -> Result<(), AllocError>
     ensures { OnOk result (out.new.items ≡ out.old.items ++ work_rows site.now citation.now) }
@@ -224,23 +246,41 @@ fn put_names(out: &mut Vec<u8>, site: &SiteFile, citation: &Citation) -> Result<
 }
 
 #[tactic(auto, unfolding(crate::specs::CitationPage::citation_rows))]
-fn put_rows(out: &mut Vec<u8>, site: &SiteFile, ask: &Ask) -> Result<(), AllocError>
-    ensures { OnOk result (out.new.items ≡ out.old.items ++ citation_rows site.now ask.now) }
+fn put_rows(
+    out: &mut Vec<u8>,
+    site: &SiteFile,
+    pairs: &[Pair<'_>],
+    ask: &Ask,
+) -> Result<(), AllocError>
+    ensures { OnOk result (out.new.items ≡ out.old.items ++ citation_rows site.now pairs.now ask.now) }
 {
     put_work(out, site, &ask.citation)?;
+    put_numbers(out, pairs)?;
     put_place(out, site, ask)?;
     put_names(out, site, &ask.citation)
 }
 
-/// Writes the citation of a query, if there is anything in it.
-#[tactic(auto, unfolding(crate::specs::CitationPage::citation_part))]
-pub(crate) fn put_citation(out: &mut Vec<u8>, site: &SiteFile, ask: &Ask) -> Result<(), AllocError>
-    ensures { OnOk result (out.new.items ≡ out.old.items ++ citation_part site.now ask.now) }
+// Returns whether there is nothing to cite.
+fn is_uncited(pairs: &[Pair<'_>], ask: &Ask) -> bool
+    ensures { result ≡ is_uncited pairs.now ask.now }
 {
-    if is_blank(&ask.citation) {
+    is_blank(&ask.citation) && issn_in(pairs).is_empty() && isbn_in(pairs).is_empty()
+}
+
+/// Writes the citation of a query, with its ISSN and its ISBN, if there is anything in it.
+#[tactic(auto, unfolding(crate::specs::CitationPage::citation_part))]
+pub(crate) fn put_citation(
+    out: &mut Vec<u8>,
+    site: &SiteFile,
+    pairs: &[Pair<'_>],
+    ask: &Ask,
+) -> Result<(), AllocError>
+    ensures { OnOk result (out.new.items ≡ out.old.items ++ citation_part site.now pairs.now ask.now) }
+{
+    if is_uncited(pairs, ask) {
         return Ok(());
     }
     put(out, b"<dl>\n")?;
-    put_rows(out, site, ask)?;
+    put_rows(out, site, pairs, ask)?;
     put(out, b"</dl>\n")
 }

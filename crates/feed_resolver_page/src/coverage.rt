@@ -2,12 +2,13 @@
 ghost use Rattle.std.specs.Prelude.{◌≡◌, ◌++◌, OnOk};
 ghost use Rattle.std.specs.Option.{option_and_then};
 ghost use Rattle.feed_dates.specs.Days.{date_of_day};
+ghost use Rattle.feed_resolver_page.specs.Dates.{ends_year};
 ghost use Rattle.feed_resolver_page.specs.Coverage.{access_words, coverage_words, date_after, date_sentence};
 ghost use Rattle.feed_resolver_page.specs.Coverage.{days_between, days_words, depth_text, free_text};
-ghost use Rattle.feed_resolver_page.specs.Coverage.{from_words, span_words, volume_sentence};
-ghost use Rattle.feed_resolver_page.specs.Coverage.{volumes_between, volumes_words};
+ghost use Rattle.feed_resolver_page.specs.Coverage.{from_text, from_words, span_words, to_text, until_text};
+ghost use Rattle.feed_resolver_page.specs.Coverage.{volume_sentence, volumes_between, volumes_words, when_words};
 
-use crate::dates::put_date;
+use crate::dates::{begins_year, ends_year, put_date, put_year};
 use crate::embargo::{put_embargo, put_sentence};
 use feed_dates::write_date;
 use feed_kbart::Row;
@@ -18,21 +19,67 @@ use feed_resolver_reply::{Piece, put};
 use feed_site::{SiteFile, text_of};
 use std::alloc::AllocError;
 
-// Writes a text and a date after it.
+// Returns the text before the first date.
+fn from_text(in_years: bool) -> Text
+    ensures { result ≡ from_text in_years }
+{
+    if in_years {
+        Text::AvailableFromYear
+    } else {
+        Text::AvailableFrom
+    }
+}
+
+// Returns the text before the last date, behind a first one.
+fn to_text(in_years: bool) -> Text
+    ensures { result ≡ to_text in_years }
+{
+    if in_years { Text::ToYear } else { Text::To }
+}
+
+// Returns the text before a last date without a first one.
+fn until_text(in_years: bool) -> Text
+    ensures { result ≡ until_text in_years }
+{
+    if in_years {
+        Text::AvailableToYear
+    } else {
+        Text::AvailableTo
+    }
+}
+
+// Writes a date in words, or its year alone.
+fn put_when(
+    out: &mut Vec<u8>,
+    site: &SiteFile,
+    in_years: bool,
+    date: &[u8],
+) -> Result<(), AllocError>
+    ensures { OnOk result (out.new.items ≡ out.old.items ++ when_words site.now in_years date.now) }
+{
+    if in_years {
+        put_year(out, date)
+    } else {
+        put_date(out, site, date)
+    }
+}
+
+// Writes a text, and a date or a year after it.
 #[tactic(auto, unfolding(crate::specs::Coverage::date_after))]
 fn put_date_after(
     out: &mut Vec<u8>,
     site: &SiteFile,
     name: Text,
+    in_years: bool,
     date: &[u8],
 ) -> Result<(), AllocError>
-    ensures { OnOk result (out.new.items ≡ out.old.items ++ date_after site.now name date.now) }
+    ensures { OnOk result (out.new.items ≡ out.old.items ++ date_after site.now name in_years date.now) }
 {
     put_all(
         out,
         &[Piece::Escaped(text_of(site, name)), Piece::Plain(b" ")],
     )?;
-    put_date(out, site, date)
+    put_when(out, site, in_years, date)
 }
 
 #[tactic(auto, unfolding(crate::specs::Coverage::date_sentence))]
@@ -40,20 +87,26 @@ fn put_date_sentence(
     out: &mut Vec<u8>,
     site: &SiteFile,
     name: Text,
+    in_years: bool,
     date: &[u8],
 ) -> Result<(), AllocError>
-    ensures { OnOk result (out.new.items ≡ out.old.items ++ date_sentence site.now name date.now) }
+    ensures { OnOk result (out.new.items ≡ out.old.items ++ date_sentence site.now name in_years date.now) }
 {
-    put_date_after(out, site, name, date)?;
+    put_date_after(out, site, name, in_years, date)?;
     put(out, b". ")
 }
 
 // Writes the first day of a coverage that has no last one.
 #[tactic(auto, unfolding(crate::specs::Coverage::from_words))]
-fn put_from(out: &mut Vec<u8>, site: &SiteFile, first: &[u8]) -> Result<(), AllocError>
-    ensures { OnOk result (out.new.items ≡ out.old.items ++ from_words site.now first.now) }
+fn put_from(
+    out: &mut Vec<u8>,
+    site: &SiteFile,
+    in_years: bool,
+    first: &[u8],
+) -> Result<(), AllocError>
+    ensures { OnOk result (out.new.items ≡ out.old.items ++ from_words site.now in_years first.now) }
 {
-    put_date_after(out, site, Text::AvailableFrom, first)?;
+    put_date_after(out, site, from_text(in_years), in_years, first)?;
     put_all(
         out,
         &[
@@ -68,14 +121,25 @@ fn put_from(out: &mut Vec<u8>, site: &SiteFile, first: &[u8]) -> Result<(), Allo
 fn put_days_between(
     out: &mut Vec<u8>,
     site: &SiteFile,
+    in_years: bool,
     first: &[u8],
     last: &[u8],
 ) -> Result<(), AllocError>
-    ensures { OnOk result (out.new.items ≡ out.old.items ++ days_between site.now first.now last.now) }
+    ensures { OnOk result (out.new.items
+        ≡ out.old.items ++ days_between site.now in_years first.now last.now) }
 {
-    put_date_after(out, site, Text::AvailableFrom, first)?;
+    put_date_after(out, site, from_text(in_years), in_years, first)?;
     put(out, b" ")?;
-    put_date_sentence(out, site, Text::To, last)
+    put_date_sentence(out, site, to_text(in_years), in_years, last)
+}
+
+// Writes the last day of a coverage that has no first one.
+fn put_until(out: &mut Vec<u8>, site: &SiteFile, last: &[u8]) -> Result<(), AllocError>
+    ensures { OnOk result (out.new.items
+        ≡ out.old.items ++ date_sentence site.now (until_text (ends_year last.now)) (ends_year last.now) last.now) }
+{
+    let in_years = ends_year(last);
+    put_date_sentence(out, site, until_text(in_years), in_years, last)
 }
 
 fn date_of(day: Option<i32>) -> Option<[u8; 10]>
@@ -91,9 +155,12 @@ fn put_days(out: &mut Vec<u8>, site: &SiteFile, row: &Row) -> Result<(), AllocEr
     let first = date_of(row.first_day());
     let last = date_of(row.last_day());
     match (&first, &last) {
-        (Some(first), Some(last)) => put_days_between(out, site, first, last),
-        (Some(first), None) => put_from(out, site, first),
-        (None, Some(last)) => put_date_sentence(out, site, Text::AvailableTo, last),
+        (Some(first), Some(last)) => {
+            let in_years = begins_year(first) && ends_year(last);
+            put_days_between(out, site, in_years, first, last)
+        }
+        (Some(first), None) => put_from(out, site, begins_year(first), first),
+        (None, Some(last)) => put_until(out, site, last),
         (None, None) => Ok(()),
     }
 }

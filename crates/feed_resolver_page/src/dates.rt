@@ -1,10 +1,11 @@
 //! Writes dates in words.
 ghost use Rattle.std.specs.Prelude.{◌≡◌, ◌++◌, OnOk};
-ghost use Rattle.feed_resolver_page.specs.Dates.{date_words, day_words, early_month, marked, month_of, month_words};
+ghost use Rattle.feed_resolver_page.specs.Dates.{begins_year, date_words, day_words, early_month, ends_year, marked};
+ghost use Rattle.feed_resolver_page.specs.Dates.{month_of, month_words, year_words};
 
 use feed_page_texts::Text;
 use feed_pieces::put_all;
-use feed_resolver_reply::Piece;
+use feed_resolver_reply::{Piece, put};
 use feed_site::{SiteFile, text_of};
 use std::alloc::AllocError;
 
@@ -82,6 +83,37 @@ fn put_month<'a>(
             Piece::Plain(year),
         ],
     )
+}
+
+/// Returns whether a date, `YYYY-MM-DD`, is the first day of a year.
+pub(crate) fn begins_year(date: &[u8]) -> bool
+    ensures { result ≡ begins_year date.now }
+{
+    match date {
+        [_, _, _, _, _, e, f, _, i, j] => *e == b'0' && *f == b'1' && *i == b'0' && *j == b'1',
+        _ => false,
+    }
+}
+
+/// Returns whether a date is the last day of a year.
+pub(crate) fn ends_year(date: &[u8]) -> bool
+    ensures { result ≡ ends_year date.now }
+{
+    match date {
+        [_, _, _, _, _, e, f, _, i, j] => *e == b'1' && *f == b'2' && *i == b'3' && *j == b'1',
+        _ => false,
+    }
+}
+
+/// Writes the year of a date.
+#[tactic(auto, unfolding(crate::specs::Dates::year_words))]
+pub(crate) fn put_year(out: &mut Vec<u8>, date: &[u8]) -> Result<(), AllocError>
+    ensures { OnOk result (out.new.items ≡ out.old.items ++ year_words date.now) }
+{
+    match date {
+        [a, b, c, d, _, _, _, _, _, _] => put(out, &[*a, *b, *c, *d]),
+        _ => Ok(()),
+    }
 }
 
 /// Writes a date, `YYYY-MM-DD`, in words: the day, the name of the month, and the year.

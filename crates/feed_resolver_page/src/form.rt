@@ -1,7 +1,7 @@
 //! The form in which a reader asks for a journal or a book.
 ghost use Rattle.std.specs.Prelude.{◌≡◌, ◌++◌, OnOk};
 ghost use Rattle.feed_resolver_page.specs.SearchForms.{field, fields, first_fields, form_end, last_fields};
-ghost use Rattle.feed_resolver_page.specs.SearchForms.{search_form, value_at};
+ghost use Rattle.feed_resolver_page.specs.SearchForms.{isbn_in, issn_in, search_form, value_at};
 
 use feed_answer::Pair;
 use feed_page_texts::Text;
@@ -13,8 +13,8 @@ use std::alloc::AllocError;
 const FORM_START: &[u8] = b"<form action=\"/resolve\" method=\"get\">\n\
     <input type=\"hidden\" name=\"format\" value=\"html\">\n";
 
-/// Returns the first value with one of two keys, or nothing.
-pub(crate) fn value_at<'p>(pairs: &'p [Pair<'_>], key: &str, other: &str) -> &'p [u8]
+// Returns the first value with one of two keys, or nothing.
+fn value_at<'p>(pairs: &'p [Pair<'_>], key: &str, other: &str) -> &'p [u8]
     ensures { result.now ≡ value_at key.now other.now pairs.now }
 {
     match pairs.split_first() {
@@ -27,6 +27,20 @@ pub(crate) fn value_at<'p>(pairs: &'p [Pair<'_>], key: &str, other: &str) -> &'p
         }
         None => b"",
     }
+}
+
+/// Returns the ISSN that a query has for the form, or nothing.
+pub(crate) fn issn_in<'p>(pairs: &'p [Pair<'_>]) -> &'p [u8]
+    ensures { result.now ≡ issn_in pairs.now }
+{
+    value_at(pairs, "rft.issn", "issn")
+}
+
+/// Returns the ISBN that a query has for the form, or nothing.
+pub(crate) fn isbn_in<'p>(pairs: &'p [Pair<'_>]) -> &'p [u8]
+    ensures { result.now ≡ isbn_in pairs.now }
+{
+    value_at(pairs, "rft.isbn", "isbn")
 }
 
 // Writes a field of the form with its label.
@@ -66,10 +80,8 @@ fn put_first_fields(
 ) -> Result<(), AllocError>
     ensures { OnOk result (out.new.items ≡ out.old.items ++ first_fields site.now pairs.now) }
 {
-    let issn = value_at(pairs, "rft.issn", "issn");
-    put_field(out, site, Text::FieldIssn, b"issn", issn)?;
-    let isbn = value_at(pairs, "rft.isbn", "isbn");
-    put_field(out, site, Text::FieldIsbn, b"isbn", isbn)
+    put_field(out, site, Text::FieldIssn, b"issn", issn_in(pairs))?;
+    put_field(out, site, Text::FieldIsbn, b"isbn", isbn_in(pairs))
 }
 
 #[tactic(auto, unfolding(crate::specs::SearchForms::last_fields))]

@@ -6,12 +6,12 @@ ghost use Rattle.feed_resolver_page.specs.HitsPage.{answer_part, cards, cited_of
 ghost use Rattle.feed_resolver_page.specs.HitsPage.{hits_page, hits_part, least, link_part, link_to, more_part};
 ghost use Rattle.feed_resolver_page.specs.HitsPage.{more_text};
 ghost use Rattle.feed_resolver_page.specs.HitsPage.{other_card, other_cards, others_part, page_bottom, page_foot};
-ghost use Rattle.feed_resolver_page.specs.HitsPage.{page_name, paragraph, request_part, request_section, search_part};
-ghost use Rattle.feed_resolver_page.specs.HitsPage.{section_heading};
+ghost use Rattle.feed_resolver_page.specs.HitsPage.{page_name, page_of_hits, paragraph, request_part, request_section};
+ghost use Rattle.feed_resolver_page.specs.HitsPage.{search_part, section_heading};
 
 use crate::card::{Fit, put_card};
 use crate::citation_page::put_citation;
-use crate::form::{put_search_form, value_at};
+use crate::form::{isbn_in, issn_in, put_search_form};
 use crate::frame::{put_page_end, put_page_top};
 use feed_answer::{Pair, decode_pairs};
 use feed_page_texts::Text;
@@ -218,19 +218,26 @@ fn put_found(
 fn put_answer(
     out: &mut Vec<u8>,
     site: &SiteFile,
+    pairs: &[Pair<'_>],
     ask: &Ask,
     tally: &Tally<'_>,
     others: &Tally<'_>,
 ) -> Result<(), AllocError>
     ensures { OnOk result (out.new.items
-        ≡ out.old.items ++ answer_part site.now ask.now (tally_from tally.now) (tally_from others.now)) }
+        ≡ out.old.items
+        ++ answer_part site.now pairs.now ask.now (tally_from tally.now) (tally_from others.now)) }
 {
-    put_citation(out, site, ask)?;
+    put_citation(out, site, pairs, ask)?;
     put_found(out, site, ask.citation.title.as_bytes(), tally, others)
 }
 
+/// Writes a link with its label.
 #[tactic(auto, unfolding(crate::specs::HitsPage::link_to))]
-fn put_link_to<'a>(out: &mut Vec<u8>, label: &'a [u8], url: &'a [u8]) -> Result<(), AllocError>
+pub(crate) fn put_link_to<'a>(
+    out: &mut Vec<u8>,
+    label: &'a [u8],
+    url: &'a [u8],
+) -> Result<(), AllocError>
     ensures { OnOk result (out.new.items ≡ out.old.items ++ link_to label.now url.now) }
 {
     put_all(
@@ -306,8 +313,8 @@ fn cited_of<'p>(ask: &'p Ask, pairs: &'p [Pair<'_>]) -> Cited<'p>
         volume: citation.volume.as_bytes(),
         issue: citation.issue.as_bytes(),
         page: citation.page.as_bytes(),
-        issn: value_at(pairs, "rft.issn", "issn"),
-        isbn: value_at(pairs, "rft.isbn", "isbn"),
+        issn: issn_in(pairs),
+        isbn: isbn_in(pairs),
         doi: citation.doi.as_bytes(),
         pmid: citation.pmid.as_bytes(),
     }
@@ -344,14 +351,13 @@ pub(crate) fn put_bottom(
     alloc: Global,
     out: &mut Vec<u8>,
     site: &SiteFile,
-    text: &[u8],
+    pairs: &[Pair<'_>],
     ask: &Ask,
 ) -> Result<(), AllocError>
-    ensures { OnOk result (out.new.items ≡ out.old.items ++ page_bottom site.now text.now ask.now) }
+    ensures { OnOk result (out.new.items ≡ out.old.items ++ page_bottom site.now pairs.now ask.now) }
 {
-    let pairs = decode_pairs(alloc, text)?;
-    put_request(alloc, out, site, ask, &pairs)?;
-    put_search(out, site, &pairs)?;
+    put_request(alloc, out, site, ask, pairs)?;
+    put_search(out, site, pairs)?;
     put_page_foot(out, site)
 }
 
@@ -374,10 +380,29 @@ fn page_name(count: usize) -> Text
     }
 }
 
+// Writes the page of the hits of a query with these pairs.
+#[tactic(auto, unfolding(crate::specs::HitsPage::page_of_hits))]
+fn put_page(
+    alloc: Global,
+    out: &mut Vec<u8>,
+    site: &SiteFile,
+    pairs: &[Pair<'_>],
+    ask: &Ask,
+    tally: &Tally<'_>,
+    others: &Tally<'_>,
+) -> Result<(), AllocError>
+    ensures { OnOk result (out.new.items
+        ≡ out.old.items
+        ++ page_of_hits site.now pairs.now ask.now (tally_from tally.now) (tally_from others.now)) }
+{
+    put_page_top(out, site, page_name(tally.count()))?;
+    put_answer(out, site, pairs, ask, tally, others)?;
+    put_bottom(alloc, out, site, pairs, ask)
+}
+
 /// Writes the page with the citation of a query, and the cards of the hits that a tally shows. If others are left out,
 /// it says how many. Without a hit, it shows the cards of another tally: the hits of the same titles for other dates
 /// and volumes.
-#[tactic(auto, unfolding(crate::specs::HitsPage::hits_page))]
 pub fn put_hits_page(
     alloc: Global,
     out: &mut Vec<u8>,
@@ -391,7 +416,6 @@ pub fn put_hits_page(
         ≡ out.old.items
         ++ hits_page site.now text.now ask.now (tally_from tally.now) (tally_from others.now)) }
 {
-    put_page_top(out, site, page_name(tally.count()))?;
-    put_answer(out, site, ask, tally, others)?;
-    put_bottom(alloc, out, site, text, ask)
+    let pairs = decode_pairs(alloc, text)?;
+    put_page(alloc, out, site, &pairs, ask, tally, others)
 }

@@ -1,5 +1,5 @@
 //! The pages that a reader of a resolver sees: the citation of a query, a card for each hit, and the form for a new
-//! search; and the replies to queries for which nothing is looked up.
+//! search; and the replies to requests that are not answered, and to queries for which nothing is looked up.
 #![tactic(auto)]
 
 mod card;
@@ -7,13 +7,20 @@ mod citation_page;
 mod coverage;
 mod dates;
 mod embargo;
+mod error_page;
 mod form;
 mod frame;
 mod hits_page;
 mod refusals;
+mod titles;
+mod titles_form;
+mod titles_page;
 
 pub use card::Fit;
+pub use error_page::error_reply;
 pub use form::put_search_form;
 pub use frame::put_page_top;
 pub use hits_page::{put_hits_page, put_page_foot, put_section_heading};
 pub use refusals::unasked_reply;
+pub use titles_form::put_titles_form;
+pub use titles_page::titles_reply;

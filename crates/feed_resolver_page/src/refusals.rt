@@ -3,20 +3,24 @@ ghost use Rattle.std.specs.Prelude.{◌≡◌, ◌++◌, IfOk, OnOk, true, false
 ghost use Rattle.feed_resolver_request.specs.declared.representation.Representation.TheVariants as representation;
 ghost use Rattle.feed_resolver_reply.specs.Replies.{reply_with};
 ghost use Rattle.feed_resolver_reply.specs.declared.status.Status.TheVariants as status;
-ghost use Rattle.feed_resolver_page.specs.QueryRefusals.{asks_for_form, form_page};
+ghost use Rattle.feed_resolver_page.specs.QueryRefusals.{advice_on, asks_for_form, form_page};
 ghost use Rattle.feed_resolver_page.specs.QueryRefusals.{is_numberless, nothing_json, nothing_page, nothing_part};
 ghost use Rattle.feed_resolver_page.specs.QueryRefusals.{nothing_text, numberless_body, numberless_status};
+ghost use Rattle.feed_resolver_page.specs.QueryRefusals.{page_of_nothing};
 ghost use Rattle.feed_resolver_page.specs.QueryRefusals.{reason_text, unasked_reply};
 
 use crate::citation_page::put_citation;
+use crate::error_page::error_reply;
 use crate::form::put_search_form;
 use crate::frame::put_page_top;
 use crate::hits_page::{put_bottom, put_page_foot, put_paragraph};
+use crate::titles_form::put_titles_form;
+use feed_answer::{Pair, decode_pairs};
 use feed_openurl::Refusal;
 use feed_page_texts::Text;
 use feed_pieces::put_all;
 use feed_resolver_hits::{Ask, Tally, names_work, put_answer_json};
-use feed_resolver_reply::{Piece, Reply, Status, put_fault, refusal};
+use feed_resolver_reply::{Piece, Reply, Status, put_fault};
 use feed_resolver_request::Representation;
 use feed_site::SiteFile;
 use std::alloc::{AllocError, Global};
@@ -40,14 +44,34 @@ fn is_numberless(reason: Refusal) -> bool
 }
 
 #[tactic(auto, unfolding(crate::specs::QueryRefusals::nothing_part))]
-fn put_nothing(out: &mut Vec<u8>, site: &SiteFile, ask: &Ask) -> Result<(), AllocError>
-    ensures { OnOk result (out.new.items ≡ out.old.items ++ nothing_part site.now ask.now) }
+fn put_nothing(
+    out: &mut Vec<u8>,
+    site: &SiteFile,
+    pairs: &[Pair<'_>],
+    ask: &Ask,
+) -> Result<(), AllocError>
+    ensures { OnOk result (out.new.items ≡ out.old.items ++ nothing_part site.now pairs.now ask.now) }
 {
-    put_citation(out, site, ask)?;
-    put_paragraph(out, site, Text::NoNumber)
+    put_citation(out, site, pairs, ask)?;
+    put_paragraph(out, site, Text::NoNumber)?;
+    put_titles_form(out, site, ask.citation.title.as_bytes())
 }
 
-#[tactic(auto, unfolding(crate::specs::QueryRefusals::nothing_page))]
+#[tactic(auto, unfolding(crate::specs::QueryRefusals::page_of_nothing))]
+fn put_page_of(
+    alloc: Global,
+    out: &mut Vec<u8>,
+    site: &SiteFile,
+    pairs: &[Pair<'_>],
+    ask: &Ask,
+) -> Result<(), AllocError>
+    ensures { OnOk result (out.new.items ≡ out.old.items ++ page_of_nothing site.now pairs.now ask.now) }
+{
+    put_page_top(out, site, Text::NothingToLookUp)?;
+    put_nothing(out, site, pairs, ask)?;
+    put_bottom(alloc, out, site, pairs, ask)
+}
+
 fn put_page(
     alloc: Global,
     out: &mut Vec<u8>,
@@ -57,9 +81,8 @@ fn put_page(
 ) -> Result<(), AllocError>
     ensures { OnOk result (out.new.items ≡ out.old.items ++ nothing_page site.now text.now ask.now) }
 {
-    put_page_top(out, site, Text::NothingToLookUp)?;
-    put_nothing(out, site, ask)?;
-    put_bottom(alloc, out, site, text, ask)
+    let pairs = decode_pairs(alloc, text)?;
+    put_page_of(alloc, out, site, &pairs, ask)
 }
 
 #[tactic(auto, unfolding(crate::specs::QueryRefusals::nothing_text))]
@@ -147,6 +170,7 @@ fn put_form_page(out: &mut Vec<u8>, site: &SiteFile) -> Result<(), AllocError>
 {
     put_page_top(out, site, Text::FindHoldings)?;
     put_search_form(out, site, &[])?;
+    put_titles_form(out, site, b"")?;
     put_page_foot(out, site)
 }
 
@@ -159,8 +183,18 @@ fn form_reply(alloc: Global, site: &SiteFile) -> Result<Reply, AllocError>
     Ok(Reply::new(Status::Good, Representation::Html, body))
 }
 
-/// Returns the reply to a query for which nothing is looked up: the form, if a browser sends no query. A query without
-/// an ISSN and an ISBN whose citation names a work has a reply with this status. Any other is rejected.
+fn advice_on(reason: Refusal) -> Text
+    ensures { result ≡ advice_on reason }
+{
+    match reason {
+        Refusal::TooMany => Text::TooManyNumbers,
+        _ => Text::LinkNotRead,
+    }
+}
+
+/// Returns the reply to a query for which nothing is looked up: the form, if the query is empty and the reply is a
+/// page. A query without an ISSN and an ISBN whose citation names a work has a reply with this status. Any other is
+/// rejected.
 pub fn unasked_reply(
     alloc: Global,
     site: &SiteFile,
@@ -188,10 +222,13 @@ pub fn unasked_reply(
             named,
         );
     }
-    refusal(
+    error_reply(
         alloc,
+        site,
+        text,
         Status::BadRequest,
         representation,
+        advice_on(reason),
         reason_text(reason),
     )
 }

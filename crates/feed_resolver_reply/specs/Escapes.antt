@@ -1,8 +1,20 @@
--- Escaping texts in an HTML page (WHATWG HTML, sections 13.1.4 and 13.1.2.3), and how a browser decodes them.
-use Rattle.std.specs.Prelude.{ℕ, ◌==◌, ◌||◌, Bool, if◌then◌else◌, List, [], ◌∷◌, ◌++◌, codes, Option, Some, None, option_map}
+-- Escaping texts in an HTML page (WHATWG HTML, sections 13.1.4, 13.1.2.3 and 13.2.3.5), and how a browser decodes them.
+use Rattle.std.specs.Prelude.{ℕ, ◌==◌, ◌||◌, nat_lt, Bool, if◌then◌else◌, List, [], ◌∷◌, ◌++◌, codes, Option, Some, None, map, option_map}
 use Rattle.std.specs.List.{flat_map}
 use Rattle.std.specs.Option.{option_and_then}
 use Rattle.std.specs.Str.{bytes_eq}
+
+-- a control character of ASCII
+abbrev pub is_control : ℕ → Bool
+is_control b = nat_lt b 32 || (b == 127)
+
+-- a byte of a text as a page shows it: a space in place of a control character
+abbrev pub shown_byte : ℕ → ℕ
+shown_byte b = if is_control b then 32 else b
+
+-- a text as a page shows it
+abbrev pub shown : List ℕ → List ℕ
+shown text = map shown_byte text
 
 -- a byte of a text, escaped for a page
 abbrev pub escape_byte : ℕ → List ℕ
@@ -12,7 +24,7 @@ escape_byte b =
     else (if b == 34 then codes "&quot;"
     else (if b == 39 then codes "&#39;"
     else (if b == 38 then codes "&amp;"
-    else b ∷ []))))
+    else shown_byte b ∷ []))))
 
 -- a text, escaped for a page
 abbrev pub escaped : List ℕ → List ℕ

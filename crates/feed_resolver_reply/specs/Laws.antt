@@ -1,6 +1,6 @@
 -- Laws of replies and of escaped texts.
-use Rattle.std.specs.Prelude.{◌≡◌, ℕ, Bool, List, [], Some, false, All, codes}
-use Rattle.feed_resolver_reply.specs.Escapes.{escaped, is_markup, unescaped}
+use Rattle.std.specs.Prelude.{◌≡◌, ◌||◌, ℕ, Bool, List, [], Some, false, All, codes}
+use Rattle.feed_resolver_reply.specs.Escapes.{escaped, is_control, is_markup, shown, unescaped}
 use Rattle.json.specs.Json.{document, string, object, member, no_members}
 use Rattle.feed_resolver_request.specs.declared.representation.Representation.TheVariants.{Json}
 use Rattle.feed_resolver_reply.specs.JsonStrings.{json_string}
@@ -10,13 +10,14 @@ use Rattle.feed_http_heads.specs.Fields.{values_named}
 use Rattle.feed_resolver_reply.specs.Replies.{ReplyValue, with_tag, not_modified, response_of}
 use Rattle.feed_resolver_reply.specs.Messages.{IsSentAs, IsSendable, IsHeadOf, IsMessage}
 
--- an escaped text has no `<`, `>`, `"` and `'`
+-- an escaped text has no `<`, `>`, `"` and `'`, and no control character
 abbrev pub EscapedHasNoMarkup : Type 0
-EscapedHasNoMarkup = (text : List ℕ) → All (λ b. is_markup b ≡ false) (escaped text)
+EscapedHasNoMarkup = (text : List ℕ) → All (λ b. (is_markup b || is_control b) ≡ false) (escaped text)
 
--- decoding an escaped text returns the text, so each `&` in it begins one of the five references
+-- decoding an escaped text returns the text with spaces in place of control characters, so each `&` in it begins one of the
+-- five references
 abbrev pub EscapedReadsBack : Type 0
-EscapedReadsBack = (text : List ℕ) → unescaped (escaped text) ≡ Some text
+EscapedReadsBack = (text : List ℕ) → unescaped (escaped text) ≡ Some (shown text)
 
 -- a JSON string is, by the grammar of JSON, the text from which it was written
 abbrev pub JsonReadsBack : Type 0

@@ -4,7 +4,7 @@ use Rattle.std.specs.Fmt.{decimal}
 use Rattle.feed_resolver_request.specs.declared.representation.Representation.{Representation}
 use Rattle.feed_resolver_request.specs.declared.representation.Representation.TheVariants.{Text, Json, Html}
 use Rattle.feed_resolver_reply.specs.Pieces.{joined}
-use Rattle.feed_resolver_reply.specs.Pages.{fault_body}
+use Rattle.feed_resolver_reply.specs.Pages.{fault_body, fault_representation}
 use Rattle.feed_resolver_reply.specs.declared.reply.TheConstants.{LAST_FIELDS, PAGE_FIELDS, SHARED_FIELDS, PREFLIGHT_FIELDS, QUERY_PREFLIGHT_FIELDS}
 use Rattle.feed_resolver_reply.specs.declared.status.Status.{Status}
 use Rattle.feed_resolver_reply.specs.declared.status.Status.TheVariants as status
@@ -50,9 +50,9 @@ with_tag tag max_age reply = record {
 abbrev pub not_modified : List ℕ → ℕ → Representation → ReplyValue
 not_modified tag max_age representation = with_tag tag max_age (reply_with status.NotModified representation [])
 
--- an error reply
+-- an error reply without a page
 abbrev pub refusal : Status → Representation → List ℕ → ReplyValue
-refusal code representation name = reply_with code representation (fault_body representation name)
+refusal code representation name = reply_with code (fault_representation representation) (fault_body representation name)
 
 -- the number of a status (RFC 9110, section 15)
 abbrev pub status_code : Status → ℕ

@@ -1,6 +1,6 @@
 //! Writes bytes, and texts escaped for HTML pages.
 ghost use Rattle.std.specs.Prelude.{◌≡◌, ◌++◌, OnOk};
-ghost use Rattle.feed_resolver_reply.specs.Escapes.{escape_byte, escaped};
+ghost use Rattle.feed_resolver_reply.specs.Escapes.{escape_byte, escaped, shown_byte};
 
 use std::alloc::AllocError;
 
@@ -9,6 +9,13 @@ pub fn put(out: &mut Vec<u8>, text: &[u8]) -> Result<(), AllocError>
     ensures { OnOk result (out.new.items ≡ out.old.items ++ text.now) }
 {
     Ok(out.extend_from_slice(text)?)
+}
+
+// Returns a byte as a page shows it. A control character would be an error of the page's syntax.
+fn shown_byte(byte: u8) -> u8
+    ensures { result ≡ shown_byte byte }
+{
+    if byte < 32 || byte == 127 { b' ' } else { byte }
 }
 
 fn put_escaped_byte(out: &mut Vec<u8>, byte: u8) -> Result<(), AllocError>
@@ -20,11 +27,12 @@ fn put_escaped_byte(out: &mut Vec<u8>, byte: u8) -> Result<(), AllocError>
         b'"' => put(out, b"&quot;"),
         b'\'' => put(out, b"&#39;"),
         b'&' => put(out, b"&amp;"),
-        _ => Ok(out.push(byte)?),
+        _ => Ok(out.push(shown_byte(byte))?),
     }
 }
 
-/// Writes a text escaped for an HTML page, as text or as an attribute's value (WHATWG HTML, section 13.1.4).
+/// Writes a text escaped for an HTML page, as text or as an attribute's value (WHATWG HTML, section 13.1.4). A space
+/// replaces each control character.
 pub(crate) fn put_escaped(out: &mut Vec<u8>, text: &[u8]) -> Result<(), AllocError>
     ensures { OnOk result (out.new.items ≡ out.old.items ++ escaped text.now) }
 {

@@ -1,11 +1,9 @@
 //! Error replies, whose bodies are the name of the error.
 ghost use Rattle.std.specs.Prelude.{◌≡◌, ◌++◌, IfOk, OnOk, false};
-ghost use Rattle.feed_resolver_reply.specs.Pages.{fault_part, fault_body};
+ghost use Rattle.feed_resolver_reply.specs.Pages.{fault_body, fault_representation};
 ghost use Rattle.feed_resolver_reply.specs.Replies.{refusal, response_of, bad_head_response};
 ghost use Rattle.feed_resolver_reply.specs.Messages.{IsMessageFor};
-ghost use Rattle.feed_resolver_request.specs.declared.representation.Representation.TheVariants as representation;
 
-use crate::page::{put_page_end, put_page_start};
 use crate::piece::Piece;
 use crate::reply::Reply;
 use crate::response::Response;
@@ -14,30 +12,16 @@ use feed_pieces::put_all;
 use feed_resolver_request::Representation;
 use std::alloc::{AllocError, Global};
 
-#[tactic(auto, unfolding(crate::specs::Pages::fault_part))]
-fn put_fault_part(out: &mut Vec<u8>, name: &[u8]) -> Result<(), AllocError>
-    ensures { OnOk result (out.new.items ≡ out.old.items ++ fault_part name.now) }
+fn fault_representation(representation: Representation) -> Representation
+    ensures { result ≡ fault_representation representation }
 {
-    put_all(
-        out,
-        &[
-            Piece::Plain(b"<p>"),
-            Piece::Plain(name),
-            Piece::Plain(b"</p>\n"),
-        ],
-    )
+    match representation {
+        Representation::Json => Representation::Json,
+        Representation::Text | Representation::Html => Representation::Text,
+    }
 }
 
-#[tactic(auto, unfolding(crate::specs::Pages::fault_body))]
-fn put_fault_page(out: &mut Vec<u8>, name: &[u8]) -> Result<(), AllocError>
-    ensures { OnOk result (out.new.items ≡ out.old.items ++ fault_body representation.Html name.now) }
-{
-    put_page_start(out, b"Not answered")?;
-    put_fault_part(out, name)?;
-    put_page_end(out)
-}
-
-/// Writes the body of an error reply.
+/// Writes the body of an error reply: an object of JSON, or else a line of text.
 #[tactic(auto, unfolding(crate::specs::Pages::fault_body))]
 pub fn put_fault(
     out: &mut Vec<u8>,
@@ -47,7 +31,6 @@ pub fn put_fault(
     ensures { OnOk result (out.new.items ≡ out.old.items ++ fault_body representation name.now) }
 {
     match representation {
-        Representation::Text => put_all(out, &[Piece::Plain(name), Piece::Plain(b"\n")]),
         Representation::Json => put_all(
             out,
             &[
@@ -56,11 +39,13 @@ pub fn put_fault(
                 Piece::Plain(b"}\n"),
             ],
         ),
-        Representation::Html => put_fault_page(out, name),
+        Representation::Text | Representation::Html => {
+            put_all(out, &[Piece::Plain(name), Piece::Plain(b"\n")])
+        }
     }
 }
 
-/// Returns an error reply.
+/// Returns an error reply, in JSON or else as text. The pages of errors are those of a library.
 pub fn refusal(
     alloc: Global,
     status: Status,
@@ -71,7 +56,7 @@ pub fn refusal(
 {
     let mut body = Vec::new(alloc);
     put_fault(&mut body, representation, name)?;
-    Ok(Reply::new(status, representation, body))
+    Ok(Reply::new(status, fault_representation(representation), body))
 }
 
 /// Returns the response with an error reply.

@@ -2,12 +2,13 @@
 ghost use Rattle.feed_resolver_reply.specs.Laws.{EscapedHasNoMarkup, EscapedReadsBack, JsonReadsBack};
 ghost use Rattle.feed_resolver_reply.specs.Laws.{FaultIsJson, ReplyReadsBack, NotModifiedIsHeadOfGood};
 
-/// A text escaped for a page has no `<`, `>`, `"` and `'`.
+/// A text escaped for a page has no `<`, `>`, `"` and `'`, and no control character.
 pub fn escaped_has_no_markup()
     ensures { EscapedHasNoMarkup }
 {}
 
-/// Decoding an escaped text returns the text, so each `&` in it begins a character reference.
+/// Decoding an escaped text returns the text, with a space in place of each control character, so each `&` in it begins
+/// a character reference.
 pub fn escaped_reads_back()
     ensures { EscapedReadsBack }
 {}

@@ -7,7 +7,6 @@ mod fault;
 mod fetch_replies;
 mod json_text;
 mod laws;
-mod page;
 mod piece;
 mod reply;
 mod response;
@@ -21,7 +20,6 @@ pub use laws::{
     escaped_has_no_markup, escaped_reads_back, fault_is_json, json_reads_back,
     not_modified_is_head_of_good, reply_reads_back,
 };
-pub use page::{put_page_end, put_page_start};
 pub use piece::Piece;
 pub use reply::Reply;
 pub use response::Response;

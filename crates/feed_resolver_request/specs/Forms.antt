@@ -10,7 +10,7 @@ use Rattle.feed_http_heads.specs.Requests.{lacks_host}
 use Rattle.feed_http_heads.specs.Targets.{origin_form}
 use Rattle.feed_resolver_request.specs.Targets.{path_in, resource_of}
 use Rattle.feed_resolver_request.specs.declared.target.Resource.{Resource}
-use Rattle.feed_resolver_request.specs.declared.target.Resource.TheVariants.{Home, Status, Resolve, Package, Go, Unknown}
+use Rattle.feed_resolver_request.specs.declared.target.Resource.TheVariants.{Home, Status, Resolve, Package, Go, Titles, Unknown}
 use Rattle.feed_resolver_request.specs.declared.form.FormFault.{FormFault}
 use Rattle.feed_resolver_request.specs.declared.form.FormFault.TheVariants.{Coding, NoLength, BadLength, TooLong, MediaType}
 

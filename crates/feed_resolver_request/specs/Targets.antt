@@ -4,7 +4,7 @@ use Rattle.std.specs.Option.{option_map_or}
 use Rattle.std.specs.Str.{bytes_eq}
 use Rattle.feed_range.specs.Text.{split_once}
 use Rattle.feed_resolver_request.specs.declared.target.Resource.{Resource}
-use Rattle.feed_resolver_request.specs.declared.target.Resource.TheVariants.{Home, Status, Resolve, Package, Go, Unknown}
+use Rattle.feed_resolver_request.specs.declared.target.Resource.TheVariants.{Home, Status, Resolve, Package, Go, Titles, Unknown}
 
 -- the path of a target that begins with it, up to its first question mark
 abbrev pub path_in : List ℕ → List ℕ
@@ -25,8 +25,9 @@ resource_of path =
     else (if bytes_eq path (codes "/status") then Status
     else (if bytes_eq path (codes "/resolve") then Resolve
     else (if bytes_eq path (codes "/go") then Go
+    else (if bytes_eq path (codes "/titles") then Titles
     else (if names_package path then Package
-    else Unknown))))
+    else Unknown)))))
 
 -- the package that a path names
 abbrev pub package_in : List ℕ → List ℕ

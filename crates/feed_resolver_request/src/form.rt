@@ -36,7 +36,7 @@ pub fn takes_form(resource: Resource) -> bool
 {
     match resource {
         Resource::Resolve | Resource::Package | Resource::Go => true,
-        Resource::Home | Resource::Status | Resource::Unknown => false,
+        Resource::Home | Resource::Status | Resource::Titles | Resource::Unknown => false,
     }
 }
 

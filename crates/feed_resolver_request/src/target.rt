@@ -18,6 +18,8 @@ pub enum Resource {
     Package,
     /// `/go`: a redirect to the best hit.
     Go,
+    /// `/titles`: the titles that contain a text.
+    Titles,
     /// No resource.
     Unknown,
 }
@@ -61,6 +63,8 @@ pub fn resource_of(path: &[u8]) -> Resource
         Resource::Resolve
     } else if path == b"/go".as_slice() {
         Resource::Go
+    } else if path == b"/titles".as_slice() {
+        Resource::Titles
     } else if names_package(path) {
         Resource::Package
     } else {

@@ -34,6 +34,7 @@ library_kind key =
     else if bytes_eq key (codes "help") then Some Url
     else if bytes_eq key (codes "contact") then Some Url
     else if bytes_eq key (codes "request") then Some Template
+    else if bytes_eq key (codes "redirect_sole_hit") then Some Switch
     else None
 
 -- the keys of `[texts]`: the names of the texts of the pages

@@ -1,5 +1,5 @@
 -- The settings of a library in its site file.
-use Rattle.std.specs.Prelude.{ℕ, ℤ, Bool, true, List, [], ◌∷◌, Option, Some, None, option_map, unwrap_or, codes, if◌then◌else◌}
+use Rattle.std.specs.Prelude.{ℕ, ℤ, Bool, true, false, List, [], ◌∷◌, Option, Some, None, option_map, unwrap_or, codes, if◌then◌else◌}
 use Rattle.std.specs.Option.{option_and_then}
 use Rattle.std.specs.Str.{bytes_eq}
 use Rattle.toml.specs.Data.{Items, no_items, item, Members, no_members, member, as_str, as_table}
@@ -30,8 +30,8 @@ pub record ReplacedValue : Type 0 where
   pub name : List ℕ
   pub words : Option (List ℕ)
 
--- a site: what it says of the library, the texts that it replaces, the prefix of links and the hosts that need none, the
--- packages in the order in which they are shown, and the titles
+-- a site: what it says of the library, whether a browser is redirected to a sole hit, the texts that it replaces, the prefix
+-- of links and the hosts that need none, the packages in the order in which they are shown, and the titles
 pub record SiteValue : Type 0 where
   pub name : Option (List ℕ)
   pub language : Option (List ℕ)
@@ -39,6 +39,7 @@ pub record SiteValue : Type 0 where
   pub help : Option (List ℕ)
   pub contact : Option (List ℕ)
   pub request : Option (List ℕ)
+  pub redirects_sole_hit : Bool
   pub replaced : List ReplacedValue
   pub prefix : Option (List ℕ)
   pub except : List (List ℕ)
@@ -48,6 +49,10 @@ pub record SiteValue : Type 0 where
 -- the text at a key of a section
 abbrev pub text_in : List ℕ → List ℕ → Members → Option (List ℕ)
 text_in section key doc = option_and_then (text_at key) (table_at section doc)
+
+-- whether a switch of a section is on: without the key it is off
+abbrev pub switch_in : List ℕ → List ℕ → Members → Bool
+switch_in section key doc = unwrap_or (option_and_then (switch_at key) (table_at section doc)) false
 
 -- a text, or the empty one
 abbrev pub or_empty : Option (List ℕ) → List ℕ
@@ -130,6 +135,7 @@ site_of doc = record {
   help = text_in (codes "library") (codes "help") doc;
   contact = text_in (codes "library") (codes "contact") doc;
   request = text_in (codes "library") (codes "request") doc;
+  redirects_sole_hit = switch_in (codes "library") (codes "redirect_sole_hit") doc;
   replaced = replaced_in (table_at (codes "texts") doc);
   prefix = text_in (codes "proxy") (codes "prefix") doc;
   except = texts_in (except_in doc);

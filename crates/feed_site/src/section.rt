@@ -9,7 +9,7 @@ use feed_page_texts::is_name;
 /// A section of a site file.
 #[derive(Clone, Copy)]
 pub(crate) enum Section {
-    /// `[library]`: the names, the addresses and the colour of the page.
+    /// `[library]`: the names, the addresses and the colour of the page, and whether a sole hit is redirected to.
     Library,
     /// `[texts]`: the texts of the pages that the site replaces.
     Texts,
@@ -45,6 +45,7 @@ fn library_kind(key: &str) -> Option<Kind>
         "help" => Some(Kind::Url),
         "contact" => Some(Kind::Url),
         "request" => Some(Kind::Template),
+        "redirect_sole_hit" => Some(Kind::Switch),
         _ => None,
     }
 }

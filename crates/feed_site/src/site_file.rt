@@ -8,11 +8,11 @@ ghost use Rattle.feed_site.specs.Limits.{site_limit};
 ghost use Rattle.feed_site.specs.Positions.{position_of};
 ghost use Rattle.feed_site.specs.Proxies.{is_excepted};
 ghost use Rattle.feed_site.specs.Site.{except_in, or_empty, package_of, replacement, rows_in, text_in};
-ghost use Rattle.feed_site.specs.Site.{texts_of, title_of};
+ghost use Rattle.feed_site.specs.Site.{switch_in, texts_of, title_of};
 ghost use Rattle.feed_site.specs.Syntax.{IsTextFault};
 
 use crate::checks::fault_of;
-use crate::lookup::{items_at, table_at, text_at};
+use crate::lookup::{items_at, switch_at, table_at, text_at};
 use crate::position::position_of;
 use crate::site_fault::{KeyFault, SiteFault};
 use crate::url::is_within;
@@ -52,6 +52,16 @@ fn text_in<'a>(section: &str, key: &str, document: &'a Table) -> Option<&'a str>
     match table_at(section, document) {
         Some(table) => text_at(key, table),
         None => None,
+    }
+}
+
+// Returns whether a switch of a section is on. Without the key it is off.
+fn switch_in(section: &str, key: &str, document: &Table) -> bool
+    ensures { result ≡ switch_in section.now key.now (table_view document.now) }
+{
+    match table_at(section, document) {
+        Some(table) => switch_at(key, table).unwrap_or(false),
+        None => false,
     }
 }
 
@@ -194,6 +204,13 @@ impl SiteFile {
         ensures { option_copied result ≡ self.now.request }
     {
         text_in("library", "request", &self.document)
+    }
+
+    /// Returns whether `/resolve` redirects a browser to a sole hit.
+    pub fn redirects_sole_hit(&self) -> bool
+        ensures { result ≡ self.now.redirects_sole_hit }
+    {
+        switch_in("library", "redirect_sole_hit", &self.document)
     }
 
     /// Returns the text that the site has in place of the one of a name.

@@ -3,6 +3,7 @@ use Rattle.feed_http_heads.specs.Targets.{origin_form}
 use Rattle.feed_resolver_request.specs.Conditions.{has_tag}
 use Rattle.feed_resolver_request.specs.Representations.{representation_of}
 use Rattle.feed_resolver_request.specs.Targets.{query_in}
+use Rattle.feed_site.specs.Site as site_file
 use Rattle.feed_resolver.specs.Answers.{ContextValue, sited_by, sited_in}
 use Rattle.feed_resolver.specs.Answered.{IsAnsweredTo}
 use Rattle.feed_resolver.specs.Replies.{reply_to}
@@ -18,6 +19,7 @@ returns-then-branch c = λ head has.
     (c.representation_of-representation.ensures head (c.fields-then-branch.ensures.fields head has)
     ∙ ap (λ q. representation_of q head) (c.query_in-query.ensures ∙ ap query_in (c.origin_form.ensures ∙ ap origin_form (c.target.ensures head has))))
     (λ tagged. subst (λ (v : ContextValue). IsAnsweredTo head (sited_by c.args.context.now.site.library c.args.context.now.actives.today v.actives.actives)) c.context.view_is
-    (c.in_ok-is_answered_to.ensures c.if-branch.true head has tagged c.args.context.now.site.library c.args.context.now.actives.today)) c.not_modified.ensures
+    (subst (λ (s : site_file.SiteValue). IsAnsweredTo head (sited_by s c.args.context.now.actives.today c.context.inside.actives.now)) c.library.ensures
+    (c.in_ok-is_answered_to.ensures c.if-branch.true head has tagged c.args.context.now.actives.today))) c.not_modified.ensures
     ∙ ap (λ n. validated head c.args.tag.items n (reply_to head c.args.body.now (sited_in c.args.context.now)))
     (c.max_age-max_age.ensures ∙ ap (λ (v : ContextValue). v.site.max_age) c.context.view_is)

@@ -12,8 +12,8 @@ returns-in-Some c = on_ok_weaker c.add_hits_at.result
 
 pub returns-in_ok-places-in-None : goal.returns-in_ok-places-in-None
 returns-in_ok-places-in-None c = on_ok_weaker c.add_hits_at-in-None.result
-    (added c.args.site.now c.args.today.now c.args.search.now c.args.holdings.now c.args.name.now c.args.self.now c.add_hits_at-in-None.new.self c.rows-in-None.result.now c.deref.result.now
-    c.in_ok-places-in-None.places.items c.rows-in-None.ensures c.deref.ensures.value c.in_ok-places-in-None.ensures.ascending
+    (added c.args.site.now c.args.today.now c.args.search.now c.args.holdings.now c.args.name.now c.args.self.now c.add_hits_at-in-None.new.self c.rows-rows.result.now c.deref.result.now
+    c.in_ok-places-in-None.places.items c.rows-rows.ensures c.deref.ensures.value c.in_ok-places-in-None.ensures.ascending
     (places_alike c.query-in-None.result.now c.args.search.now c.args.holdings.now.rows c.in_ok-places-in-None.places.items
     c.query-in-None.ensures.issns c.query-in-None.ensures.isbns c.in_ok-places-in-None.ensures.whole))
     c.add_hits_at-in-None.ensures

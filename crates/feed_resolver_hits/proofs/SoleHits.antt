@@ -1,0 +1,100 @@
+-- A sole link is that of the only hit.
+use Rattle.std.proofs.Common.{◌≡◌, ◌<◌, ℕ, suc, List, [], ◌∷◌, Bool, true, false, Option, Some, None, refl, sym, ap, ◌∙◌, arith, length, take, subst}
+use Rattle.std.specs.Prelude.{◌==◌, ◌&&◌, ◌-◌, nat_lt, if◌then◌else◌, option_map}
+use Rattle.std.proofs.lemmas.Bool.{ne_eqb}
+use Rattle.std.proofs.lemmas.Bool.Decides.{nat_tests}
+use Rattle.feed_embargo.specs.declared.availability.Availability.{Availability}
+use Rattle.feed_embargo.specs.declared.availability.Availability.TheVariants.{Available, Partly, NotCompared, Embargoed}
+use Rattle.feed_answer.specs.declared.grade.Grade.{Grade}
+use Rattle.feed_answer.specs.declared.grade.Grade.TheVariants.{Inside, Overlap, Untested}
+use Rattle.feed_site.specs.Urls.{is_link}
+use Rattle.feed_resolver_hits.specs.Hits.{ReleaseHitValue, LinkValue, best_link, better, is_available, is_certain, is_inside, link_of, link_text, link_url, link_with, rank_of}
+use Rattle.feed_resolver_hits.specs.Tallies.{link_if_certain, sole_link, tally_of, text_limit, text_size}
+use Rattle.feed_resolver_hits.specs.Laws.{IsSoleHit, SoleLinkIsOfSoleHit}
+
+and_left : (a b : Bool) → (a && b) ≡ true → a ≡ true
+and_left true b e = refl
+and_left false b e = absurd (cc)
+
+and_right : (a b : Bool) → (a && b) ≡ true → b ≡ true
+and_right true b e = e
+and_right false b e = absurd (cc)
+
+available : (a : Availability) → is_available a ≡ true → a ≡ Available
+available Available e = refl
+available Partly e = absurd (cc)
+available NotCompared e = absurd (cc)
+available Embargoed e = absurd (cc)
+
+inside : (g : Grade) → is_inside g ≡ true → g ≡ Inside
+inside Inside e = refl
+inside Overlap e = absurd (cc)
+inside Untested e = absurd (cc)
+
+better_none : (one : Option LinkValue) → better one None ≡ one
+better_none None = refl
+better_none (Some one) = refl
+
+-- the best link of one hit is its own
+best_one : (found : ReleaseHitValue) → best_link (found ∷ []) ≡ option_map link_url (link_of found)
+best_one found = ap (option_map link_url) (better_none (link_of found))
+
+linked : (b : Bool) (rank : ℕ) (text url : List ℕ) → option_map link_url (if b then Some (link_with rank text) else None) ≡ Some url → (b ≡ true) × (text ≡ url)
+linked true rank text url e = (refl, cc)
+linked false rank text url e = absurd (cc)
+
+chosen : (b : Bool) (link : Option (List ℕ)) (url : List ℕ) → (if b then link else None) ≡ Some url → (b ≡ true) × (link ≡ Some url)
+chosen true link url e = (refl, e)
+chosen false link url e = absurd (cc)
+
+shown_one : (room : Bool) (found : ReleaseHitValue) (link : Option (List ℕ)) (url : List ℕ) → link_if_certain (if room then found ∷ [] else []) link ≡ Some url
+    → (is_certain found ≡ true) × (link ≡ Some url)
+shown_one true found link url e = chosen (is_certain found) link url e
+shown_one false found link url e = absurd (cc)
+
+sole_one : (found : ReleaseHitValue) (url : List ℕ) → sole_link (tally_of (found ∷ [])) ≡ Some url → IsSoleHit (found ∷ []) url
+sole_one found url is =
+    let shown = shown_one (nat_lt 0 (text_limit - text_size found)) found (best_link (found ∷ [])) url is in
+    let own = linked (is_link (link_text found)) (rank_of found) (link_text found) url (sym (best_one found) ∙ shown.1) in
+    record {
+      found = found;
+      sole = refl;
+      available = available found.availability (and_left (is_available found.availability) (is_inside found.hit.grade) shown.0);
+      inside = inside found.hit.grade (and_right (is_available found.availability) (is_inside found.hit.grade) shown.0);
+      link = subst (λ (u : List ℕ). is_link u ≡ true) own.1 own.0;
+      means = sym own.1;
+    }
+
+-- of several hits none is the sole one
+several : (k : ℕ) (one other : ReleaseHitValue) (more : List ReleaseHitValue) → (length (take (suc (suc k)) (one ∷ other ∷ more)) == 1) ≡ false
+several k one other more = ne_eqb (suc (suc (length (take k more)))) 1 (λ e. omega arith)
+
+none_of_several : (one other : ReleaseHitValue) (more : List ReleaseHitValue) → sole_link (tally_of (one ∷ other ∷ more)) ≡ None
+none_of_several one other more =
+    let tally = tally_of (one ∷ other ∷ more) in
+    ap (λ b. if b then link_if_certain tally.shown tally.best else None) (several 999998 one other more)
+
+sole_only : (hits : List ReleaseHitValue) (url : List ℕ) → sole_link (tally_of hits) ≡ Some url → IsSoleHit hits url
+sole_only [] url is = absurd (cc)
+sole_only (found ∷ []) url is = sole_one found url is
+sole_only (one ∷ other ∷ more) url is = let none = none_of_several one other more in absurd (cc)
+
+one_has : (found : ReleaseHitValue) (url : List ℕ) → found.availability ≡ Available → found.hit.grade ≡ Inside → is_link (link_text found) ≡ true → url ≡ link_text found
+    → text_size found < text_limit → sole_link (tally_of (found ∷ [])) ≡ Some url
+one_has found url opened covers link means small =
+    let best = best_link (found ∷ []) in
+    let room : nat_lt 0 (text_limit - text_size found) ≡ true = grind (arith, nat_tests) in
+    ap (λ b. link_if_certain (if b then found ∷ [] else []) best) room
+    ∙ ap (λ (a : Availability). if is_available a && is_inside found.hit.grade then best else None) opened
+    ∙ ap (λ (g : Grade). if is_inside g then best else None) covers
+    ∙ best_one found
+    ∙ ap (λ b. option_map link_url (if b then Some (link_with (rank_of found) (link_text found)) else None)) link
+    ∙ ap Some (sym means)
+
+sole_has : (hits : List ReleaseHitValue) (url : List ℕ) (is : IsSoleHit hits url) → text_size is.found < text_limit → sole_link (tally_of hits) ≡ Some url
+sole_has hits url is small =
+    ap (λ (l : List ReleaseHitValue). sole_link (tally_of l)) is.sole
+    ∙ one_has is.found url is.available is.inside (subst (λ (u : List ℕ). is_link u ≡ true) is.means is.link) is.means small
+
+pub sole_is : SoleLinkIsOfSoleHit
+sole_is hits url = (sole_only hits url, sole_has hits url)

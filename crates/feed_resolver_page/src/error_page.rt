@@ -1,0 +1,110 @@
+//! The replies to requests that are not answered: the name of the error, or a page that says what to do.
+ghost use Rattle.std.specs.Prelude.{◌≡◌, ◌++◌, IfOk, OnOk};
+ghost use Rattle.feed_resolver_page.specs.ErrorPages.{advice_part, ask_again, error_body, error_page, error_reply};
+ghost use Rattle.feed_resolver_page.specs.ErrorPages.{name_part};
+
+use crate::form::put_search_form;
+use crate::frame::put_page_top;
+use crate::hits_page::{put_page_foot, put_paragraph, put_section_heading};
+use feed_answer::{Pair, decode_pairs};
+use feed_page_texts::Text;
+use feed_pieces::put_all;
+use feed_resolver_reply::{Piece, Reply, Status, put_fault};
+use feed_resolver_request::Representation;
+use feed_site::{SiteFile, text_of};
+use std::alloc::{AllocError, Global};
+
+#[tactic(auto, unfolding(crate::specs::ErrorPages::name_part))]
+fn put_name<'a>(out: &mut Vec<u8>, name: &'a [u8]) -> Result<(), AllocError>
+    ensures { OnOk result (out.new.items ≡ out.old.items ++ name_part name.now) }
+{
+    put_all(
+        out,
+        &[
+            Piece::Plain(b"<p class=\"more\">"),
+            Piece::Escaped(name),
+            Piece::Plain(b"</p>\n"),
+        ],
+    )
+}
+
+/// Writes what the reader may do about an error, and its name.
+#[tactic(auto, unfolding(crate::specs::ErrorPages::advice_part))]
+pub(crate) fn put_advice(
+    out: &mut Vec<u8>,
+    site: &SiteFile,
+    advice: Text,
+    name: &[u8],
+) -> Result<(), AllocError>
+    ensures { OnOk result (out.new.items ≡ out.old.items ++ advice_part site.now advice name.now) }
+{
+    put_paragraph(out, site, advice)?;
+    put_name(out, name)
+}
+
+// Writes the form, with what the query has for its fields, and the end of the page.
+#[tactic(auto, unfolding(crate::specs::ErrorPages::ask_again))]
+fn put_ask_again(out: &mut Vec<u8>, site: &SiteFile, pairs: &[Pair<'_>]) -> Result<(), AllocError>
+    ensures { OnOk result (out.new.items ≡ out.old.items ++ ask_again site.now pairs.now) }
+{
+    put_section_heading(out, text_of(site, Text::AskAgain))?;
+    put_search_form(out, site, pairs)?;
+    put_page_foot(out, site)
+}
+
+#[tactic(auto, unfolding(crate::specs::ErrorPages::error_page))]
+fn put_page(
+    out: &mut Vec<u8>,
+    site: &SiteFile,
+    pairs: &[Pair<'_>],
+    advice: Text,
+    name: &[u8],
+) -> Result<(), AllocError>
+    ensures { OnOk result (out.new.items ≡ out.old.items ++ error_page site.now pairs.now advice name.now) }
+{
+    put_page_top(out, site, Text::NotAnswered)?;
+    put_advice(out, site, advice, name)?;
+    put_ask_again(out, site, pairs)
+}
+
+// Writes the body of the reply to a request that is not answered.
+#[tactic(auto, unfolding(crate::specs::ErrorPages::error_body))]
+fn put_error(
+    alloc: Global,
+    out: &mut Vec<u8>,
+    site: &SiteFile,
+    text: &[u8],
+    representation: Representation,
+    advice: Text,
+    name: &[u8],
+) -> Result<(), AllocError>
+    ensures { OnOk result (out.new.items
+        ≡ out.old.items ++ error_body site.now text.now representation advice name.now) }
+{
+    match representation {
+        Representation::Html => {
+            let pairs = decode_pairs(alloc, text)?;
+            put_page(out, site, &pairs, advice, name)
+        }
+        Representation::Text | Representation::Json => put_fault(out, representation, name),
+    }
+}
+
+/// Returns the reply to a request that is not answered: the name of the error as text or as JSON, or a page of the
+/// library that says what the reader may do, with a form that has what the query has for its fields.
+pub fn error_reply(
+    alloc: Global,
+    site: &SiteFile,
+    text: &[u8],
+    status: Status,
+    representation: Representation,
+    advice: Text,
+    name: &[u8],
+) -> Result<Reply, AllocError>
+    ensures { IfOk result (λ reply. reply
+        ≡ error_reply site.now text.now status representation advice name.now) }
+{
+    let mut body = Vec::new(alloc);
+    put_error(alloc, &mut body, site, text, representation, advice, name)?;
+    Ok(Reply::new(status, representation, body))
+}

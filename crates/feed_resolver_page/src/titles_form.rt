@@ -1,0 +1,42 @@
+//! The form in which a reader asks for titles.
+ghost use Rattle.std.specs.Prelude.{◌≡◌, ◌++◌, OnOk};
+ghost use Rattle.feed_resolver_page.specs.TitlesForms.{titles_form};
+
+use feed_page_texts::Text;
+use feed_pieces::put_all;
+use feed_resolver_reply::Piece;
+use feed_site::{SiteFile, text_of};
+use std::alloc::AllocError;
+
+// The form up to the label of its field, from there to the value, to the label of the button, and to the end.
+const FORM_START: &[u8] = b"<form action=\"/titles\" method=\"get\">\n\
+    <input type=\"hidden\" name=\"format\" value=\"html\">\n<label for=\"q\">";
+
+const FIELD: &[u8] = b"</label>\n<input id=\"q\" name=\"q\" maxlength=\"256\" value=\"";
+
+const BUTTON: &[u8] = b"\">\n<button type=\"submit\">";
+
+const FORM_END: &[u8] = b"</button>\n</form>\n";
+
+/// Writes the form, with a text in its field.
+#[tactic(auto, unfolding(crate::specs::TitlesForms::titles_form))]
+pub fn put_titles_form<'a>(
+    out: &mut Vec<u8>,
+    site: &'a SiteFile,
+    value: &'a [u8],
+) -> Result<(), AllocError>
+    ensures { OnOk result (out.new.items ≡ out.old.items ++ titles_form site.now value.now) }
+{
+    put_all(
+        out,
+        &[
+            Piece::Plain(FORM_START),
+            Piece::Escaped(text_of(site, Text::FieldTitle)),
+            Piece::Plain(FIELD),
+            Piece::Escaped(value),
+            Piece::Plain(BUTTON),
+            Piece::Escaped(text_of(site, Text::FindTitles)),
+            Piece::Plain(FORM_END),
+        ],
+    )
+}

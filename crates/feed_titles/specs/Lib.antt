@@ -1,0 +1,4 @@
+pub mod Titles
+pub mod Walks
+pub mod Asks
+pub mod Laws

@@ -1,0 +1,124 @@
+//! Reads the text that a query for titles asks for, and the place where its walk begins.
+ghost use Rattle.std.specs.Prelude.{◌≡◌, IfOk};
+ghost use Rattle.feed_titles.specs.Asks.{ask_at, ask_by, ask_of, in_32_bits, place_in, value_at};
+
+use feed_answer::{Pair, decode_pairs};
+use feed_identifiers::trim_spaces;
+use feed_range::read_number;
+use std::alloc::{AllocError, Global};
+use std::marker::Model;
+
+// The most bytes of the text.
+const TEXT_LIMIT: usize = 256;
+
+/// Why no titles are looked up.
+#[derive(Clone, Copy, Debug, PartialEq, Eq)]
+pub enum TitleFault {
+    /// There is no `q`, or an empty one.
+    NoText,
+    /// `q` has more than 256 bytes.
+    TooLong,
+    /// `start` is not a number below 4,294,967,296.
+    BadStart,
+}
+
+/// The text that a query for titles asks for, and the place where its walk begins.
+#[derive(Drop)]
+pub struct TitleAsk {
+    text: Vec<u8>,
+    start: u32,
+}
+
+impl Model for TitleAsk {
+    ghost use Rattle.feed_titles.specs.Asks.{AskValue};
+
+    ghost Value = { AskValue };
+
+    ghost view = { λ a. record { text = a.text.items; start = a.start } };
+}
+
+// Returns the first value with a key, or nothing.
+fn value_at<'p>(pairs: &'p [Pair<'_>], key: &str) -> &'p [u8]
+    ensures { result.now ≡ value_at key.now pairs.now }
+{
+    match pairs.split_first() {
+        Some((pair, more)) => {
+            if pair.has_key(key) {
+                pair.value()
+            } else {
+                value_at(more, key)
+            }
+        }
+        None => b"",
+    }
+}
+
+fn in_32_bits(number: u64) -> Option<u32>
+    ensures { result ≡ in_32_bits number }
+{
+    if number < 4_294_967_296 {
+        Some(number as u32)
+    } else {
+        None
+    }
+}
+
+// Returns the place that a text gives. Without one a walk begins at the first row.
+fn place_in(text: &[u8]) -> Option<u32>
+    ensures { result ≡ place_in text.now }
+{
+    if text.is_empty() {
+        return Some(0);
+    }
+    in_32_bits(read_number(text)?)
+}
+
+impl TitleAsk {
+    /// Returns the text, without spaces at both ends.
+    pub fn text(&self) -> &[u8]
+        ensures { result.now ≡ self.now.text }
+    {
+        &self.text
+    }
+
+    /// Returns the place where the walk begins.
+    pub fn start(&self) -> u32
+        ensures { result ≡ self.now.start }
+    {
+        self.start
+    }
+
+    fn at(
+        alloc: Global,
+        text: &[u8],
+        start: Option<u32>,
+    ) -> Result<Result<TitleAsk, TitleFault>, AllocError>
+        ensures { IfOk result (λ asked. asked ≡ ask_at text.now start) }
+    {
+        if text.is_empty() {
+            return Ok(Err(TitleFault::NoText));
+        }
+        if text.len() > TEXT_LIMIT {
+            return Ok(Err(TitleFault::TooLong));
+        }
+        let Some(start) = start else {
+            return Ok(Err(TitleFault::BadStart));
+        };
+        let text = Vec::from_slice(alloc, text)?;
+        Ok(Ok(TitleAsk { text, start }))
+    }
+
+    /// Reads what a query asks for: the text of `q`, from the place `start` on.
+    ///
+    /// # Errors
+    ///
+    /// The inner error says why no titles are looked up. The outer one is running out of memory.
+    #[tactic(auto, unfolding(crate::specs::Asks::ask_of))]
+    pub fn read(alloc: Global, query: &[u8]) -> Result<Result<TitleAsk, TitleFault>, AllocError>
+        ensures { IfOk result (λ asked. asked ≡ ask_of query.now) }
+    {
+        let pairs = decode_pairs(alloc, query)?;
+        let text = trim_spaces(value_at(&pairs, "q"));
+        TitleAsk::at(alloc, text, place_in(value_at(&pairs, "start")))
+    }
+}

@@ -1,0 +1,12 @@
+//! The titles of the active releases that contain a text, without regard to case: what a query for titles asks for,
+//! and a walk over the rows, which looks at so many of them and then says where the next walk begins.
+#![tactic(auto)]
+
+mod asked;
+mod folded;
+mod laws;
+mod walk;
+
+pub use asked::{TitleAsk, TitleFault};
+pub use laws::{walks_find_all, walks_find_first};
+pub use walk::{Entry, Walk, find_titles};
