@@ -4,7 +4,8 @@ ghost use Rattle.std.specs.List.{flat_map};
 ghost use Rattle.feed_resolver_reply.specs.JsonLists.{items_from, json_list};
 ghost use Rattle.feed_resolver_page.specs.Titles.{ask_members, back_fields, coverage_members, end_members};
 ghost use Rattle.feed_resolver_page.specs.Titles.{front_fields, identifier_members, isbn_pairs, issn_pairs, link_start};
-ghost use Rattle.feed_resolver_page.specs.Titles.{next_line, next_member, next_value, online_text, pair_part, print_text};
+ghost use Rattle.feed_resolver_page.specs.Titles.{next_line, next_member, next_value, online_text};
+ghost use Rattle.feed_resolver_page.specs.Titles.{pair_part, print_text};
 ghost use Rattle.feed_resolver_page.specs.Titles.{record_members, row_members};
 ghost use Rattle.feed_resolver_page.specs.Titles.{title_line, title_link, title_object, titles_json, titles_text};
 
