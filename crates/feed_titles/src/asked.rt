@@ -9,15 +9,16 @@ use feed_range::read_number;
 use std::alloc::{AllocError, Global};
 use std::marker::Model;
 
-// The most bytes of the text.
-const TEXT_LIMIT: usize = 256;
+// The most bytes of the text. A browser counts the `maxlength` of a field in UTF-16 units, and 256 of them have at most
+// that many bytes of UTF-8.
+const TEXT_LIMIT: usize = 768;
 
 /// Why no titles are looked up.
 #[derive(Clone, Copy, Debug, PartialEq, Eq)]
 pub enum TitleFault {
     /// There is no `q`, nothing but spaces in it, or it is not UTF-8.
     NoText,
-    /// `q` without the spaces at both ends has more than 256 bytes.
+    /// `q` without the spaces at both ends has more than 768 bytes.
     TooLong,
     /// `start` is not a number below 4,294,967,296.
     BadStart,
