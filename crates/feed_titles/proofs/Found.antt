@@ -190,6 +190,29 @@ module _ (test : EntryValue → Bool) (start : ℕ) where
             (behind next (onward_from (look_limit - 1) found_limit (bytes_after text_limit row.row) [] more))
       ]
 
+  -- ---- how many rows a walk passes
+
+  abbrev EndsNear : WalkValue → Type 0
+  EndsNear walk = IfSome walk.next (λ n. n ≤ start + look_limit)
+
+  near_from : (looks room bytes : ℕ) (found more : List EntryValue) → EndsNear (after (walking start looks room bytes found) more)
+  near_from looks room bytes found [] = tt
+  near_from looks room bytes found (row ∷ more) =
+      elim (cases_Bool (is_full looks room bytes)) [
+        | inl full ↦
+            let near : start + (look_limit - looks) ≤ start + look_limit = omega arith in
+            subst EndsNear (sym (stops looks room bytes found row more full)) near
+        | inr free ↦
+            elim (cases_Bool (test row)) [
+              | inl is ↦
+                  subst EndsNear (sym (finds looks room bytes found row more free is))
+                  (near_from (looks - 1) (room - 1) (bytes_after bytes row.row) (found ++ row ∷ []) more)
+              | inr is ↦
+                  subst EndsNear (sym (passes looks room bytes found row more free is))
+                  (near_from (looks - 1) room (bytes_after bytes row.row) found more)
+            ]
+      ]
+
 pub finds_first : WalksFindFirst
 finds_first test rows start =
     let low : look_limit ≤ look_limit = omega arith in
@@ -198,6 +221,7 @@ finds_first test rows start =
       all = sym (all_from test start rows look_limit found_limit text_limit [] (drop start rows) low (ap (λ n. drop n rows) place));
       few = few_from test start look_limit found_limit text_limit [] (drop start rows);
       onward = onward test start (drop start rows);
+      near = near_from test start look_limit found_limit text_limit [] (drop start rows);
     }
 
 -- ---- all walks
