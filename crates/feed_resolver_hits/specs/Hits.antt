@@ -39,6 +39,10 @@ is_word word text = str_eq_ignore_ascii_case (trimmed text) word
 abbrev pub is_free : RowValue → Bool
 is_free row = is_word (codes "F") row.access
 
+-- the row covers full texts (coverage_depth)
+abbrev pub is_full_text : RowValue → Bool
+is_full_text row = is_word (codes "fulltext") row.depth
+
 -- a hit of this release, for the readers of a library, today
 abbrev pub release_hit : site_file.SiteValue → TodayValue → QueryValue → Name → HitValue → ReleaseHitValue
 release_hit site today query name hit = record {
@@ -85,9 +89,9 @@ abbrev pub is_inside : Grade → Bool
 is_inside Inside = true
 is_inside grade = false
 
--- a reader may be sent to the hit without a choice
+-- a reader may be sent to the hit without a choice: the days are open, the row covers them, and it covers full texts
 abbrev pub is_certain : ReleaseHitValue → Bool
-is_certain found = is_available found.availability && is_inside found.hit.grade
+is_certain found = (is_available found.availability && is_inside found.hit.grade) && is_full_text found.hit.row
 
 -- available ranks above partly available, that above not compared, and that above embargoed
 abbrev pub availability_rank : Availability → ℕ
@@ -101,10 +105,6 @@ abbrev pub grade_rank : Grade → ℕ
 grade_rank Inside = 2
 grade_rank Overlap = 1
 grade_rank Untested = 0
-
--- the row covers full texts (coverage_depth)
-abbrev pub is_full_text : RowValue → Bool
-is_full_text row = is_word (codes "fulltext") row.depth
 
 -- full text that is free ranks above other full text, and that above everything else (NISO RP-9-2014, coverage_depth and
 -- access_type)

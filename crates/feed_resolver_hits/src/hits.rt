@@ -5,7 +5,7 @@ ghost use Rattle.feed_answer.specs.HitValue.{hit_of};
 ghost use Rattle.feed_site.specs.Packages.{package_place};
 ghost use Rattle.feed_resolver_hits.specs.Hits.{days_asked, is_certain, is_held, link_text, name_text, release_hit};
 
-use crate::rank::is_free;
+use crate::rank::{is_free, is_full_text};
 use crate::search::Search;
 use feed_answer::{Grade, Hit};
 use feed_dates::DayRange;
@@ -126,14 +126,14 @@ impl<'a> ReleaseHit<'a> {
     }
 
     /// Returns whether a reader may be sent to the hit without a choice: all days that the query asks for are open, and
-    /// the row covers the whole of what is asked for.
+    /// the row covers the whole of what is asked for, in full text.
     pub(crate) fn is_certain(&self) -> bool
         ensures { result ≡ is_certain self.now }
     {
         matches!(
             (self.availability, self.grade),
             (Availability::Available, Grade::Inside)
-        )
+        ) && is_full_text(self.row)
     }
 
     /// Returns how the days that the query asks for lie in those that are open to readers.
