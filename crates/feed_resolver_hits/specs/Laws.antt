@@ -38,13 +38,14 @@ abbrev pub RanksInOrder : Type 0
 RanksInOrder = (one other : ReleaseHitValue) → (rank_of other < rank_of one) ↔ IsPreferred one other
 
 -- the hits are a single one: all days that are asked for are open, it covers the whole of what is asked for, in full text,
--- and it may be linked to, by this link
+-- the library has all those days, and it may be linked to, by this link
 pub record IsSoleHit (hits : List ReleaseHitValue) (url : List ℕ) : Type 0 where
   pub found : ReleaseHitValue
   pub sole : hits ≡ found ∷ []
   pub available : found.availability ≡ Available
   pub inside : found.hit.grade ≡ Inside
   pub full : is_full_text found.hit.row ≡ true
+  pub whole : found.is_held_whole ≡ true
   pub link : is_link url ≡ true
   pub means : url ≡ link_text found
 
