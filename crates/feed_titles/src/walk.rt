@@ -19,8 +19,8 @@ const LOOK_LIMIT: usize = 20_000;
 // The most rows that a walk finds.
 const FOUND_LIMIT: usize = 50;
 
-// A walk ends once the texts of the rows that it looked at have this many bytes. So a turn of the node does bounded work,
-// and a reply stays small.
+// A walk ends once the texts of the rows that it looked at have this many bytes. So a turn of the node does bounded
+// work, and a reply stays small.
 const TEXT_LIMIT: usize = 2_097_152;
 
 // The most bytes of the texts of a row that is found. A title may have 256 MiB.
@@ -251,8 +251,8 @@ fn walk_from<'a>(
 }
 
 /// Finds the rows of releases whose titles contain a text, without regard to case, and that the library has: at most 50
-/// among the 20,000 rows from a place on. It looks at fewer rows once their texts have 2,097,152 bytes, and never finds a
-/// row whose texts have more than 65,536.
+/// among the 20,000 rows from a place on. It looks at fewer rows once their texts have 2,097,152 bytes, and never finds
+/// a row whose texts have more than 65,536.
 ///
 /// # Errors
 ///
