@@ -75,7 +75,7 @@ GoesToBest =
     → BeginsWith bytes head → AsksToGo head query → IsResponse site bytes body keeps actives response
     → (best : Option (List ℕ)) × IsBestLink (counted (hits_among query (sited site actives))) best × GoesTo best response
 
--- `/resolve` redirects a browser only, only if the library wants it, and to the link of the only hit: one that is available
+-- `/resolve` redirects only a browser, only if the library wants it, and to the link of the only hit: one that is available
 -- and covers the whole of what is asked for
 abbrev pub RedirectsSoleHit : Type 0
 RedirectsSoleHit =

@@ -127,8 +127,8 @@ fn shows_hits(alloc: Global, library: &SiteFile, text: &[u8]) -> Result<bool, Al
     is_query(alloc, text)
 }
 
-// Returns whether the reply to a target is a 200, without looking at any holdings. A target without a tag is left to
-// `reply_to`.
+// Returns whether the reply to a target is a 200, without looking at any holdings. `/titles` and a target without a tag
+// are left to `reply_to`.
 fn is_answered(
     alloc: Global,
     target: &[u8],

@@ -8,7 +8,7 @@ use Rattle.feed_embargo.specs.declared.availability.Availability.TheVariants.{Av
 use Rattle.feed_answer.specs.declared.grade.Grade.{Grade}
 use Rattle.feed_answer.specs.declared.grade.Grade.TheVariants.{Inside, Overlap, Untested}
 use Rattle.feed_site.specs.Urls.{is_link}
-use Rattle.feed_resolver_hits.specs.Hits.{ReleaseHitValue, LinkValue, best_link, better, is_available, is_certain, is_inside, link_of, link_text, link_url, link_with, rank_of}
+use Rattle.feed_resolver_hits.specs.Hits.{ReleaseHitValue, LinkValue, best_link, better, is_available, is_certain, is_full_text, is_inside, link_of, link_text, link_url, link_with, rank_of}
 use Rattle.feed_resolver_hits.specs.Tallies.{link_if_certain, sole_link, tally_of, text_limit, text_size}
 use Rattle.feed_resolver_hits.specs.Laws.{IsSoleHit, SoleLinkIsOfSoleHit}
 
@@ -55,12 +55,16 @@ shown_one false found link url e = absurd (cc)
 sole_one : (found : ReleaseHitValue) (url : List ℕ) → sole_link (tally_of (found ∷ [])) ≡ Some url → IsSoleHit (found ∷ []) url
 sole_one found url is =
     let shown = shown_one (nat_lt 0 (text_limit - text_size found)) found (best_link (found ∷ [])) url is in
+    let in_full = and_left ((is_available found.availability && is_inside found.hit.grade) && is_full_text found.hit.row) found.is_held_whole shown.0 in
+    let covered = and_left (is_available found.availability && is_inside found.hit.grade) (is_full_text found.hit.row) in_full in
     let own = linked (is_link (link_text found)) (rank_of found) (link_text found) url (sym (best_one found) ∙ shown.1) in
     record {
       found = found;
       sole = refl;
-      available = available found.availability (and_left (is_available found.availability) (is_inside found.hit.grade) shown.0);
-      inside = inside found.hit.grade (and_right (is_available found.availability) (is_inside found.hit.grade) shown.0);
+      available = available found.availability (and_left (is_available found.availability) (is_inside found.hit.grade) covered);
+      inside = inside found.hit.grade (and_right (is_available found.availability) (is_inside found.hit.grade) covered);
+      full = and_right (is_available found.availability && is_inside found.hit.grade) (is_full_text found.hit.row) in_full;
+      whole = and_right ((is_available found.availability && is_inside found.hit.grade) && is_full_text found.hit.row) found.is_held_whole shown.0;
       link = subst (λ (u : List ℕ). is_link u ≡ true) own.1 own.0;
       means = sym own.1;
     }
@@ -79,14 +83,17 @@ sole_only [] url is = absurd (cc)
 sole_only (found ∷ []) url is = sole_one found url is
 sole_only (one ∷ other ∷ more) url is = let none = none_of_several one other more in absurd (cc)
 
-one_has : (found : ReleaseHitValue) (url : List ℕ) → found.availability ≡ Available → found.hit.grade ≡ Inside → is_link (link_text found) ≡ true → url ≡ link_text found
+one_has : (found : ReleaseHitValue) (url : List ℕ) → found.availability ≡ Available → found.hit.grade ≡ Inside → is_full_text found.hit.row ≡ true
+    → found.is_held_whole ≡ true → is_link (link_text found) ≡ true → url ≡ link_text found
     → text_size found < text_limit → sole_link (tally_of (found ∷ [])) ≡ Some url
-one_has found url opened covers link means small =
+one_has found url opened covers full whole link means small =
     let best = best_link (found ∷ []) in
     let room : nat_lt 0 (text_limit - text_size found) ≡ true = grind (arith, nat_tests) in
     ap (λ b. link_if_certain (if b then found ∷ [] else []) best) room
-    ∙ ap (λ (a : Availability). if is_available a && is_inside found.hit.grade then best else None) opened
-    ∙ ap (λ (g : Grade). if is_inside g then best else None) covers
+    ∙ ap (λ (a : Availability). if ((is_available a && is_inside found.hit.grade) && is_full_text found.hit.row) && found.is_held_whole then best else None) opened
+    ∙ ap (λ (g : Grade). if (is_inside g && is_full_text found.hit.row) && found.is_held_whole then best else None) covers
+    ∙ ap (λ b. if b && found.is_held_whole then best else None) full
+    ∙ ap (λ b. if b then best else None) whole
     ∙ best_one found
     ∙ ap (λ b. option_map link_url (if b then Some (link_with (rank_of found) (link_text found)) else None)) link
     ∙ ap Some (sym means)
@@ -94,7 +101,7 @@ one_has found url opened covers link means small =
 sole_has : (hits : List ReleaseHitValue) (url : List ℕ) (is : IsSoleHit hits url) → text_size is.found < text_limit → sole_link (tally_of hits) ≡ Some url
 sole_has hits url is small =
     ap (λ (l : List ReleaseHitValue). sole_link (tally_of l)) is.sole
-    ∙ one_has is.found url is.available is.inside (subst (λ (u : List ℕ). is_link u ≡ true) is.means is.link) is.means small
+    ∙ one_has is.found url is.available is.inside is.full is.whole (subst (λ (u : List ℕ). is_link u ≡ true) is.means is.link) is.means small
 
 pub sole_is : SoleLinkIsOfSoleHit
 sole_is hits url = (sole_only hits url, sole_has hits url)

@@ -1,5 +1,5 @@
 -- The hits of a query, each with its release and its availability, and the best link among them.
-use Rattle.std.specs.Prelude.{ℕ, ◌+◌, ◌*◌, ◌-◌, ◌&&◌, Bool, true, false, nat_lt, if◌then◌else◌, List, [], ◌∷◌, codes, Option, Some, None, filter, map, option_map}
+use Rattle.std.specs.Prelude.{ℕ, ℤ, ◌+◌, ◌*◌, ◌-◌, ◌&&◌, Bool, true, false, nat_lt, if◌then◌else◌, List, [], ◌∷◌, codes, Option, Some, None, filter, map, option_map}
 use Rattle.std.specs.Str.{str_eq_ignore_ascii_case}
 use Rattle.feed_names.specs.ReleaseName.{Name, text_of}
 use Rattle.feed_identifiers.specs.Text.{trimmed}
@@ -7,6 +7,7 @@ use Rattle.feed_embargo.specs.Today.{TodayValue}
 use Rattle.feed_embargo.specs.Availability.{availability_of}
 use Rattle.feed_embargo.specs.declared.availability.Availability.{Availability}
 use Rattle.feed_embargo.specs.declared.availability.Availability.TheVariants.{Available, Partly, NotCompared, Embargoed}
+use Rattle.feed_dates.specs.DayRanges.{single_day}
 use Rattle.feed_dates.specs.declared.day_range.DayRange.{DayRange}
 use Rattle.feed_kbart.specs.Identifiers.{kind}
 use Rattle.feed_kbart.specs.RowValue.{RowValue}
@@ -23,13 +24,14 @@ use Rattle.feed_site.specs.Site as site_file
 use Rattle.feed_site.specs.Urls.{is_link}
 
 -- a hit, its release, how the days that the query asks for lie in those that are open to readers, the prefix of its link, if
--- that goes through a proxy, and the place of its package in the order of the site
+-- that goes through a proxy, the place of its package in the order of the site, and whether the library has all those days
 pub record ReleaseHitValue : Type 0 where
   pub name : Name
   pub hit : HitValue
   pub availability : Availability
   pub prefix : Option (List ℕ)
   pub place : ℕ
+  pub is_held_whole : Bool
 
 -- the trimmed text is this word, in any case
 abbrev pub is_word : List ℕ → List ℕ → Bool
@@ -39,6 +41,25 @@ is_word word text = str_eq_ignore_ascii_case (trimmed text) word
 abbrev pub is_free : RowValue → Bool
 is_free row = is_word (codes "F") row.access
 
+-- the row covers full texts (coverage_depth)
+abbrev pub is_full_text : RowValue → Bool
+is_full_text row = is_word (codes "fulltext") row.depth
+
+-- the days that are asked for of a title; those of a book are the days of its publication, which are not compared
+abbrev pub days_asked : Kind → Option DayRange → Option DayRange
+days_asked Serial days = days
+days_asked Book days = None
+
+-- the library has this day of a row of this release
+abbrev pub holds_day : site_file.SiteValue → Name → RowValue → ℤ → Bool
+holds_day site name row day = library_has site name.stem row.title_id row.first_day row.last_day (Some (single_day day))
+
+-- the library has the first and the last of the days that are asked for, if there are such. Its own days are those from one
+-- to another, so it has all between
+abbrev pub holds_days : site_file.SiteValue → Name → RowValue → Option DayRange → Bool
+holds_days site name row None = true
+holds_days site name row (Some days) = holds_day site name row days.first && holds_day site name row days.last
+
 -- a hit of this release, for the readers of a library, today
 abbrev pub release_hit : site_file.SiteValue → TodayValue → QueryValue → Name → HitValue → ReleaseHitValue
 release_hit site today query name hit = record {
@@ -47,12 +68,8 @@ release_hit site today query name hit = record {
   availability = availability_of today hit.row.embargo hit.row.first_day hit.row.last_day query.days;
   prefix = prefix_for site hit.row.url (is_free hit.row);
   place = package_place site name.stem;
+  is_held_whole = holds_days site name hit.row (days_asked (kind hit.row.identifiers) query.days);
 }
-
--- the days that are asked for of a title; those of a book are the days of its publication, which are not compared
-abbrev pub days_asked : Kind → Option DayRange → Option DayRange
-days_asked Serial days = days
-days_asked Book days = None
 
 -- the library has what is asked for of a hit of this release
 abbrev pub is_held : site_file.SiteValue → QueryValue → Name → HitValue → Bool
@@ -85,9 +102,10 @@ abbrev pub is_inside : Grade → Bool
 is_inside Inside = true
 is_inside grade = false
 
--- a reader may be sent to the hit without a choice
+-- a reader may be sent to the hit without a choice: the days are open, the row covers them, it covers full texts, and the
+-- library has all of them
 abbrev pub is_certain : ReleaseHitValue → Bool
-is_certain found = is_available found.availability && is_inside found.hit.grade
+is_certain found = ((is_available found.availability && is_inside found.hit.grade) && is_full_text found.hit.row) && found.is_held_whole
 
 -- available ranks above partly available, that above not compared, and that above embargoed
 abbrev pub availability_rank : Availability → ℕ
@@ -101,10 +119,6 @@ abbrev pub grade_rank : Grade → ℕ
 grade_rank Inside = 2
 grade_rank Overlap = 1
 grade_rank Untested = 0
-
--- the row covers full texts (coverage_depth)
-abbrev pub is_full_text : RowValue → Bool
-is_full_text row = is_word (codes "fulltext") row.depth
 
 -- full text that is free ranks above other full text, and that above everything else (NISO RP-9-2014, coverage_depth and
 -- access_type)

@@ -13,7 +13,7 @@ use Rattle.feed_answer.specs.declared.grade.Grade.TheVariants.{Inside}
 use Rattle.feed_resolver_hits.specs.AnswerJson.{answer_json, answer_value}
 use Rattle.feed_resolver_hits.specs.Asks.{AskValue}
 use Rattle.feed_site.specs.Urls.{is_link}
-use Rattle.feed_resolver_hits.specs.Hits.{ReleaseHitValue, best_link, is_free, link_text, rank_of, release_hit}
+use Rattle.feed_resolver_hits.specs.Hits.{ReleaseHitValue, best_link, is_free, is_full_text, link_text, rank_of, release_hit}
 use Rattle.feed_resolver_hits.specs.HitsJson.{hits_json, item_values}
 use Rattle.feed_resolver_hits.specs.Ranks.{IsBestLink, IsPreferred}
 use Rattle.feed_resolver_hits.specs.Tallies.{TallyValue, sole_link, tally_of, text_limit, text_size}
@@ -37,13 +37,15 @@ BestLinkRanksHighest = (hits : List ReleaseHitValue) → IsBestLink hits (best_l
 abbrev pub RanksInOrder : Type 0
 RanksInOrder = (one other : ReleaseHitValue) → (rank_of other < rank_of one) ↔ IsPreferred one other
 
--- the hits are a single one: all days that are asked for are open, it covers the whole of what is asked for, and it may be
--- linked to, by this link
+-- the hits are a single one: all days that are asked for are open, it covers the whole of what is asked for, in full text,
+-- the library has all those days, and it may be linked to, by this link
 pub record IsSoleHit (hits : List ReleaseHitValue) (url : List ℕ) : Type 0 where
   pub found : ReleaseHitValue
   pub sole : hits ≡ found ∷ []
   pub available : found.availability ≡ Available
   pub inside : found.hit.grade ≡ Inside
+  pub full : is_full_text found.hit.row ≡ true
+  pub whole : found.is_held_whole ≡ true
   pub link : is_link url ≡ true
   pub means : url ≡ link_text found
 

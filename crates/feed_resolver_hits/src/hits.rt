@@ -3,9 +3,10 @@ ghost use Rattle.std.specs.Prelude.{◌≡◌, IfOk, option_copied};
 ghost use Rattle.std.specs.Cow.{cow_slice_items};
 ghost use Rattle.feed_answer.specs.HitValue.{hit_of};
 ghost use Rattle.feed_site.specs.Packages.{package_place};
-ghost use Rattle.feed_resolver_hits.specs.Hits.{days_asked, is_certain, is_held, link_text, name_text, release_hit};
+ghost use Rattle.feed_resolver_hits.specs.Hits.{days_asked, holds_day, holds_days, is_certain, is_held, link_text};
+ghost use Rattle.feed_resolver_hits.specs.Hits.{name_text, release_hit};
 
-use crate::rank::is_free;
+use crate::rank::{is_free, is_full_text};
 use crate::search::Search;
 use feed_answer::{Grade, Hit};
 use feed_dates::DayRange;
@@ -18,7 +19,8 @@ use std::borrow::CowSlice;
 use std::marker::Model;
 
 /// A hit, its release, how the days that the query asks for lie in those that are open to readers, the prefix of its
-/// link, if that goes through a proxy, and the place of its package in the order of the site.
+/// link, if that goes through a proxy, the place of its package in the order of the site, and whether the library has
+/// all those days.
 #[derive(Drop)]
 pub struct ReleaseHit<'a> {
     name: &'a ReleaseName,
@@ -27,6 +29,7 @@ pub struct ReleaseHit<'a> {
     availability: Availability,
     prefix: Option<&'a str>,
     place: usize,
+    is_held_whole: bool,
 }
 
 impl<'a> Model for ReleaseHit<'a> {
@@ -41,6 +44,7 @@ impl<'a> Model for ReleaseHit<'a> {
       availability = f.availability;
       prefix = option_copied f.prefix;
       place = f.place;
+      is_held_whole = f.is_held_whole;
     } };
 }
 
@@ -66,6 +70,7 @@ impl<'a> ReleaseHit<'a> {
             availability: availability_of(today, row.embargo(), first, last, search.days()),
             prefix: prefix_for(site, row.url(), is_free(row)),
             place: site_place,
+            is_held_whole: holds_days(site, name, row, days_asked(row.kind(), search.days())),
         }
     }
 
@@ -80,6 +85,7 @@ impl<'a> ReleaseHit<'a> {
             availability: self.availability,
             prefix: self.prefix,
             place: self.place,
+            is_held_whole: self.is_held_whole,
         }
     }
 
@@ -126,14 +132,15 @@ impl<'a> ReleaseHit<'a> {
     }
 
     /// Returns whether a reader may be sent to the hit without a choice: all days that the query asks for are open, and
-    /// the row covers the whole of what is asked for.
+    /// the row covers the whole of what is asked for, in full text, and the library has all those days.
     pub(crate) fn is_certain(&self) -> bool
         ensures { result ≡ is_certain self.now }
     {
         matches!(
             (self.availability, self.grade),
             (Availability::Available, Grade::Inside)
-        )
+        ) && is_full_text(self.row)
+            && self.is_held_whole
     }
 
     /// Returns how the days that the query asks for lie in those that are open to readers.
@@ -151,6 +158,31 @@ fn days_asked(kind: Kind, days: Option<DayRange>) -> Option<DayRange>
     match kind {
         Kind::Serial => days,
         Kind::Book => None,
+    }
+}
+
+// Returns whether the library has a day of a row of a release.
+fn holds_day(site: &SiteFile, name: &ReleaseName, row: &Row, day: i32) -> bool
+    ensures { result ≡ holds_day site.now name.now row.now day }
+{
+    let asked = Some(DayRange {
+        first: day,
+        last: day,
+    });
+    let (first, last) = (row.first_day(), row.last_day());
+    library_has(site, name.package(), row.title_id(), first, last, asked)
+}
+
+// Returns whether the library has all days that are asked for. Its own days are those from one to another, so it has
+// all between two that it has.
+fn holds_days(site: &SiteFile, name: &ReleaseName, row: &Row, asked: Option<DayRange>) -> bool
+    ensures { result ≡ holds_days site.now name.now row.now asked }
+{
+    match asked {
+        Some(days) => {
+            holds_day(site, name, row, days.first) && holds_day(site, name, row, days.last)
+        }
+        None => true,
     }
 }
 

@@ -25,8 +25,8 @@ pub fn ranks_in_order()
     ensures { RanksInOrder }
 {}
 
-/// A sole link is that of the only hit, which is available and covers the whole of what is asked for; and such a hit
-/// has one.
+/// A sole link is that of the only hit, which is available and covers the whole of what is asked for, in full text, and
+/// all of whose days that are asked for the library has; and such a hit has one.
 pub fn sole_link_is_of_sole_hit()
     ensures { SoleLinkIsOfSoleHit }
 {}

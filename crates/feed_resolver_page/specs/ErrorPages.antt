@@ -16,7 +16,7 @@ use Rattle.feed_site.specs.Texts.{text_of}
 use Rattle.feed_page_texts.specs.declared.table.Text.{Text}
 use Rattle.feed_page_texts.specs.declared.table.Text.TheVariants as text
 
--- the name of the error, for whom a reader asks about it
+-- the name of the error, for whoever a reader asks about it
 unfoldable pub name_part : List ℕ → List ℕ
 name_part name = joined (codes "<p class=\"more\">" ∷ escaped name ∷ codes "</p>\n" ∷ [])
 

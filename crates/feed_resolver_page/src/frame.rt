@@ -37,7 +37,7 @@ const BEFORE_BODY: &[u8] = b"\
     a:focus-visible,button:focus-visible,input:focus-visible{outline:.2rem solid var(--link);outline-offset:.15rem}\
     dl{display:grid;grid-template-columns:auto 1fr;gap:.1rem .8rem;margin:.4rem 0 1.2rem}\
     dt{color:var(--soft)}dd{margin:0}\
-    .hits{list-style:none;margin:0;padding:0}\
+    .hits{list-style:none;margin:1rem 0;padding:0}\
     .hits li{padding:.8rem 1rem;margin:0 0 .7rem;background:var(--card);border:1px solid var(--line);\
     border-radius:.4rem}\
     .hits p{margin:.2rem 0}.name{font-weight:600}.inside{color:var(--good)}.partly{color:var(--some)}\

@@ -1,5 +1,6 @@
 //! The pages that a reader of a resolver sees: the citation of a query, a card for each hit, and the form for a new
-//! search; and the replies to requests that are not answered, and to queries for which nothing is looked up.
+//! search; and the replies to requests that are not answered, to queries for which nothing is looked up, and to queries
+//! for titles.
 #![tactic(auto)]
 
 mod card;

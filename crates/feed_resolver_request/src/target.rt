@@ -8,7 +8,7 @@ use feed_range::split_once;
 /// The resource that a path names.
 #[derive(Clone, Copy, Debug, PartialEq, Eq)]
 pub enum Resource {
-    /// `/`: the page with the form and the packages.
+    /// `/`: the page with the forms and the packages.
     Home,
     /// `/status`: the active releases.
     Status,

@@ -1,6 +1,6 @@
 -- A text without its case, by whether it is ASCII and UTF-8.
 use Rattle.std.proofs.Common.{◌≡◌, ℕ, Bool, true, false, List, refl, sym, ap, ◌∙◌, ◌||◌, not, map, Option, length}
-use Rattle.std.specs.Prelude.{if◌then◌else◌, is_some}
+use Rattle.std.specs.Prelude.{if◌then◌else◌, MatchResult, Result, Ok, Err, is_ok, is_some}
 use Rattle.std.specs.Char.{is_ascii, to_ascii_lowercase}
 use Rattle.std.specs.List.{list_all}
 use Rattle.std.specs.Str.{IsUtf8, chars, encode_utf8_all, is_utf8}
@@ -35,6 +35,12 @@ unfolding folded
 folded_bytes text ascii not =
     ap (λ b. folded_if false b text) (sym (no_text text (is_utf8 text) refl not))
     ∙ ap (λ b. folded_if b (is_utf8 text) text) (sym ascii)
+
+-- whether a text is UTF-8, by what its reader returns
+pub utf8_read : {A B : Type 0} (P : A → Type 0) (Q : B → Type 0) (text : List ℕ) (read : Result A B)
+    → MatchResult read (λ a. P a × IsUtf8 text) (λ e. (IsUtf8 text → ⊥) × Q e) → is_ok read ≡ is_utf8 text
+utf8_read P Q text (Ok a) is = sym (is_utf8-from_IsUtf8 text is.1)
+utf8_read P Q text (Err e) is = sym (no_text text (is_utf8 text) refl is.0)
 
 -- a part that is found
 pub part_found : (part text : List ℕ) (place : Option ℕ) → FindsNeedle text part 0 place → is_some place ≡ has_part part text

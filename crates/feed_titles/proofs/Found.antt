@@ -69,9 +69,9 @@ module _ (test : EntryValue → Bool) (start : ℕ) where
 
   passes : (looks room bytes : ℕ) (found : List EntryValue) (row : EntryValue) (more : List EntryValue) → is_full looks room bytes ≡ false
       → test row ≡ false
-      → after (walking start looks room bytes found) (row ∷ more) ≡ after (walking start (looks - 1) room bytes found) more
+      → after (walking start looks room bytes found) (row ∷ more) ≡ after (walking start (looks - 1) room (bytes_after bytes row.row) found) more
   passes looks room bytes found row more free is =
-      let one : with_row test (walking start looks room bytes found) row ≡ walking start (looks - 1) room bytes found = rw (free, is) refl in
+      let one : with_row test (walking start looks room bytes found) row ≡ walking start (looks - 1) room (bytes_after bytes row.row) found = rw (free, is) refl in
       ap (λ w. after w more) one
 
   -- ---- what is found, and what is left
@@ -105,7 +105,7 @@ module _ (test : EntryValue → Bool) (start : ℕ) where
                 | inr is ↦
                     let left : filter test (row ∷ more) ≡ filter test more = rw is refl in
                     ap total (passes looks room bytes found row more free is)
-                    ∙ all_from (looks - 1) room bytes found more fewer rest ∙ ap (λ l. found ++ l) (sym left)
+                    ∙ all_from (looks - 1) room (bytes_after bytes row.row) found more fewer rest ∙ ap (λ l. found ++ l) (sym left)
               ]
         ]
 
@@ -132,10 +132,10 @@ module _ (test : EntryValue → Bool) (start : ℕ) where
                   let long : length (found ++ row ∷ []) ≡ length found + 1 = length-append found (row ∷ []) in
                   omega arith
               | inr is ↦
-                  let next = walking start (looks - 1) room bytes found in
+                  let next = walking start (looks - 1) room (bytes_after bytes row.row) found in
                   let same : length (after (walking start looks room bytes found) (row ∷ more)).found ≡ length (after next more).found =
                   ap (λ w. length w.found) (passes looks room bytes found row more free is) in
-                  let rest : length (after next more).found ≤ length found + room = few_from (looks - 1) room bytes found more in
+                  let rest : length (after next more).found ≤ length found + room = few_from (looks - 1) room (bytes_after bytes row.row) found more in
                   omega arith
             ]
       ]
@@ -163,9 +163,9 @@ module _ (test : EntryValue → Bool) (start : ℕ) where
                   subst (GoesOnFrom place) (sym (finds looks room bytes found row more free is))
                   (later looks next (onward_from (looks - 1) (room - 1) (bytes_after bytes row.row) (found ++ row ∷ []) more))
               | inr is ↦
-                  let next = after (walking start (looks - 1) room bytes found) more in
+                  let next = after (walking start (looks - 1) room (bytes_after bytes row.row) found) more in
                   subst (GoesOnFrom place) (sym (passes looks room bytes found row more free is))
-                  (later looks next (onward_from (looks - 1) room bytes found more))
+                  (later looks next (onward_from (looks - 1) room (bytes_after bytes row.row) found more))
             ]
       ]
 
@@ -185,9 +185,32 @@ module _ (test : EntryValue → Bool) (start : ℕ) where
             subst GoesBehind (sym (finds look_limit found_limit text_limit [] row more refl is))
             (behind next (onward_from (look_limit - 1) (found_limit - 1) (bytes_after text_limit row.row) (row ∷ []) more))
         | inr is ↦
-            let next = after (walking start (look_limit - 1) found_limit text_limit []) more in
+            let next = after (walking start (look_limit - 1) found_limit (bytes_after text_limit row.row) []) more in
             subst GoesBehind (sym (passes look_limit found_limit text_limit [] row more refl is))
-            (behind next (onward_from (look_limit - 1) found_limit text_limit [] more))
+            (behind next (onward_from (look_limit - 1) found_limit (bytes_after text_limit row.row) [] more))
+      ]
+
+  -- ---- how many rows a walk passes
+
+  abbrev EndsNear : WalkValue → Type 0
+  EndsNear walk = IfSome walk.next (λ n. n ≤ start + look_limit)
+
+  near_from : (looks room bytes : ℕ) (found more : List EntryValue) → EndsNear (after (walking start looks room bytes found) more)
+  near_from looks room bytes found [] = tt
+  near_from looks room bytes found (row ∷ more) =
+      elim (cases_Bool (is_full looks room bytes)) [
+        | inl full ↦
+            let near : start + (look_limit - looks) ≤ start + look_limit = omega arith in
+            subst EndsNear (sym (stops looks room bytes found row more full)) near
+        | inr free ↦
+            elim (cases_Bool (test row)) [
+              | inl is ↦
+                  subst EndsNear (sym (finds looks room bytes found row more free is))
+                  (near_from (looks - 1) (room - 1) (bytes_after bytes row.row) (found ++ row ∷ []) more)
+              | inr is ↦
+                  subst EndsNear (sym (passes looks room bytes found row more free is))
+                  (near_from (looks - 1) room (bytes_after bytes row.row) found more)
+            ]
       ]
 
 pub finds_first : WalksFindFirst
@@ -198,6 +221,7 @@ finds_first test rows start =
       all = sym (all_from test start rows look_limit found_limit text_limit [] (drop start rows) low (ap (λ n. drop n rows) place));
       few = few_from test start look_limit found_limit text_limit [] (drop start rows);
       onward = onward test start (drop start rows);
+      near = near_from test start look_limit found_limit text_limit [] (drop start rows);
     }
 
 -- ---- all walks

@@ -1,6 +1,7 @@
 -- The text that a query for titles asks for, and the place where its walk begins.
-use Rattle.std.specs.Prelude.{ℕ, nat_lt, ◌^◌, if◌then◌else◌, List, [], ◌∷◌, codes, length, Option, Some, None, Result, Ok, Err}
+use Rattle.std.specs.Prelude.{ℕ, nat_lt, ◌^◌, ◌||◌, not, if◌then◌else◌, List, [], ◌∷◌, codes, length, Option, Some, None, Result, Ok, Err}
 use Rattle.std.specs.Option.{option_and_then}
+use Rattle.std.specs.Str.{is_utf8}
 use Rattle.form_urlencoded.specs.Form as form
 use Rattle.feed_range.specs.Text.{number_in_64_bits}
 use Rattle.feed_identifiers.specs.Text.{trimmed}
@@ -13,9 +14,9 @@ pub record AskValue : Type 0 where
   pub text : List ℕ
   pub start : ℕ
 
--- the most bytes of the text
+-- the most bytes of the text: 256 UTF-16 units, which a browser counts, have at most that many
 abbrev pub text_limit : ℕ
-text_limit = 256
+text_limit = 768
 
 -- the first value with this key, or nothing
 abbrev pub value_at : List ℕ → List (List ℕ × List ℕ) → List ℕ
@@ -34,10 +35,11 @@ abbrev pub ask_from : List ℕ → Option ℕ → Result AskValue TitleFault
 ask_from text None = Err BadStart
 ask_from text (Some start) = Ok (record { text = text; start = start })
 
--- the first fault of a text and a place counts
+-- the first fault of a text and a place counts; a text that is not UTF-8 counts as missing, so that replies in JSON stay
+-- UTF-8
 abbrev pub ask_at : List ℕ → Option ℕ → Result AskValue TitleFault
 ask_at text start =
-    if is_empty text then Err NoText
+    if is_empty text || not (is_utf8 text) then Err NoText
     else if nat_lt text_limit (length text) then Err TooLong
     else ask_from text start
 

@@ -1,7 +1,7 @@
 -- The laws of a walk.
-use Rattle.std.specs.Prelude.{◌≡◌, ◌<◌, ◌≤◌, ℕ, zero, suc, Bool, List, [], ◌++◌, Option, Some, None, IfSome, drop, filter, length}
+use Rattle.std.specs.Prelude.{◌≡◌, ◌+◌, ◌<◌, ◌≤◌, ℕ, zero, suc, Bool, List, [], ◌++◌, Option, Some, None, IfSome, drop, filter, length}
 use Rattle.feed_titles.specs.Titles.{EntryValue}
-use Rattle.feed_titles.specs.Walks.{found_limit, walk_from}
+use Rattle.feed_titles.specs.Walks.{found_limit, look_limit, walk_from}
 
 -- the rows that pass a test from the place of `next` on
 abbrev pub left_at : (EntryValue → Bool) → List EntryValue → Option ℕ → List EntryValue
@@ -9,11 +9,12 @@ left_at test rows None = []
 left_at test rows (Some place) = filter test (drop place rows)
 
 -- a walk finds the first of the rows that pass the test, at most 50, and the others are those from its `next` on, which
--- is behind its start
+-- is behind its start, by 20,000 rows at most
 pub record FindsFirst (test : EntryValue → Bool) (rows : List EntryValue) (start : ℕ) : Type 0 where
   pub all : filter test (drop start rows) ≡ (walk_from test start rows).found ++ left_at test rows (walk_from test start rows).next
   pub few : length (walk_from test start rows).found ≤ found_limit
   pub onward : IfSome (walk_from test start rows).next (λ place. start < place)
+  pub near : IfSome (walk_from test start rows).next (λ place. place ≤ start + look_limit)
 
 abbrev pub WalksFindFirst : Type 0
 WalksFindFirst = (test : EntryValue → Bool) (rows : List EntryValue) (start : ℕ) → FindsFirst test rows start

@@ -1,5 +1,5 @@
 -- The rows whose titles contain a text, without regard to case.
-use Rattle.std.specs.Prelude.{ℕ, ◌&&◌, ◌||◌, not, Bool, if◌then◌else◌, List, None, map, is_some}
+use Rattle.std.specs.Prelude.{ℕ, ◌+◌, nat_le, ◌&&◌, ◌||◌, not, Bool, if◌then◌else◌, List, None, length, map, is_some}
 use Rattle.std.specs.Char.{is_ascii, to_ascii_lowercase}
 use Rattle.std.specs.List.{list_all}
 use Rattle.std.specs.Str.{chars, encode_utf8_all, is_utf8}
@@ -32,8 +32,17 @@ pub record EntryValue : Type 0 where
 abbrev pub entry_of : Name → RowValue → EntryValue
 entry_of name row = record { name = name; row = row }
 
--- the title of a row contains a part, which is folded, and the library has the row
+-- the most bytes of the texts of a row that is found, so that a reply stays small
+abbrev pub row_limit : ℕ
+row_limit = 65536
+
+-- the texts of a row are short enough
+abbrev pub is_short : RowValue → Bool
+is_short row = nat_le (length row.title + length row.depth + length row.embargo) row_limit
+
+-- a row is short, its title contains a part, which is folded, and the library has the row
 unfoldable pub is_found : site_file.SiteValue → List ℕ → EntryValue → Bool
 is_found site part entry =
-    has_part part (folded entry.row.title)
+    is_short entry.row
+    && has_part part (folded entry.row.title)
     && library_has site entry.name.stem entry.row.title_id entry.row.first_day entry.row.last_day None

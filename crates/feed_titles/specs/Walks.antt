@@ -13,12 +13,12 @@ look_limit = 20000
 abbrev pub found_limit : ℕ
 found_limit = 50
 
--- it ends once the texts of the rows that it found have this many bytes
+-- it ends once the texts of the rows that it looked at have this many bytes, so that a turn of the node does bounded work
 abbrev pub text_limit : ℕ
-text_limit = 524288
+text_limit = 2097152
 
--- a walk: the place of its first row, how many more rows it looks at and finds, and with how many bytes, what it found, and
--- the place of the first row that it left
+-- a walk: the place of its first row, how many more rows it looks at and finds, how many more bytes of texts it looks at,
+-- what it found, and the place of the first row that it left
 pub record WalkValue : Type 0 where
   pub start : ℕ
   pub looks : ℕ
@@ -55,7 +55,7 @@ ended walk = record {
   next = Some (place_of walk);
 }
 
--- the next row is found, or passed
+-- the next row is found, or passed; its texts count in both cases
 abbrev pub with_found : WalkValue → EntryValue → WalkValue
 with_found walk entry = record {
   start = walk.start;
@@ -66,12 +66,12 @@ with_found walk entry = record {
   next = walk.next;
 }
 
-abbrev pub passed : WalkValue → WalkValue
-passed walk = record {
+abbrev pub passed : WalkValue → EntryValue → WalkValue
+passed walk entry = record {
   start = walk.start;
   looks = walk.looks - 1;
   room = walk.room;
-  bytes = walk.bytes;
+  bytes = bytes_after walk.bytes entry.row;
   found = walk.found;
   next = walk.next;
 }
@@ -82,7 +82,7 @@ with_row test walk entry =
     if is_some walk.next then walk
     else if is_full walk.looks walk.room walk.bytes then ended walk
     else if test entry then with_found walk entry
-    else passed walk
+    else passed walk entry
 
 -- the rows of a release, and those of all releases: by package, and in the order of each list
 abbrev pub rows_in : ActiveValue → List EntryValue

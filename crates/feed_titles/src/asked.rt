@@ -1,5 +1,6 @@
 //! Reads the text that a query for titles asks for, and the place where its walk begins.
 ghost use Rattle.std.specs.Prelude.{◌≡◌, IfOk};
+ghost use Rattle.std.specs.Str.{is_utf8};
 ghost use Rattle.feed_titles.specs.Asks.{ask_at, ask_by, ask_of, in_32_bits, place_in, value_at};
 
 use feed_answer::{Pair, decode_pairs};
@@ -8,15 +9,16 @@ use feed_range::read_number;
 use std::alloc::{AllocError, Global};
 use std::marker::Model;
 
-// The most bytes of the text.
-const TEXT_LIMIT: usize = 256;
+// The most bytes of the text. A browser counts the `maxlength` of a field in UTF-16 units, and 256 of them have at most
+// that many bytes of UTF-8.
+const TEXT_LIMIT: usize = 768;
 
 /// Why no titles are looked up.
 #[derive(Clone, Copy, Debug, PartialEq, Eq)]
 pub enum TitleFault {
-    /// There is no `q`, or an empty one.
+    /// There is no `q`, nothing but spaces in it, or it is not UTF-8.
     NoText,
-    /// `q` has more than 256 bytes.
+    /// `q` without the spaces at both ends has more than 768 bytes.
     TooLong,
     /// `start` is not a number below 4,294,967,296.
     BadStart,
@@ -63,6 +65,12 @@ fn in_32_bits(number: u64) -> Option<u32>
     }
 }
 
+fn is_utf8(text: &[u8]) -> bool
+    ensures { result ≡ is_utf8 text.now }
+{
+    str::from_utf8(text).is_ok()
+}
+
 // Returns the place that a text gives. Without one a walk begins at the first row.
 fn place_in(text: &[u8]) -> Option<u32>
     ensures { result ≡ place_in text.now }
@@ -95,7 +103,7 @@ impl TitleAsk {
     ) -> Result<Result<TitleAsk, TitleFault>, AllocError>
         ensures { IfOk result (λ asked. asked ≡ ask_at text.now start) }
     {
-        if text.is_empty() {
+        if text.is_empty() || !is_utf8(text) {
             return Ok(Err(TitleFault::NoText));
         }
         if text.len() > TEXT_LIMIT {

@@ -2,7 +2,7 @@
 ghost use Rattle.feed_titles.specs.Laws.{WalksFindAll, WalksFindFirst};
 
 /// A walk finds the first of the rows that pass a test, and the others are those from the place where the next walk
-/// begins. That place is behind its own start.
+/// begins. That place is behind its own start, by 20,000 rows at most.
 pub fn walks_find_first()
     ensures { WalksFindFirst }
 {}

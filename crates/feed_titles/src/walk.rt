@@ -1,7 +1,7 @@
 //! A walk over the rows of releases, which finds those whose titles contain a text.
 ghost use Rattle.std.specs.Prelude.{◌≡◌, IfOk, OnOk, None, drop, fold, map};
 ghost use Rattle.feed_site.specs.Held.{library_has};
-ghost use Rattle.feed_titles.specs.Titles.{entry_of, folded, is_found};
+ghost use Rattle.feed_titles.specs.Titles.{entry_of, folded, is_found, is_short};
 ghost use Rattle.feed_titles.specs.Walks.{bytes_after, rows_among, titles_from, walk_from, with_row};
 
 use crate::folded::{contains, fold_case};
@@ -19,8 +19,12 @@ const LOOK_LIMIT: usize = 20_000;
 // The most rows that a walk finds.
 const FOUND_LIMIT: usize = 50;
 
-// A walk ends once the texts of the rows that it found have this many bytes, so that a reply stays small.
-const TEXT_LIMIT: usize = 524_288;
+// A walk ends once the texts of the rows that it looked at have this many bytes. So a turn of the node does bounded
+// work, and a reply stays small.
+const TEXT_LIMIT: usize = 2_097_152;
+
+// The most bytes of the texts of a row that is found. A title may have 256 MiB.
+const ROW_LIMIT: usize = 65_536;
 
 /// A row, and the name of the release that has it.
 #[derive(Drop)]
@@ -57,7 +61,7 @@ impl<'a> Entry<'a> {
 #[derive(Drop)]
 pub struct Walk<'a> {
     start: u32,
-    // How many more rows it looks at and finds, and with how many bytes.
+    // How many more rows it looks at and finds, and how many more bytes of texts it looks at.
     looks: usize,
     room: usize,
     bytes: usize,
@@ -90,6 +94,15 @@ fn is_held(site: &SiteFile, name: &ReleaseName, row: &Row) -> bool
     library_has(site, name.package(), row.title_id(), first, last, None)
 }
 
+// Returns whether a row is short enough to be found.
+fn is_short(row: &Row) -> bool
+    ensures { result ≡ is_short row.now }
+{
+    let bytes = row.title().len().saturating_add(row.depth().len());
+    bytes.saturating_add(row.embargo().len()) <= ROW_LIMIT
+}
+
+// Tests the length first, so that a long title is neither folded nor searched.
 #[tactic(auto, unfolding(crate::specs::Titles::is_found))]
 fn is_found(
     site: &SiteFile,
@@ -100,7 +113,7 @@ fn is_found(
 ) -> Result<bool, AllocError>
     ensures { IfOk result (λ is. is ≡ is_found site.now finder.now (entry_of name.now row.now)) }
 {
-    if contains(finder, title, row.title())? {
+    if is_short(row) && contains(finder, title, row.title())? {
         Ok(is_held(site, name, row))
     } else {
         Ok(false)
@@ -187,9 +200,9 @@ impl<'a> Walk<'a> {
             return Ok(());
         }
         self.looks -= 1;
+        self.bytes = bytes_after(self.bytes, row);
         if is_found(site, finder, &mut self.title, name, row)? {
             self.room -= 1;
-            self.bytes = bytes_after(self.bytes, row);
             self.found.push(Entry { name, row })?;
         }
         Ok(())
@@ -238,7 +251,8 @@ fn walk_from<'a>(
 }
 
 /// Finds the rows of releases whose titles contain a text, without regard to case, and that the library has: at most 50
-/// among the 20,000 rows from a place on.
+/// among the 20,000 rows from a place on. It looks at fewer rows once their texts have 2,097,152 bytes, and never finds
+/// a row whose texts have more than 65,536.
 ///
 /// # Errors
 ///
