@@ -58,6 +58,13 @@ class Browser:
     def script(self, text):
         return self.asked("POST", "/execute/sync", {"script": text, "args": []})
 
+    def is_at(self, text):
+        """Returns what a script returns, or False while the browser changes from a page to the next one."""
+        try:
+            return self.script(text)
+        except urllib.error.HTTPError:
+            return False
+
     def command(self, name, **values):
         """Runs a command of the DevTools protocol."""
         return self.asked("POST", "/goog/cdp/execute", {"cmd": name, "params": values})
@@ -140,8 +147,10 @@ def fill(browser, values):
         element = browser.found(f"input[name='{field}']")[0]
         browser.asked("POST", f"/element/{element}/clear", {})
         browser.write(element, text)
+    # The page of a form may have a citation too, so the wait ends once that page is left.
+    browser.script("window.isLeft = false")
     browser.click(browser.found("form [type=submit]")[0])
-    while not browser.found("dl"):
+    while not browser.is_at("return window.isLeft === undefined && document.readyState === 'complete'"):
         time.sleep(0.05)
     print("page:", browser.asked("GET", "/title"))
     print("cited:", "; ".join(browser.text(it) for it in browser.found("dd")))
