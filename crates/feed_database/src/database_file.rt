@@ -1,6 +1,6 @@
 //! The database of a node in a SQLite file.
 use feed_database_commands::{Database, DatabaseFault};
-use feed_store::{SqlKeep, StoreFault};
+use feed_store::{CACHE_PAGES, SqlKeep, StoreFault};
 use sqlite_std_file::File;
 use sqlite_store::FileStore;
 use std::io::{ErrorKind, Read};
@@ -10,11 +10,16 @@ use std::{fs, io};
 // The first bytes of a SQLite file (its file format, section 1.3).
 const MAGIC: [u8; 16] = *b"SQLite format 3\0";
 
+// The least size of a page, in bytes (its file format, section 1.3.2).
+const MIN_PAGE: u64 = 512;
+
 /// The database in a file, with its log beside it.
 #[derive(Drop)]
 pub struct DatabaseFile<'a> {
     pub rt: &'a HostRuntime,
     pub path: &'a str,
+    /// The bytes up to which all pages of the file and its log are kept in memory.
+    pub cache_limit: u64,
 }
 
 impl Database for DatabaseFile<'_> {
@@ -40,7 +45,7 @@ impl Database for DatabaseFile<'_> {
             }
             Err(_) => {}
         }
-        match SqlKeep::open_file(self.rt, self.path) {
+        match SqlKeep::open_file(self.rt, self.path, self.cache_pages()) {
             Ok(keeper) => Ok(keeper),
             Err(StoreFault::NotOurs) if self.has_other_name() => Err(DatabaseFault::Linked),
             Err(fault) => Err(fault_of(fault)),
@@ -75,12 +80,38 @@ impl DatabaseFile<'_> {
 
     // Returns whether a log with bytes is beside the file.
     fn has_log(&self) -> io::Result<bool> {
+        Ok(self.log_size()? > 0)
+    }
+
+    // Returns the bytes of the log beside the file, or 0 if there is none.
+    fn log_size(&self) -> io::Result<u64> {
         let log = format!(in self.rt.alloc(); "{}-wal", self.path)?;
         match fs::metadata(self.rt, log.as_str()) {
-            Ok(found) => Ok(found.len() > 0),
-            Err(error) if error.kind() == ErrorKind::NotFound => Ok(false),
+            Ok(found) => Ok(found.len()),
+            Err(error) if error.kind() == ErrorKind::NotFound => Ok(0),
             Err(error) => Err(error),
         }
+    }
+
+    // Returns how many pages are kept in memory: all, if the file and its log are small enough.
+    fn cache_pages(&self) -> usize {
+        match self.pages() {
+            Ok(Some(pages)) => CACHE_PAGES.max(pages as usize),
+            Ok(None) | Err(_) => CACHE_PAGES,
+        }
+    }
+
+    // Returns the number of pages of the file and its log, if they are small enough to be kept in memory.
+    fn pages(&self) -> io::Result<Option<u64>> {
+        let found = fs::metadata(self.rt, self.path)?;
+        let size = found.len().saturating_add(self.log_size()?);
+        if !found.is_file() || size > self.cache_limit {
+            return Ok(None);
+        }
+        let mut front = [0u8; 18];
+        let mut file = fs::File::open(self.rt, self.path)?;
+        file.read_exact(&mut front)?;
+        Ok(Some(size / page_size(front)))
     }
 
     // Returns whether the file has more names than one. Its log is found by its name, so a process that opens it by
@@ -90,6 +121,14 @@ impl DatabaseFile<'_> {
             Ok(found) => found.is_file() && found.nlink() > 1,
             Err(_) => false,
         }
+    }
+}
+
+// Returns the size of a page that the first bytes of a file state: 1 stands for 65,536 (its file format, section 1.3.2).
+fn page_size(front: [u8; 18]) -> u64 {
+    match u16::from_be_bytes([front[16], front[17]]) {
+        1 => 65_536,
+        size => (size as u64).max(MIN_PAGE),
     }
 }
 

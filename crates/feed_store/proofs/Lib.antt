@@ -2,4 +2,3 @@ mod Placed
 mod Reasoned
 mod Found
 mod Histories
-mod Opened

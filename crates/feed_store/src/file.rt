@@ -1,30 +1,42 @@
 //! Opens and closes the store over a file.
-ghost use Rattle.std.specs.Prelude.{◌≡◌, ◌≢◌, false, IfErr, IfOk, IsOkAnd};
+ghost use Rattle.std.specs.Prelude.{◌≡◌, ◌≢◌, true, false, IfErr, IfOk, IsTrue};
+ghost use Rattle.sqlite_std_file.specs.File.{file_is_usable, IsFresh};
 ghost use Rattle.sqlite_wal.specs.Files.{image_at};
-ghost use Rattle.feed_store.specs.Adopted.{IsAdoptedFile, IsOpenedAs};
+ghost use Rattle.sqlite.specs.Files.{image_of};
+ghost use Rattle.feed_store.specs.Adopted.{IsOpenedAs};
 
 use crate::fault::{StoreFault, open_fault_of};
 use crate::sql_keep::SqlKeep;
-use sqlite::{Connection, Error, Leftover};
-use sqlite_disk::{Disk, Start, Unknown};
-use sqlite_std_file::{File, FileFrom};
+use sqlite::{Connection, Options};
+use sqlite_disk::{Disk, Files, Start, Unknown};
+use sqlite_std_file::{File, FileFrom, OpenError, open};
 use sqlite_store::FileStore;
 use std::alloc::Global;
+use std::hash::{BuildHasher, RandomState};
+use std::io::ErrorKind;
+
+/// The pages of a database file that are kept in memory, unless a caller asks for more.
+pub const CACHE_PAGES: usize = 2_000;
 
 impl SqlKeep<FileStore<File>> {
     /// Opens the keeper of a database file, or creates the file if it does not exist. The log is beside it, at the same
-    /// path with `-wal`. The file is locked until the keeper is closed or dropped.
+    /// path with `-wal`. The file is locked until the keeper is closed or dropped. This many of its pages are kept in
+    /// memory. An open reads each page that is kept twice, and any other one up to six times.
     ///
     /// # Errors
     ///
     /// Returns `NotOurs` if SQLite rejects the file or its tables are not those of a keeper, and `Device` if another
     /// process has it open.
-    pub fn open_file(rt: &HostRuntime, path: &str) -> Result<SqlKeep<FileStore<File>>, StoreFault>
+    pub fn open_file(
+        rt: &HostRuntime,
+        path: &str,
+        cache_pages: usize,
+    ) -> Result<SqlKeep<FileStore<File>>, StoreFault>
         ensures opened { IfOk result (λ keep.
             IsOpenedAs (image_at ⟦<Unknown as Start>⟧) keep.0 keep.1.1) }
         ensures fresh { IfOk result (λ keep. (keep.1.0 ≡ 0) × (keep.1.2 ≡ 0)) }
     {
-        SqlKeep::open_from(rt, path, Unknown)
+        SqlKeep::open_from(rt, path, Unknown, cache_pages)
     }
 }
 
@@ -34,28 +46,67 @@ impl<S: Start> SqlKeep<FileStore<FileFrom<S>>> {
         rt: &HostRuntime,
         path: &str,
         start: S,
+        cache_pages: usize,
     ) -> Result<SqlKeep<FileStore<FileFrom<S>>>, StoreFault>
         ensures opened { IfOk result (λ keep.
             IsOpenedAs (image_at S.Start) keep.0 keep.1.1) }
         ensures fresh { IfOk result (λ keep. (keep.1.0 ≡ 0) × (keep.1.2 ≡ 0)) }
     {
-        SqlKeep::adopt_opened(rt.alloc(), Connection::open_from(rt, path, false, start))
+        let files = open_pair(rt, path, start)?;
+        let options = options_of(rt, cache_pages)?;
+        SqlKeep::open_files(rt.alloc(), files, options)
+    }
+}
+
+// Opens a database file and its log, or creates them. SQLite takes the two names that are refused for no files.
+fn open_pair<S: Start>(
+    rt: &HostRuntime,
+    path: &str,
+    start: S,
+) -> Result<Files<FileFrom<S>>, StoreFault>
+    ensures usable { IfOk result (λ files. IsTrue (file_is_usable S.Start files.log)
+        × IsTrue (file_is_usable S.Start files.db)) }
+    ensures fresh { IfOk result (λ files. IsFresh true files.log × IsFresh false files.db) }
+{
+    if path == ":memory:" || path.starts_with("file:") {
+        return Err(StoreFault::NotOurs);
+    }
+    match open(rt, path, start) {
+        Ok(files) => Ok(files),
+        Err(OpenError::OutOfMemory) => Err(StoreFault::Memory),
+        Err(OpenError::Busy) => Err(StoreFault::Device),
+        Err(OpenError::Io(error)) if error.kind() == ErrorKind::OutOfMemory => {
+            Err(StoreFault::Memory)
+        }
+        Err(_) => Err(StoreFault::NotOurs),
+    }
+}
+
+// Returns the options of a database of which so many pages are kept in memory.
+fn options_of(rt: &HostRuntime, cache_pages: usize) -> Result<Options, StoreFault> {
+    match RandomState::new(rt) {
+        Ok(state) => Ok(Options {
+            cache_pages,
+            ..Options::new(state.hash_one(&0u8))
+        }),
+        Err(_) => Err(StoreFault::NotOurs),
     }
 }
 
 impl<D: Disk + Drop> SqlKeep<FileStore<D>> {
-    // Adopts the connection that an open of a file on any disk returned. It makes `open_from` cheap to prove: a keeper
-    // is adopted, and what is left of the files dropped, at an abstract disk here, and not at the files of a process.
-    fn adopt_opened(
+    // Opens the keeper of files on any disk. It makes `open_from` cheap to prove: a keeper is adopted, and what is left
+    // of the files dropped, at an abstract disk here, and not at the files of a process.
+    fn open_files(
         alloc: Global,
-        opened: Result<Connection<FileStore<D>>, (Error, Option<Leftover<D>>)>,
+        files: Files<D>,
+        options: Options,
     ) -> Result<SqlKeep<FileStore<D>>, StoreFault>
-        requires { IfOk opened (λ conn. conn.in_transaction ≡ false) }
-        ensures adopted { IfOk result (λ keep.
-            IsOkAnd opened (λ conn. IsAdoptedFile conn keep.0 keep.1.1)) }
+        requires log { IsTrue (D.Disk.is_usable files.log) }
+        requires db { IsTrue (D.Disk.is_usable files.db) }
+        ensures opened { IfOk result (λ keep. IsOpenedAs (image_of D.Disk files) keep.0 keep.1.1) }
         ensures fresh { IfOk result (λ keep. (keep.1.0 ≡ 0) × (keep.1.2 ≡ 0)) }
     {
-        match opened {
+        match Connection::open_files_with(alloc, files, options, false) {
             Ok(conn) => SqlKeep::adopt_or_drop(alloc, conn),
             Err((error, _)) => Err(open_fault_of(error)),
         }

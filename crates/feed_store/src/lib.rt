@@ -9,5 +9,6 @@ mod reasons;
 mod sql_keep;
 
 pub use fault::{AdoptFault, StoreFault};
+pub use file::CACHE_PAGES;
 pub use laws::{histories_stay, memory_stays_clean};
 pub use sql_keep::SqlKeep;

@@ -1,18 +1,18 @@
-use Rattle.std.proofs.Common.{◌≡◌, false}
-use Rattle.std.proofs.lemmas.Result.{IfOk-weaker}
-use Rattle.sqlite.specs.Files.{file_state}
-use Rattle.sqlite.specs.Held.{IsNew}
-use Rattle.sqlite.specs.Start.{FindsIn}
-use Rattle.sqlite.specs.State.{HasCleanDisk}
-use Rattle.sqlite_wal.specs.Files.{image_at}
-use Rattle.feed_store.specs.Adopted.{IsAdoptedFile}
-use Rattle.feed_store.proofs.Opened.{adopted_from}
+use Rattle.std.proofs.Common.{ℕ, Bool, cond, IfOk, List, ap₂, subst}
+use Rattle.sqlite_disk.specs.Events.{Event, replay}
+use Rattle.sqlite_wal.specs.Recovery.{Image}
+use Rattle.feed_store.specs.Adopted.{IsOpenedAs}
 use Rattle.feed_store.proofs.file.SqlKeep+FileStore+FileFrom+S.open_from.Goals as goal
 
-pub adopt_opened-requires : goal.adopt_opened-requires
-adopt_opened-requires g c = IfOk-weaker c.open_from.result IsNew (λ conn. conn.in_transaction ≡ false) (λ conn new. new.autocommit) c.open_from.ensures.fresh
+abbrev image : List ℕ → List ℕ → Image
+image log db = record { log = log; db = db }
 
+abbrev seen : List ℕ → List ℕ → Bool → List Event → List ℕ
+seen log db is_log history = (replay (cond is_log log db) history).seen
+
+-- files that were just opened have the bytes that they are taken to begin with
 pub returns-clause-opened : goal.returns-clause-opened
 returns-clause-opened g c =
-    adopted_from c.open_from.result c.adopt_opened.result (λ conn. HasCleanDisk (file_state conn) → FindsIn (image_at g.S.Start) (file_state conn))
-    (λ conn keep. IsAdoptedFile conn keep.0 keep.1.1) c.open_from.ensures.found c.adopt_opened.ensures.adopted
+    let (log, db) = c.in_ok-files.ensures.fresh in
+    let same = ap₂ image (ap₂ (seen g.S.Start.log g.S.Start.db) log.0 log.1) (ap₂ (seen g.S.Start.log g.S.Start.db) db.0 db.1) in
+    subst (λ (i : Image). IfOk c.open_files.result (λ keep. IsOpenedAs i keep.0 keep.1.1)) same c.open_files.ensures.opened
