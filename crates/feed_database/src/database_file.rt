@@ -1,4 +1,6 @@
 //! The database of a node in a SQLite file.
+ghost use Rattle.std.specs.Prelude.{◌<◌};
+
 use feed_database_commands::{Database, DatabaseFault};
 use feed_store::{CACHE_PAGES, SqlKeep, StoreFault};
 use sqlite_std_file::File;
@@ -125,7 +127,9 @@ impl DatabaseFile<'_> {
 }
 
 // Returns the size of a page that the first bytes of a file state: 1 stands for 65,536 (its file format, section 1.3.2).
-fn page_size(front: [u8; 18]) -> u64 {
+fn page_size(front: [u8; 18]) -> u64
+    ensures { 0 < result }
+{
     match u16::from_be_bytes([front[16], front[17]]) {
         1 => 65_536,
         size => (size as u64).max(MIN_PAGE),
