@@ -1,8 +1,8 @@
 //! Holdings lists of serials and books: the tab-separated files of NISO RP-9-2014 (KBART).
 //!
 //! `read_file` returns the rows of a file and the records that it skipped, or the first reason why the file is bad.
-//! `Holdings::with_issn` and `with_isbn` find the rows of an identifier by an index. Queries parse identifiers, dates
-//! and volumes with the same functions.
+//! `Holdings::append_with_issn` and `append_with_isbn` find the rows of an identifier by an index. Queries parse
+//! identifiers, dates and volumes with the same functions.
 #![tactic(auto)]
 
 mod count;
@@ -14,6 +14,8 @@ mod header;
 mod holdings;
 mod identifiers;
 mod index;
+mod index_builder;
+mod indexed_store;
 mod label;
 mod law;
 mod list_records;
