@@ -18,7 +18,7 @@ fn add_issns(places: &mut Vec<u32>, holdings: &Holdings, issns: &[Issn]) -> Resu
     ensures { OnOk result (places.new.items ≡ places.old.items ++ places_of_issns issns.now holdings.now.rows) }
 {
     for issn in issns {
-        places.extend_from_slice(holdings.with_issn(issn))?;
+        holdings.append_with_issn(places, issn)?;
     }
     Ok(())
 }
@@ -28,7 +28,7 @@ fn add_isbns(places: &mut Vec<u32>, holdings: &Holdings, isbns: &[Isbn]) -> Resu
     ensures { OnOk result (places.new.items ≡ places.old.items ++ places_of_isbns isbns.now holdings.now.rows) }
 {
     for isbn in isbns {
-        places.extend_from_slice(holdings.with_isbn(isbn))?;
+        holdings.append_with_isbn(places, isbn)?;
     }
     Ok(())
 }

@@ -1,7 +1,7 @@
 pub mod Places
 pub mod Steps
 pub mod Readings
-pub mod Columns
+pub mod Runs
 pub mod Ordered
 pub mod Listed
 pub mod Stored

@@ -11,9 +11,14 @@ use Rattle.feed_text.specs.declared.fault.TextFault.TheVariants as text
 use Rattle.feed_kbart.specs.Faults.{file_fault}
 use Rattle.feed_kbart.specs.Files.{IsFaultOf, IsReadOf, bad_of, holdings_of}
 use Rattle.feed_kbart.specs.HoldingsValue.{HoldingsValue}
-use Rattle.feed_kbart.specs.Kept.{HasFewRows, IsBuilt, IsKeptOf}
+use Rattle.feed_kbart.specs.Index.{AreIndexed, IsIndexOf}
+use Rattle.feed_kbart.specs.Kept.{HasFewRows, IsBuilt, IsKept, IsKeptOf}
 use Rattle.feed_kbart.specs.RowValue.{RowValue}
-use Rattle.feed_kbart.specs.Store.{AreStored, stored_rows}
+use Rattle.feed_kbart.specs.Store.{AreStored, AreStoredAndIndexed, stored_rows}
+use Rattle.std.proofs.Props.{props}
+use Rattle.std.proofs.Math.Logic.{∥∥₁_elim}
+use Rattle.feed_kbart.specs.declared.index.Index.{Index}
+use Rattle.feed_kbart.specs.declared.indexed_store.IndexedStore.{IndexedStore}
 use Rattle.feed_kbart.specs.declared.holdings.HoldingsBuilder.{HoldingsBuilder}
 use Rattle.feed_kbart.specs.declared.row_store.RowStore.{RowStore}
 use Rattle.feed_kbart.specs.declared.fault.KbartFault.{KbartFault}
@@ -52,11 +57,14 @@ kept_of_text keeps text result is built = kept-valid keeps text result is (built
 pub rows_of_store : (rows : List RowValue) (store : RowStore) → AreStored rows store → stored_rows store ≡ rows
 rows_of_store rows store are = rw (append-nil store.block.items) at (are [])
 
--- a store has no more rows than a file can have
-pub few_of_kept : (kept : HoldingsBuilder RowStore) → HasFewRows AreStored kept → length (stored_rows kept.rows) ≤ file_limit
-few_of_kept kept h = rw (rows_of_store h.0.rows kept.rows h.1.0) h.2
-
 -- the rows that are kept are those of a holdings list
-pub read_of_kept : (text : List ℕ) (kept : HoldingsBuilder RowStore) (holdings : HoldingsValue)
-    → IsKeptOf AreStored text (Ok kept) → holdings ≡ record { rows = stored_rows kept.rows; aside = kept.aside.items } → IsReadOf text (Ok holdings)
-read_of_kept text kept holdings k is = (k.0, k.1, is ∙ rw (rows_of_store (holdings_of text).rows kept.rows k.2.0, k.2.1) refl)
+pub read_of_kept : {K : Type 0} (keeps : List RowValue → K → Type 0) (text : List ℕ) (kept : HoldingsBuilder K) (holdings : HoldingsValue)
+    → IsKeptOf keeps text (Ok kept) → ((held : HoldingsValue) → IsKept keeps held kept → holdings ≡ held) → IsReadOf text (Ok holdings)
+read_of_kept keeps text kept holdings k is = (k.0, k.1, is (holdings_of text) k.2)
+
+-- the index of the rows that are kept
+pub index_of_kept : (kept : HoldingsBuilder IndexedStore) (rows : List RowValue) (index : Index) → ∥ HasFewRows AreStoredAndIndexed kept ∥₁
+    → rows ≡ stored_rows kept.rows.store
+    → ((rows : List RowValue) → length rows ≤ file_limit → AreIndexed rows kept.rows.index → IsIndexOf rows index) → IsIndexOf rows index
+index_of_kept kept rows index few are indexed =
+    ∥∥₁_elim few (hlevel props) (λ h. rw (are ∙ rows_of_store h.0.rows kept.rows.store h.1.0.0) (indexed h.0.rows h.2 (h.1.0.1 h.2)))

@@ -5,6 +5,7 @@ use Rattle.std.specs.Int.{to_le_bytes, w32}
 use Rattle.std.specs.List.{All, flat_map}
 use Rattle.std.proofs.Math.Seq.{drop-append_seam, take-append_seam}
 use Rattle.std.proofs.lemmas.Bool.Decides.{nat_tests}
+use Rattle.std.proofs.lemmas.List.{get_or_default}
 use Rattle.std.proofs.lemmas.Nat.{from_le_bytes-to_le_bytes_4}
 use Rattle.csv.specs.Records.{field_at}
 use Rattle.feed_kbart.specs.Columns.{cell}
@@ -122,3 +123,13 @@ module _ (count k : ℕ) (left right : List ℕ) (W : Type 0) (within : k < coun
 pub none_left : (left right : List ℕ) → texts_in 0 left ≡ texts_in 0 right
 unfolding texts_in
 none_left left right = refl
+
+-- what holds of the first places, and of the next
+pub holds_next : {X : Type 0} (P : X → Type 0) (xs : List X) (i : ℕ) (x : X) → x ≡ get_or xs i x → i < length xs
+    → ((k : ℕ) (d : X) → k < i → P (get_or xs k d)) → P x → (k : ℕ) (d : X) → k < i + 1 → P (get_or xs k d)
+holds_next P xs i x is within all one k d h = elim (eqb k i) as (λ b. eqb k i ≡ b → P (get_or xs k d)) [
+  | true ↦ λ e.
+      let same : k ≡ i = grind (arith, nat_tests) in
+      rw (same, get_or_default xs i d x within, ← is) one
+  | false ↦ λ e. all k d (grind (arith, nat_tests))
+] refl

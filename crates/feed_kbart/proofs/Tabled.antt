@@ -1,12 +1,14 @@
 -- The holdings of the first records of a list, and of the records after them.
-use Rattle.std.proofs.Common.{◌≡◌, ◌≤◌, ◌+◌, ◌∙◌, ℕ, List, [], ◌∷◌, ◌++◌, length, refl, ap, arith}
-use Rattle.std.specs.Prelude.{Result, Ok, Err, OnOk}
+use Rattle.std.proofs.Common.{◌≡◌, ◌≤◌, ◌+◌, ◌∙◌, ℕ, List, [], ◌∷◌, ◌++◌, length, refl, sym, ap, arith}
+use Rattle.std.specs.Prelude.{Ok}
 use Rattle.std.proofs.lemmas.List.{length-append}
 use Rattle.feed_kbart.specs.Columns.{columns_of}
+use Rattle.feed_kbart.specs.Files.{holdings_in}
 use Rattle.feed_kbart.specs.Holdings.{holdings_from, join_holdings, no_holdings}
 use Rattle.feed_kbart.specs.HoldingsValue.{HoldingsValue}
 use Rattle.feed_kbart.specs.ListRecords.{IsResultOf, IsTableOf}
-use Rattle.feed_kbart.specs.Store.{stored_rows}
+use Rattle.feed_kbart.specs.Kept.{IsKept}
+use Rattle.feed_kbart.specs.Store.{AreStoredAndIndexed, stored_rows}
 use Rattle.feed_kbart.specs.declared.header.Columns.{Columns}
 use Rattle.feed_kbart.specs.declared.list_records.Table.{Table}
 use Rattle.feed_kbart.proofs.Readings.{rows_of_store}
@@ -37,19 +39,14 @@ length-rows columns number (fields ∷ records) =
     rw (← holdings_from-cons columns number fields records)
     (omega (arith, length-append one.rows others.rows, one_row columns number fields, length-rows columns (number + 1) records))
 
-pub on_ok : {A E : Type 0} (r : Result A E) (P Q : Type 0) → OnOk r P → (P → Q) → OnOk r Q
-on_ok (Ok a) P Q p f = f p
-on_ok (Err e) P Q p f = tt
-
 -- the rows of a table are not more than its records
-pub few_rows : (records : List (List (List ℕ))) (table : Table) → IsTableOf records table → length (stored_rows table.kept.rows) ≤ length records
+pub few_rows : (records : List (List (List ℕ))) (table : Table) → IsTableOf records table → length (stored_rows table.kept.rows.store) ≤ length records
 few_rows records table t =
     let rows = (holdings_from (columns_of t.header) 2 t.others).rows in
-    omega (arith, ap length (rows_of_store rows table.kept.rows t.kept.0), length-rows (columns_of t.header) 2 t.others, ap length t.are)
+    omega (arith, ap length (rows_of_store rows table.kept.rows.store t.kept.0.0), length-rows (columns_of t.header) 2 t.others, ap length t.are)
 
 -- the holdings of a table are those of its records
 pub holdings_of_table : (records : List (List (List ℕ))) (table : Table) (holdings : HoldingsValue) → IsTableOf records table
-    → holdings ≡ record { rows = stored_rows table.kept.rows; aside = table.kept.aside.items } → IsResultOf records (Ok holdings)
+    → ((held : HoldingsValue) → IsKept AreStoredAndIndexed held table.kept → holdings ≡ held) → IsResultOf records (Ok holdings)
 holdings_of_table records table holdings t is =
-    let all = holdings_from (columns_of t.header) 2 t.others in
-    (rw t.are t.good, is ∙ rw (rows_of_store all.rows table.kept.rows t.kept.0, t.kept.1, t.are) refl)
+    (rw t.are t.good, is (holdings_from (columns_of t.header) 2 t.others) t.kept ∙ ap holdings_in (sym t.are))

@@ -12,6 +12,10 @@ use Rattle.feed_kbart.specs.declared.holdings.HoldingsBuilder.{HoldingsBuilder}
 abbrev pub IsKept : {K : Type 0} → (List RowValue → K → Type 0) → HoldingsValue → HoldingsBuilder K → Type 0
 IsKept keeps held kept = keeps held.rows kept.rows × (kept.aside.items ≡ held.aside)
 
+-- the builder has some rows and skipped records
+abbrev pub HasKept : {K : Type 0} → (List RowValue → K → Type 0) → HoldingsBuilder K → Type 0
+HasKept keeps kept = (held : HoldingsValue) × IsKept keeps held kept
+
 -- the builder has no more rows than a file can have
 abbrev pub HasFewRows : {K : Type 0} → (List RowValue → K → Type 0) → HoldingsBuilder K → Type 0
 HasFewRows keeps kept = (held : HoldingsValue) × IsKept keeps held kept × (length held.rows ≤ file_limit)

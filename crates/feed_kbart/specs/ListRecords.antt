@@ -6,7 +6,7 @@ use Rattle.feed_kbart.specs.Files.{bad_records, holdings_in}
 use Rattle.feed_kbart.specs.Holdings.{holdings_from}
 use Rattle.feed_kbart.specs.HoldingsValue.{HoldingsValue}
 use Rattle.feed_kbart.specs.Kept.{IsKept}
-use Rattle.feed_kbart.specs.Store.{AreStored}
+use Rattle.feed_kbart.specs.Store.{AreStoredAndIndexed}
 use Rattle.feed_kbart.specs.declared.fault.KbartFault.{KbartFault}
 use Rattle.feed_kbart.specs.declared.fault.KbartFault.TheVariants.{Bad, Memory, Read, TooLong}
 use Rattle.feed_kbart.specs.declared.list_records.ListRecords.{ListRecords}
@@ -22,7 +22,7 @@ pub record IsTableOf (records : List (List (List ℕ))) (table : Table) : Type 0
   pub good : bad_header header ≡ None
   pub columns : table.columns ≡ columns_of header
   pub number : table.number ≡ length others + 2
-  pub kept : IsKept AreStored (holdings_from (columns_of header) 2 others) table.kept
+  pub kept : IsKept AreStoredAndIndexed (holdings_from (columns_of header) 2 others) table.kept
 
 -- what the records so far are
 abbrev pub IsStageOf : List (List (List ℕ)) → Stage → Type 0

@@ -1,7 +1,10 @@
 -- The rows of a file while it is read.
-use Rattle.std.specs.Prelude.{◌≡◌, ℕ, List, ◌++◌, drop, map}
+use Rattle.std.specs.Prelude.{◌≡◌, ◌≤◌, ℕ, List, ◌++◌, drop, length, map}
+use Rattle.feed_limits.specs.Limits.{file_limit}
+use Rattle.feed_kbart.specs.Index.{AreIndexed}
 use Rattle.feed_kbart.specs.RowValue.{RowValue}
 use Rattle.feed_kbart.specs.Stored.{row_at}
+use Rattle.feed_kbart.specs.declared.indexed_store.IndexedStore.{IndexedStore}
 use Rattle.feed_kbart.specs.declared.row_store.Draft.{Draft}
 use Rattle.feed_kbart.specs.declared.row_store.RowStore.{RowStore}
 
@@ -16,3 +19,7 @@ stored_rows store = store.rows.items ++ map (row_in store.block.items) store.dra
 -- a store has these rows, whatever is added to its block
 abbrev pub AreStored : List RowValue → RowStore → Type 0
 AreStored rows store = (more : List ℕ) → store.rows.items ++ map (row_in (store.block.items ++ more)) store.drafts.items ≡ rows
+
+-- a store has these rows, and their index if they are not more than a file can have
+abbrev pub AreStoredAndIndexed : List RowValue → IndexedStore → Type 0
+AreStoredAndIndexed rows both = AreStored rows both.store × (length rows ≤ file_limit → AreIndexed rows both.index)

@@ -1,8 +1,9 @@
 //! Counting the rows of a file without keeping them.
-ghost use Rattle.std.specs.Prelude.{◌≡◌, length};
+ghost use Rattle.std.specs.Prelude.{◌≡◌, ◌≤◌, ◌<◌, ◌+◌, ◌^◌, length};
 
 use crate::header::Columns;
 use crate::holdings::{Aside, HoldingsBuilder, KeepRows};
+use crate::identifiers::Identifiers;
 use csv::ByteRecord;
 use std::alloc::{AllocError, Global};
 use std::marker::Model;
@@ -29,7 +30,7 @@ pub(crate) struct RowCount {
 }
 
 impl KeepRows for RowCount {
-    ghost keeps = { λ rows c. c.rows ≡ length rows };
+    ghost keeps = { λ rows c. (c.rows ≤ length rows) × (c.rows + 1 < 2 ^ 32 → c.rows ≡ length rows) };
 
     fn add(
         &mut self,
@@ -37,6 +38,7 @@ impl KeepRows for RowCount {
         _number: u32,
         _columns: &Columns,
         _fields: &ByteRecord,
+        _identifiers: &Identifiers,
     ) -> Result<(), AllocError> {
         self.rows = self.rows.saturating_add(1);
         Ok(())

@@ -1,15 +1,15 @@
 //! Parsing the kind, the days and the volumes of a record, and the reasons to skip a record.
 ghost use Rattle.std.specs.Prelude.{◌≡◌, true, false, None, Some, MatchResult};
 ghost use Rattle.csv.specs.Records.{fields_of};
-ghost use Rattle.feed_kbart.specs.Coverage.{book_reason, coverage_days, is_coverage_date, is_reversed, kind_of};
-ghost use Rattle.feed_kbart.specs.Coverage.{reason_of, serial_reason, volumes};
+ghost use Rattle.feed_kbart.specs.Coverage.{book_coverage, book_reason, coverage_days, coverage_of, is_coverage_date};
+ghost use Rattle.feed_kbart.specs.Coverage.{is_reversed, kind_of, reason_of, serial_coverage, serial_reason, volumes};
 ghost use Rattle.feed_identifiers.specs.Text.{trimmed};
 ghost use Rattle.feed_kbart.specs.Volumes.{volume_of};
 ghost use Rattle.feed_kbart.specs.declared.fault.Reason.TheVariants as reason;
 
 use crate::fault::Reason;
 use crate::header::{Columns, cell_of};
-use crate::identifiers::Kind;
+use crate::identifiers::{Identifiers, Kind};
 use crate::volume::read_volume;
 use csv::ByteRecord;
 use feed_dates::DayRange;
@@ -74,10 +74,11 @@ pub(crate) fn read_volumes(first: &[u8], last: &[u8]) -> (Option<u32>, Option<u3
     }
 }
 
-// Checks a serial's record. The error is the first reason to skip it.
-fn check_serial(columns: &Columns, fields: &ByteRecord) -> Result<(), Reason>
+// Checks a serial's record, and returns its identifiers. The error is the first reason to skip it.
+fn check_serial(columns: &Columns, fields: &ByteRecord) -> Result<Identifiers, Reason>
     ensures { MatchResult result
-        (λ _. serial_reason columns.now (fields_of fields.now) ≡ None)
+        (λ own. (serial_reason columns.now (fields_of fields.now) ≡ None)
+        × (own ≡ (serial_coverage columns.now (fields_of fields.now)).identifiers))
         (λ why. serial_reason columns.now (fields_of fields.now) ≡ Some why) }
 {
     let print = Issn::parse(cell_of(fields, columns.print));
@@ -90,13 +91,15 @@ fn check_serial(columns: &Columns, fields: &ByteRecord) -> Result<(), Reason>
     if is_reversed(first, last) {
         return Err(Reason::Reversed);
     }
-    Ok(())
+    Ok(Identifiers::Serial { print, online })
 }
 
-// Checks a book's record. The error is the first reason to skip it. Ignores its dates and volumes.
-fn check_book(columns: &Columns, fields: &ByteRecord) -> Result<(), Reason>
+// Checks a book's record, and returns its identifiers. The error is the first reason to skip it. Ignores its dates and
+// volumes.
+fn check_book(columns: &Columns, fields: &ByteRecord) -> Result<Identifiers, Reason>
     ensures { MatchResult result
-        (λ _. book_reason columns.now (fields_of fields.now) ≡ None)
+        (λ own. (book_reason columns.now (fields_of fields.now) ≡ None)
+        × (own ≡ (book_coverage columns.now (fields_of fields.now)).identifiers))
         (λ why. book_reason columns.now (fields_of fields.now) ≡ Some why) }
 {
     let print = Isbn::parse(cell_of(fields, columns.print));
@@ -104,13 +107,14 @@ fn check_book(columns: &Columns, fields: &ByteRecord) -> Result<(), Reason>
     if print.is_none() && online.is_none() {
         return Err(Reason::NoIsbn);
     }
-    Ok(())
+    Ok(Identifiers::Book { print, online })
 }
 
-/// Checks that a record is a row. The error is the first reason to skip it.
-pub(crate) fn check_record(columns: &Columns, fields: &ByteRecord) -> Result<(), Reason>
+/// Checks that a record is a row, and returns its identifiers. The error is the first reason to skip it.
+pub(crate) fn check_record(columns: &Columns, fields: &ByteRecord) -> Result<Identifiers, Reason>
     ensures { MatchResult result
-        (λ _. reason_of columns.now (fields_of fields.now) ≡ None)
+        (λ own. (reason_of columns.now (fields_of fields.now) ≡ None)
+        × (own ≡ (coverage_of columns.now (fields_of fields.now)).identifiers))
         (λ why. reason_of columns.now (fields_of fields.now) ≡ Some why) }
 {
     match read_kind(cell_of(fields, columns.publication_type)) {

@@ -7,6 +7,7 @@ use crate::count::{FileCount, RowCount};
 use crate::fault::KbartFault;
 use crate::file_rows::FileRows;
 use crate::holdings::{Holdings, HoldingsBuilder, KeepRows};
+use crate::indexed_store::IndexedStore;
 use crate::records::read_records;
 use crate::row_store::RowStore;
 use feed_text::{Given, TextReader, check_text, record_reader};
@@ -45,7 +46,7 @@ fn read_rows<R: Read + Drop, K: KeepRows + Drop, G: Given>(
 pub fn read_file<R: Read + Drop>(alloc: Global, reader: R) -> Result<Holdings, KbartFault>
     ensures { IfSome (R.remaining reader) (λ text. IsReadOf text result) }
 {
-    let kept = read_rows::<R, RowStore, Brand>(alloc, reader, RowStore::new(alloc))?;
+    let kept = read_rows::<R, IndexedStore, Brand>(alloc, reader, IndexedStore::new(alloc))?;
     Ok(Holdings::of(alloc, kept)?)
 }
 
@@ -75,6 +76,6 @@ pub fn read_parts<R: Read + Drop>(alloc: Global, check: R, read: R) -> Result<Ho
 {
     check_text(alloc, check)?;
     let mut records = record_reader(alloc, read)?;
-    let kept = read_records(alloc, &mut records, RowStore::new(alloc))?;
+    let kept = read_records(alloc, &mut records, IndexedStore::new(alloc))?;
     Ok(Holdings::of(alloc, kept)?)
 }

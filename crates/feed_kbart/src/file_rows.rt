@@ -23,10 +23,12 @@ impl Model for FileRows {
 }
 
 impl FileRows {
-    ghost use Rattle.feed_kbart.specs.Store.{stored_rows};
+    ghost use Rattle.feed_kbart.specs.HoldingsValue.{HoldingsValue};
+    ghost use Rattle.feed_kbart.specs.Kept.{IsKept};
+    ghost use Rattle.feed_kbart.specs.Store.{AreStored};
 
     pub(crate) fn of(alloc: Global, kept: HoldingsBuilder<RowStore>) -> Result<FileRows, AllocError>
-        ensures { IfOk result (λ list. list ≡ record { rows = stored_rows kept.rows; aside = kept.aside.items }) }
+        ensures { IfOk result (λ list. (held : HoldingsValue) → IsKept AreStored held kept → list ≡ held) }
     {
         let HoldingsBuilder { rows, aside } = kept;
         let rows = rows.finish(alloc)?;

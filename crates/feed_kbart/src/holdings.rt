@@ -6,12 +6,12 @@ ghost use Rattle.feed_limits.specs.Limits.{file_limit};
 
 use crate::coverage::check_record;
 use crate::fault::Reason;
-use crate::file_rows::FileRows;
 use crate::header::Columns;
-use crate::identifiers::isbn_number;
+use crate::identifiers::{Identifiers, isbn_number};
 use crate::index::Index;
+use crate::indexed_store::IndexedStore;
+use crate::retired::RetiredHoldings;
 use crate::row::Row;
-use crate::row_store::RowStore;
 use csv::ByteRecord;
 use feed_identifiers::{Isbn, Issn};
 use std::alloc::{AllocError, Global};
@@ -46,6 +46,7 @@ impl Model for Holdings {
 
 /// A collector of a file's rows, which are added in file order.
 pub(crate) trait KeepRows {
+    ghost use Rattle.feed_kbart.specs.Coverage.{coverage_of};
     ghost use Rattle.feed_kbart.specs.RowValue.{RowValue};
     ghost use Rattle.feed_kbart.specs.Rows.{row_of};
 
@@ -58,8 +59,10 @@ pub(crate) trait KeepRows {
         number: u32,
         columns: &Columns,
         fields: &ByteRecord,
+        identifiers: &Identifiers,
     ) -> Result<(), AllocError>
-        ensures { OnOk result ((rows : List RowValue) → length rows < file_limit → keeps rows self.old
+        requires { identifiers.now ≡ (coverage_of columns.now (fields_of fields.now)).identifiers }
+        ensures { OnOk result ((rows : List RowValue) → keeps rows self.old
             → keeps (rows ++ row_of columns.now number (fields_of fields.now) ∷ []) self.new) };
 }
 
@@ -92,12 +95,11 @@ impl<K: KeepRows> HoldingsBuilder<K> {
         number: u32,
         fields: &ByteRecord,
     ) -> Result<(), AllocError>
-        ensures { OnOk result ((held : HoldingsValue) → length held.rows < file_limit → IsKept K.keeps held self.old
-            → IsKept K.keeps
+        ensures { OnOk result ((held : HoldingsValue) → IsKept K.keeps held self.old → IsKept K.keeps
             (join_holdings held (holdings_from columns.now number (fields_of fields.now ∷ []))) self.new) }
     {
         match check_record(columns, fields) {
-            Ok(()) => self.rows.add(alloc, number, columns, fields)?,
+            Ok(identifiers) => self.rows.add(alloc, number, columns, fields, &identifiers)?,
             Err(reason) => self.aside.push(Aside { number, reason })?,
         }
         Ok(())
@@ -105,17 +107,24 @@ impl<K: KeepRows> HoldingsBuilder<K> {
 }
 
 impl Holdings {
+    ghost use Rattle.feed_kbart.specs.HoldingsValue.{HoldingsValue};
+    ghost use Rattle.feed_kbart.specs.Kept.{HasFewRows};
     ghost use Rattle.feed_kbart.specs.Places.{places_with, places_with_isbn};
-    ghost use Rattle.feed_kbart.specs.Store.{stored_rows};
+    ghost use Rattle.feed_kbart.specs.Store.{AreStoredAndIndexed};
 
-    /// Builds holdings from rows and skipped records, and indexes the rows.
-    pub(crate) fn of(alloc: Global, kept: HoldingsBuilder<RowStore>) -> Result<Holdings, AllocError>
-        requires { length (stored_rows kept.rows) ≤ file_limit }
-        ensures { IfOk result (λ holdings. holdings
-            ≡ record { rows = stored_rows kept.rows; aside = kept.aside.items }) }
+    /// Returns the holdings with these rows and skipped records.
+    pub(crate) fn of(
+        alloc: Global,
+        kept: HoldingsBuilder<IndexedStore>,
+    ) -> Result<Holdings, AllocError>
+        requires { ∥ HasFewRows AreStoredAndIndexed kept ∥₁ }
+        ensures { IfOk result (λ holdings. (held : HoldingsValue) → IsKept AreStoredAndIndexed held kept
+            → holdings ≡ held) }
     {
-        let FileRows { rows, aside } = FileRows::of(alloc, kept)?;
-        let index = Index::of(alloc, &rows)?;
+        let HoldingsBuilder { rows, aside } = kept;
+        let IndexedStore { store, index } = rows;
+        let rows = store.finish(alloc)?;
+        let index = index.finish(alloc)?;
         Ok(Holdings { rows, aside, index })
     }
 
@@ -126,18 +135,18 @@ impl Holdings {
         &self.rows
     }
 
-    /// Returns the places in `rows` of the rows that have an ISSN, in print or online. They ascend, each once.
-    pub fn with_issn(&self, issn: &Issn) -> &[u32]
-        ensures { result.now ≡ places_with issn.now self.now.rows }
+    /// Appends the places in `rows` of the rows that have an ISSN, in print or online. They ascend, each once.
+    pub fn append_with_issn(&self, places: &mut Vec<u32>, issn: &Issn) -> Result<(), AllocError>
+        ensures { OnOk result (places.new.items ≡ places.old.items ++ places_with issn.now self.now.rows) }
     {
-        self.index.places_beside(issn.number())
+        self.index.append_places(places, issn.number())
     }
 
-    /// Returns the places in `rows` of the rows that have an ISBN, in print or online. They ascend, each once.
-    pub fn with_isbn(&self, isbn: &Isbn) -> &[u32]
-        ensures { result.now ≡ places_with_isbn isbn.now self.now.rows }
+    /// Appends the places in `rows` of the rows that have an ISBN, in print or online. They ascend, each once.
+    pub fn append_with_isbn(&self, places: &mut Vec<u32>, isbn: &Isbn) -> Result<(), AllocError>
+        ensures { OnOk result (places.new.items ≡ places.old.items ++ places_with_isbn isbn.now self.now.rows) }
     {
-        self.index.places_beside(isbn_number(isbn))
+        self.index.append_places(places, isbn_number(isbn))
     }
 
     /// Returns the skipped records, in file order.
@@ -145,5 +154,13 @@ impl Holdings {
         ensures { result.now ≡ self.now.aside }
     {
         &self.aside
+    }
+
+    /// Ends the use of the holdings, so that they can be freed in portions. All rows are left.
+    pub fn retire(self) -> RetiredHoldings
+        ensures { length self.rows ≤ result }
+    {
+        let Holdings { rows, index, .. } = self;
+        RetiredHoldings::of(rows, index)
     }
 }

@@ -58,16 +58,19 @@ impl Identifiers {
     ghost use Rattle.feed_kbart.specs.Identifiers.{AreIdentifiers, numbers};
 
     /// Returns their numbers in the index.
-    pub(crate) fn numbers(self) -> (Option<u32>, Option<u32>)
-        ensures numbers { result ≡ numbers self }
-        ensures printed { AreIdentifiers self }
+    pub(crate) fn numbers(&self) -> (Option<u32>, Option<u32>)
+        ensures numbers { result ≡ numbers self.now }
+        ensures printed { AreIdentifiers self.now }
     {
         match self {
             Identifiers::Serial { print, online } => (
-                number_of_issn(print),
-                number_of_issn(online),
+                number_of_issn(*print),
+                number_of_issn(*online),
             ),
-            Identifiers::Book { print, online } => (number_of_isbn(print), number_of_isbn(online)),
+            Identifiers::Book { print, online } => (
+                number_of_isbn(*print),
+                number_of_isbn(*online),
+            ),
         }
     }
 }

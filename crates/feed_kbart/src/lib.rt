@@ -1,8 +1,8 @@
 //! Holdings lists of serials and books: the tab-separated files of NISO RP-9-2014 (KBART).
 //!
 //! `read_file` returns the rows of a file and the records that it skipped, or the first reason why the file is bad.
-//! `Holdings::with_issn` and `with_isbn` find the rows of an identifier by an index. Queries parse identifiers, dates
-//! and volumes with the same functions.
+//! `Holdings::append_with_issn` and `append_with_isbn` find the rows of an identifier by an index. Queries parse
+//! identifiers, dates and volumes with the same functions.
 #![tactic(auto)]
 
 mod count;
@@ -14,10 +14,13 @@ mod header;
 mod holdings;
 mod identifiers;
 mod index;
+mod index_builder;
+mod indexed_store;
 mod label;
 mod law;
 mod list_records;
 mod records;
+mod retired;
 mod row;
 mod row_store;
 mod stored_record;
@@ -33,6 +36,7 @@ pub use crate::identifiers::{Identifiers, Kind};
 pub use crate::label::{Label, REQUIRED_LABELS};
 pub use crate::law::empty_file_is_bad;
 pub use crate::list_records::ListRecords;
+pub use crate::retired::RetiredHoldings;
 pub use crate::row::Row;
 pub use crate::volume::read_volume;
 pub use feed_dates::DayRange;

@@ -4,7 +4,7 @@ ghost use Rattle.std.specs.Bool.{OnTrue};
 ghost use Rattle.feed_kbart.specs.Stored.{days_at};
 
 use crate::coverage::{read_days, read_kind, read_volumes};
-use crate::identifiers::{Identifiers, Kind};
+use crate::identifiers::Kind;
 use crate::stored_record::{
     ACCESS, DEPTH, EMBARGO, FIRST_DATE, FIRST_VOLUME, LAST_DATE, LAST_VOLUME, ONLINE, PRINT,
     PUBLICATION_TYPE, StoredRecord, TITLE, TITLE_ID, URL,
@@ -48,8 +48,7 @@ fn days_at(stored: &StoredRecord, place: usize) -> Option<DayRange>
 }
 
 impl Row {
-    ghost use Rattle.feed_kbart.specs.Identifiers.{AreIdentifiers, kind, numbers, online_isbn, online_issn, print_isbn};
-    ghost use Rattle.feed_kbart.specs.Identifiers.{print_issn};
+    ghost use Rattle.feed_kbart.specs.Identifiers.{kind, online_isbn, online_issn, print_isbn, print_issn};
     ghost use Rattle.feed_kbart.specs.RowValue.{content};
     ghost use Rattle.feed_kbart.specs.Stored.{row_with_cells};
 
@@ -72,24 +71,6 @@ impl Row {
         ensures { result.now ≡ self.now.title }
     {
         self.record.cell(TITLE)
-    }
-
-    // Returns its identifiers.
-    fn identifiers(&self) -> Identifiers
-        ensures { result ≡ self.now.identifiers }
-    {
-        let print = self.record.cell(PRINT);
-        let online = self.record.cell(ONLINE);
-        match read_kind(self.record.cell(PUBLICATION_TYPE)) {
-            Some(Kind::Book) => Identifiers::Book {
-                print: Isbn::parse(print),
-                online: Isbn::parse(online),
-            },
-            Some(Kind::Serial) | None => Identifiers::Serial {
-                print: Issn::parse(print),
-                online: Issn::parse(online),
-            },
-        }
     }
 
     /// Returns whether the row is a serial's or a book's.
@@ -140,14 +121,6 @@ impl Row {
             Some(Kind::Book) => Isbn::parse(self.record.cell(ONLINE)),
             Some(Kind::Serial) | None => None,
         }
-    }
-
-    /// Returns the numbers of its identifiers in the index.
-    pub(crate) fn numbers(&self) -> (Option<u32>, Option<u32>)
-        ensures numbers { result ≡ numbers self.now.identifiers }
-        ensures printed { AreIdentifiers self.now.identifiers }
-    {
-        self.identifiers().numbers()
     }
 
     /// Returns the first day of `date_first_issue_online`, counted from 1970-01-01, or `None` if coverage has no

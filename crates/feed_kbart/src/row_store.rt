@@ -9,6 +9,7 @@ ghost use Rattle.feed_kbart.specs.Store.{AreStored, row_in, stored_rows};
 
 use crate::header::Columns;
 use crate::holdings::KeepRows;
+use crate::identifiers::Identifiers;
 use crate::row::Row;
 use crate::stored_record::{StoredRecord, put_cells};
 use csv::ByteRecord;
@@ -118,6 +119,7 @@ impl KeepRows for RowStore {
         number: u32,
         columns: &Columns,
         fields: &ByteRecord,
+        _identifiers: &Identifiers,
     ) -> Result<(), AllocError> {
         self.make_room(alloc)?;
         let start = self.block.len() as u16;

@@ -67,8 +67,8 @@ impl ListCheck {
         Ok(ListCheck { text, held, list })
     }
 
-    /// Returns what `feed_kbart::read_file` returns for all bytes received. It builds the index, in time in proportion
-    /// to `n log n` for `n` rows.
+    /// Returns what `feed_kbart::read_file` returns for all bytes received. Takes time in proportion to the line that
+    /// has not ended, and at most a few milliseconds to complete the index, whatever the size of the list.
     ///
     /// # Errors
     ///

@@ -6,7 +6,7 @@ pub mod Redirects
 pub mod Written
 pub mod Tops
 pub mod Tallies
-pub mod SolePlaces
+pub mod PlacesAsked
 pub mod TitlesAsked
 pub mod LinksKept
 pub mod SoleHits

@@ -1,7 +1,6 @@
 pub mod Hits
 pub mod Ranks
 pub mod Searches
-pub mod Candidates
 pub mod Tallies
 pub mod Tallying
 pub mod EmbargoWords

@@ -5,7 +5,6 @@
 mod answer_json;
 mod ask;
 mod asked;
-mod candidates;
 mod coverage;
 mod embargo_words;
 mod hits;

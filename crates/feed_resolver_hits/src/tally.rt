@@ -10,7 +10,6 @@ ghost use Rattle.feed_resolver_hits.specs.Hits.{library_hits};
 ghost use Rattle.feed_resolver_hits.specs.Tallies.{left_out, sole_link};
 ghost use Rattle.feed_resolver_hits.specs.Tallying.{no_hits, with_hit, with_hits, tally_from};
 
-use crate::candidates::sole_places;
 use crate::hits::{ReleaseHit, is_held};
 use crate::links::Links;
 use crate::search::Search;
@@ -210,22 +209,8 @@ impl<'a> Tally<'a> {
             (answer_of holdings.now search.now))) }
     {
         let site_place = package_place(site, name.package());
-        match sole_places(holdings, search.query()) {
-            Some(places) => self.add_hits_at(
-                alloc,
-                site,
-                today,
-                name,
-                site_place,
-                holdings.rows(),
-                places,
-                search,
-            ),
-            None => {
-                let places = places_of(alloc, holdings, search.query())?;
-                let rows = holdings.rows();
-                self.add_hits_at(alloc, site, today, name, site_place, rows, &places, search)
-            }
-        }
+        let places = places_of(alloc, holdings, search.query())?;
+        let rows = holdings.rows();
+        self.add_hits_at(alloc, site, today, name, site_place, rows, &places, search)
     }
 }

@@ -191,31 +191,29 @@ pub fn rows(out: &mut Out<'_>, mut words: Words<'_>) -> Result<(), Fault> {
     let (path, text) = (words.word(), words.word());
     words.check()?;
     let holdings = holdings_of(out.rt, path)?;
-    print_places(out, places_of(&holdings, text.as_bytes()))
+    let mut places = Vec::new(out.rt.alloc());
+    append_places(&mut places, &holdings, text.as_bytes())?;
+    print_places(out, &places);
+    Ok(())
 }
 
-// The places of the rows that have an identifier.
-fn places_of<'a>(holdings: &'a Holdings, text: &[u8]) -> Option<&'a [u32]> {
-    match Issn::parse(text) {
-        Some(issn) => Some(holdings.with_issn(&issn)),
-        None => {
-            let isbn = Isbn::parse(text)?;
-            Some(holdings.with_isbn(&isbn))
-        }
+// Appends the places of the rows that have an identifier.
+fn append_places(places: &mut Vec<u32>, holdings: &Holdings, text: &[u8]) -> Result<(), Fault> {
+    match (Issn::parse(text), Isbn::parse(text)) {
+        (Some(issn), _) => holdings.append_with_issn(places, &issn)?,
+        (None, Some(isbn)) => holdings.append_with_isbn(places, &isbn)?,
+        (None, None) => return Err(Fault("not an identifier")),
     }
+    Ok(())
 }
 
-fn print_places(out: &mut Out<'_>, places: Option<&[u32]>) -> Result<(), Fault> {
-    let Some(places) = places else {
-        return Err(Fault("not an identifier"));
-    };
+fn print_places(out: &mut Out<'_>, places: &[u32]) {
     out.word("places");
     for place in places {
         out.word(" ");
         out.number(u64::from(*place));
     }
     out.line("");
-    Ok(())
 }
 
 pub fn write(out: &mut Out<'_>, mut words: Words<'_>) -> Result<(), Fault> {

@@ -1,4 +1,4 @@
-use Rattle.std.proofs.Common.{◌∙◌, ◌++◌, ap}
+use Rattle.std.proofs.Common.{◌++◌}
 use Rattle.feed_kbart.specs.Places.{places_with_isbn}
 use Rattle.feed_answer.specs.Places.{places_of_isbns}
 use Rattle.feed_answer.proofs.Steps.{appended_next}
@@ -7,6 +7,6 @@ use Rattle.feed_answer.proofs.matching.add_isbns.Goals as goal
 pub loop-isbn-preserved : goal.loop-isbn-preserved
 loop-isbn-preserved c =
     let rows = c.args.holdings.now.rows in
-    appended_next (λ isbn. places_with_isbn isbn rows) c.args.isbns.now c.loop-isbn.isbn-index c.isbn-item.result c.loop-isbn.places.items c.extend_from_slice.new.self.items
+    appended_next (λ isbn. places_with_isbn isbn rows) c.args.isbns.now c.loop-isbn.isbn-index c.isbn-item.result c.loop-isbn.places.items c.append_with_isbn.new.places.items
     (c.args.places.now.items ++ places_of_isbns c.args.isbns.now rows) c.loop-isbn-test.true c.isbn-item.is
-    (c.in_ok-extend_from_slice.ensures.items ∙ ap (λ places. c.loop-isbn.places.items ++ places) c.with_isbn.ensures) c.loop-isbn.invariant
+    c.in_ok-append_with_isbn.ensures c.loop-isbn.invariant

@@ -1,4 +1,4 @@
-use Rattle.std.proofs.Common.{◌∙◌, ◌++◌, ap}
+use Rattle.std.proofs.Common.{◌++◌}
 use Rattle.feed_kbart.specs.Places.{places_with}
 use Rattle.feed_answer.specs.Places.{places_of_issns}
 use Rattle.feed_answer.proofs.Steps.{appended_next}
@@ -7,6 +7,6 @@ use Rattle.feed_answer.proofs.matching.add_issns.Goals as goal
 pub loop-issn-preserved : goal.loop-issn-preserved
 loop-issn-preserved c =
     let rows = c.args.holdings.now.rows in
-    appended_next (λ issn. places_with issn rows) c.args.issns.now c.loop-issn.issn-index c.issn-item.result c.loop-issn.places.items c.extend_from_slice.new.self.items
+    appended_next (λ issn. places_with issn rows) c.args.issns.now c.loop-issn.issn-index c.issn-item.result c.loop-issn.places.items c.append_with_issn.new.places.items
     (c.args.places.now.items ++ places_of_issns c.args.issns.now rows) c.loop-issn-test.true c.issn-item.is
-    (c.in_ok-extend_from_slice.ensures.items ∙ ap (λ places. c.loop-issn.places.items ++ places) c.with_issn.ensures) c.loop-issn.invariant
+    c.in_ok-append_with_issn.ensures c.loop-issn.invariant

@@ -1,9 +1,7 @@
-use Rattle.feed_kbart.proofs.Readings.{few_of_kept, read_of_kept}
+use Rattle.feed_kbart.specs.Store.{AreStoredAndIndexed}
+use Rattle.feed_kbart.proofs.Readings.{read_of_kept}
 use Rattle.feed_kbart.proofs.Steps.{if_some}
 use Rattle.feed_kbart.proofs.file.read_file.Goals as goal
 
-pub of-requires : goal.of-requires
-of-requires g c = few_of_kept c.in_ok-kept.kept c.in_ok-kept.ensures.few
-
 pub returns : goal.returns
-returns g c = if_some (g.R.Read.remaining c.args.reader) _ (λ text is. read_of_kept text c.in_ok-kept.kept _ (rw is at c.in_ok-kept.ensures.kept) c.in_ok-of.ensures)
+returns g c = if_some (g.R.Read.remaining c.args.reader) _ (λ text is. read_of_kept AreStoredAndIndexed text c.in_ok-kept.kept _ (rw is at c.in_ok-kept.ensures.kept) c.in_ok-of.ensures)

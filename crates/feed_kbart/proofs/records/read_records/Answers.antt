@@ -1,7 +1,6 @@
-use Rattle.std.proofs.Common.{◌<◌, ◌∙◌, [], ◌∷◌, arith, length}
+use Rattle.std.proofs.Common.{◌∙◌, [], ◌∷◌, arith}
 use Rattle.std.proofs.lemmas.Result.{err_from_is_err_and}
 use Rattle.csv.specs.Records.{fields_of}
-use Rattle.feed_limits.specs.Limits.{file_limit}
 use Rattle.feed_kbart.specs.Holdings.{holdings_from, join_holdings, no_holdings}
 use Rattle.feed_kbart.proofs.Steps.{no_header, first_record, so_far_first, so_far_next, so_far_end, so_far_full, joined_one}
 use Rattle.feed_kbart.proofs.records.read_records.Goals as goal
@@ -35,12 +34,11 @@ loop-number-preserved g c =
     let number = c.loop-number.number in
     let read = rw c.if-not-branch-2.false at c.in_ok-read_record-2.ensures.record in
     let added = rw c.in_ok-add.was at c.add.ensures in
-    let small : length was.held.rows < file_limit = omega (arith, was.few, c.loop-number-test.true) in
     record {
       ready = c.in_ok-read_record-2.ensures.next c.if-not-branch-2.false;
       kept = record {
         held = join_holdings was.held (holdings_from columns number (fields ∷ []));
-        is = added was.held small was.is;
+        is = added was.held was.is;
         few = let one = joined_one was.held columns number fields in omega (arith, one, was.few);
         so_far = λ text has. so_far_next g.R.Read.remaining c.loop-number.reader c.read_record-in-loop-number.new.reader columns number was.held text fields
             read (was.so_far text has);

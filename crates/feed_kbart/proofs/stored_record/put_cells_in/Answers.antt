@@ -4,7 +4,7 @@ use Rattle.csv.specs.Records.{fields_of}
 use Rattle.feed_kbart.specs.Columns.{cell}
 use Rattle.feed_kbart.specs.Stored.{IsShort}
 use Rattle.feed_kbart.proofs.Drafts.{put_next}
-use Rattle.feed_kbart.proofs.Listed.{holds_next}
+use Rattle.feed_kbart.proofs.Stored.{holds_next}
 use Rattle.feed_kbart.proofs.stored_record.put_cells_in.Goals as goal
 
 pub loop-column-preserved : goal.loop-column-preserved

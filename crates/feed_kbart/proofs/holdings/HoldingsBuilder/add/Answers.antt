@@ -19,11 +19,11 @@ unfolding holdings_from
 holdings_from-aside columns number fields reason e = rw e refl
 
 pub returns-in_ok-add-in-Ok : goal.returns-in_ok-add-in-Ok
-returns-in_ok-add-in-Ok g c held few kept =
-    rw (holdings_from-row c.args.columns.now c.args.number (fields_of c.args.fields.now) c.in-Ok.ensures)
-    (c.in_ok-add-in-Ok.ensures held.rows few kept.0, kept.1 ∙ sym (append-nil held.aside))
+returns-in_ok-add-in-Ok g c held kept =
+    rw (holdings_from-row c.args.columns.now c.args.number (fields_of c.args.fields.now) c.in-Ok.ensures.0)
+    (c.in_ok-add-in-Ok.ensures held.rows kept.0, kept.1 ∙ sym (append-nil held.aside))
 
 pub returns-in_ok-push-in-Err : goal.returns-in_ok-push-in-Err
-returns-in_ok-push-in-Err g c held few kept =
+returns-in_ok-push-in-Err g c held kept =
     rw (holdings_from-aside c.args.columns.now c.args.number (fields_of c.args.fields.now) c.in-Err.reason c.in-Err.ensures)
     (rw (append-nil held.rows) kept.0, c.in_ok-push-in-Err.ensures.items ∙ ap (λ l. l ++ record { number = c.args.number; reason = c.in-Err.reason } ∷ []) kept.1)

@@ -1,8 +1,6 @@
 use Rattle.std.proofs.Common.{◌≡◌, ◌++◌, [], ◌∷◌, ap, refl}
+use Rattle.std.proofs.lemmas.Result.{on_ok_weaker}
 use Rattle.csv.specs.Records.{fields_of}
-use Rattle.feed_kbart.specs.Columns.{columns_of}
-use Rattle.feed_kbart.proofs.Tabled.{on_ok}
-use Rattle.feed_kbart.proofs.Steps.{holdings_from-nil}
 use Rattle.feed_kbart.proofs.list_records.Stage.add.Goals as goal
 use Rattle.feed_kbart.proofs.list_records.Stage.add.Goals.{in-Ok, in-Err}
 
@@ -11,15 +9,7 @@ returns-after-read_header c records few was =
     let none : records ≡ [] = rw c.in-Start.is at was in
     let fields = fields_of c.args.fields.now in
     elim c.match-read_header.branch [
-      | in-Ok w ↦ rw (w.t-10-is, none) (record {
-        header = fields;
-        others = [];
-        are = refl;
-        good = w.in-Ok.ensures.0;
-        columns = w.in-Ok.ensures.1;
-        number = refl;
-        kept = rw (holdings_from-nil (columns_of fields) 2) w.new-in-Ok.ensures;
-      })
+      | in-Ok w ↦ rw (w.t-10-is, none) (w.new.ensures fields w.in-Ok.ensures.0 w.in-Ok.ensures.1)
       | in-Err w ↦ rw (w.t-10-is, none) (fields, [], refl, w.in-Err.ensures)
     ]
 
@@ -31,4 +21,4 @@ returns-in-Bad c records few was =
 
 pub returns-in-Good : goal.returns-in-Good
 returns-in-Good c =
-    on_ok c.add.result _ _ c.add.ensures (λ added records few was. added records few (rw (c.in-Good.is, c.in-Good.table-is) at was))
+    on_ok_weaker c.add.result (λ added records few was. added records few (rw (c.in-Good.is, c.in-Good.table-is) at was)) c.add.ensures
