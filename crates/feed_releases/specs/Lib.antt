@@ -15,6 +15,9 @@ pub mod Openings
 pub mod Actives
 pub mod Running
 pub mod Ahead
+pub mod Work
+pub mod Reopening
+pub mod ReopeningSteps
 pub mod Growth
 pub mod Committed
 pub mod Statuses

@@ -1,5 +1,5 @@
 -- The opening of a feed in steps.
-use Rattle.std.specs.Prelude.{◌≡◌, ◌<◌, ℕ, length}
+use Rattle.std.specs.Prelude.{◌≡◌, ◌<◌, ℕ}
 use Rattle.feed_model.specs.Sound.{IsSound}
 use Rattle.feed_keep.specs.Loads.{one_more}
 use Rattle.feed_keep.specs.declared.keep.Keep.{Ghosts}
@@ -19,9 +19,9 @@ pub record IsLoaded {K : Type 0} (ghosts : Ghosts K) (given now : K) : Type 0 wh
 abbrev pub opening_keeper : {K : Type 0} {k : Ghosts K} → Opening K k → K
 opening_keeper opening = opening.keeper
 
--- how much of its records is still to be checked
+-- how many steps are left at most before the last one
 abbrev pub unchecked : {K : Type 0} {k : Ghosts K} → Opening K k → ℕ
-unchecked opening = length opening.records.items
+unchecked opening = opening.reopening.left
 
 -- after a step the keeper is the same; and there is less to check, or the feed has the content of the keeper
 abbrev pub IsOpeningStep : {K : Type 0} {k : Ghosts K} → Opening K k → OpeningStep K k → Type 0

@@ -1,13 +1,9 @@
 //! Opening a feed in steps of bounded work.
 ghost use Rattle.std.specs.Prelude.{◌≡◌};
-ghost use Rattle.std.specs.List.{IsDistinct};
-ghost use Rattle.feed_names.specs.ReleaseName.{name_eq};
-ghost use Rattle.feed_model.specs.Content.{names};
-ghost use Rattle.feed_keep.specs.Shown.{shown};
 
-use crate::feed::reopen::from_records;
+use crate::feed::reopen::{Reopening, ReopeningStep};
 use crate::feed::{Feed, OpenFault};
-use feed_keep::{Keep, Record};
+use feed_keep::Keep;
 use feed_model::KeepFault;
 use std::alloc::Global;
 
@@ -16,10 +12,9 @@ use std::alloc::Global;
 pub struct Opening<K: Keep + Drop> {
     alloc: Global,
     keeper: K,
-    records: Vec<Record>,
-    ghost mirrors: { K.clean keeper → K.content keeper ≡ shown records.items },
+    reopening: Reopening,
+    ghost mirrors: { K.clean keeper → K.content keeper ≡ reopening.content },
     ghost listed: { K.clean keeper → ∥ K.listed keeper ∥₁ },
-    ghost distinct: { ∥ IsDistinct name_eq (names (shown records.items)) ∥₁ },
 }
 
 /// A feed after a step of its opening.
@@ -51,17 +46,34 @@ impl<K: Keep + Drop> Opening<K> {
         ensures damaged { IfErr result (λ fault. fault.cause ≡ KeepFault.Damaged → K.clean fault.keeper
             → ∥ K.listed keeper ∥₁ → ¬ (IsSound (K.content keeper))) }
     {
-        match keeper.load(alloc) {
-            Ok(records) => Ok(Opening {
+        let records = match keeper.load(alloc) {
+            Ok(records) => records,
+            Err(cause) => return Err(OpenFault { cause, keeper }),
+        };
+        match Reopening::of(alloc, records) {
+            Ok(reopening) => Ok(Opening {
                 alloc,
                 keeper,
-                records,
+                reopening,
             }),
             Err(cause) => Err(OpenFault { cause, keeper }),
         }
     }
 
-    /// Checks some of the records. `begin` and steps until the feed is open have the results of `Feed::open`.
+    /// Returns the keeper.
+    pub fn into_keeper(self) -> K
+        ensures { result ≡ opening_keeper self }
+    {
+        let Opening {
+            alloc: _,
+            keeper,
+            reopening: _,
+        } = self;
+        keeper
+    }
+
+    /// Reads at most 131,072 bytes of a complete file, or ends its check, which builds its index. `begin` and steps
+    /// until the feed is open have the results of `Feed::open`.
     ///
     /// # Errors
     ///
@@ -73,13 +85,29 @@ impl<K: Keep + Drop> Opening<K> {
             ⊎ ((fault.cause ≡ KeepFault.Damaged)
             × (K.clean fault.keeper → ¬ (IsSound (K.content fault.keeper))))) }
     {
+        self.advance(true)
+    }
+
+    /// Does a step. Reads each file at once unless it is read in steps.
+    pub(crate) fn advance(self, in_steps: bool) -> Result<OpeningStep<K>, OpenFault<K>>
+        ensures step { IfOk result (IsOpeningStep self) }
+        ensures kept { IfErr result (λ fault. fault.keeper ≡ opening_keeper self) }
+        ensures cause { IfErr result (λ fault. (fault.cause ≡ KeepFault.Memory)
+            ⊎ ((fault.cause ≡ KeepFault.Damaged)
+            × (K.clean fault.keeper → ¬ (IsSound (K.content fault.keeper))))) }
+    {
         let Opening {
             alloc,
             keeper,
-            records,
+            reopening,
         } = self;
-        match from_records(alloc, records) {
-            Ok(releases) => Ok(OpeningStep::Opened(Feed {
+        match reopening.step(alloc, in_steps) {
+            Ok(ReopeningStep::Pending(reopening)) => Ok(OpeningStep::Pending(Opening {
+                alloc,
+                keeper,
+                reopening,
+            })),
+            Ok(ReopeningStep::Done(releases)) => Ok(OpeningStep::Opened(Feed {
                 alloc,
                 keeper,
                 releases,
