@@ -118,13 +118,13 @@ impl<'a, T: Stream, K: Keep + Drop, S: FeedRespond + Drop> NodeMachine<'a, T, K,
         outcome
     }
 
-    /// Has the feed read ahead in the release that took a piece last, at most 131,072 bytes. Returns whether there is
-    /// more to read.
-    pub fn read_on(&mut self) -> bool
+    /// Has the feed do some of the work that no answer waits for: it frees a portion of the releases that the last
+    /// switch removed, or reads ahead at most 131,072 bytes. Returns whether there is more to do.
+    pub fn catch_up(&mut self) -> bool
         ensures history { KeepsHistory S.wanted S.replies self.old self.new }
         ensures later { IsLater S.wanted S.replies self.old self.new }
     {
-        self.feed.read_on()
+        self.feed.catch_up()
     }
 
     /// Keeps what the responder computes of the active releases alone, which changes no reply. Returns whether that

@@ -168,7 +168,7 @@ impl<'a, O: Write> RunningNode<'a, O> {
             return Some(End::Print(fault));
         }
         // The fetch waits until the list is read as far as it has arrived. So its last piece leaves little to read.
-        if node.read_on() {
+        if node.catch_up() {
             server.skip_wait();
             return None;
         }

@@ -1,6 +1,7 @@
 -- Records of a keeper, one after another, and what they say together.
-use Rattle.std.proofs.Common.{◌≡◌, ◌<◌, ◌≤◌, ◌+◌, ◌++◌, ℕ, zero, suc, List, [], ◌∷◌, length, get_or, ◌⊎◌, inl, inr, refl, sym, ◌∙◌, ap, subst, arith}
+use Rattle.std.proofs.Common.{◌≡◌, ◌<◌, ◌≤◌, ◌+◌, ◌++◌, ℕ, zero, suc, List, [], ◌∷◌, length, sum_by, get_or, Option, Some, None, is_some, false, ◌⊎◌, inl, inr, refl, sym, ◌∙◌, ap, subst, arith}
 use Rattle.std.specs.List.{IsDistinct, All}
+use Rattle.std.proofs.lemmas.List.Sums.{sum_by-cons}
 use Rattle.std.proofs.lemmas.List.Elements.{All-nil, All-cons, All-head, All-tail, All-map, All-append}
 use Rattle.feed_names.specs.ReleaseName.{Name, name_eq}
 use Rattle.feed_model.specs.Reply.{max_held}
@@ -10,6 +11,8 @@ use Rattle.feed_model.specs.Sound.{IsSoundRecord, IsSound}
 use Rattle.feed_keep.specs.declared.record.Record as code
 use Rattle.feed_keep.specs.Shown.{shown, shown_record}
 use Rattle.feed_releases.specs.ReleaseValue.{ReleaseValue, content_of, IsActiveAfter}
+use Rattle.feed_releases.specs.Reopening.{CheckValue, IsReopening, content_in, records_in}
+use Rattle.feed_releases.specs.ReopeningSteps.{IsNext}
 use Rattle.feed_releases.proofs.Finding.{length-content_of, none_later}
 use Rattle.std.proofs.lemmas.List.{append-nil, length-append}
 use Rattle.std.proofs.Math.Seq.{append_snoc}
@@ -26,55 +29,106 @@ all-at : {X : Type 0} (P : X → Type 0) (xs : List X) (y : X) (zs : List X) →
 all-at P [] y zs all = All-head P y zs all
 all-at P (x ∷ xs) y zs all = all-at P xs y zs (All-tail P x (xs ++ y ∷ zs) all)
 
--- the releases so far are of the first records, and the rest are to come
-pub record AreReopened (all : List code.Record) (releases : List ReleaseValue) (rest : List code.Record) : Type 0 where
-  pub order : content_of releases ++ shown rest ≡ shown all
-  pub sound : All IsSoundRecord (content_of releases)
+all-back : {X : Type 0} (P : X → Type 0) (xs ys : List X) → All P (xs ++ ys) → All P ys
+all-back P [] ys all = all
+all-back P (x ∷ xs) ys all = all-back P xs ys (All-tail P x (xs ++ ys) all)
 
-pub reopened_start : (all rest : List code.Record) (releases : List ReleaseValue) → releases ≡ [] → rest ≡ all → AreReopened all releases rest
-reopened_start all rest releases none is = rw (none, is) (record { order = refl; sound = All-nil IsSoundRecord })
+pub none_is : (current : Option CheckValue) → is_some current ≡ false → current ≡ None
+none_is None e = refl
+none_is (Some check) e = absurd (let is = e in cc)
 
-pub reopened_next : (all rest more : List code.Record) (releases now : List ReleaseValue) (r : code.Record) (x : ReleaseValue) → AreReopened all releases rest → rest ≡ r ∷ more
-    → x.kept ≡ shown_record r → IsSoundRecord (shown_record r) → now ≡ releases ++ x ∷ [] → AreReopened all now more
-reopened_next all rest more releases now r x so is kept sound pushed =
-    let here = content_of-push releases x ∙ ap (λ (y : Record). content_of releases ++ y ∷ []) kept in
-    subst (λ (ys : List ReleaseValue). AreReopened all ys more) (sym pushed) (record {
-      order = ap (λ (ys : Content). ys ++ shown more) here ∙ append_snoc (content_of releases) (shown_record r) (shown more) ∙ ap (λ (ys : List code.Record). content_of releases ++ shown ys)
-          (sym is) ∙ so.order;
-      sound = subst (All IsSoundRecord) (sym here) (All-append IsSoundRecord (content_of releases) (shown_record r ∷ []) so.sound
-          (All-cons IsSoundRecord (shown_record r) [] sound (All-nil IsSoundRecord)));
-    })
+-- the next check
+pub next_same : (check : CheckValue) (rest : List code.Record) → IsNext (Some check) rest (Some check) rest
+next_same check rest = record { content = refl; left = omega arith; none = tt }
 
-pub reopened_all : (all rest : List code.Record) (releases : List ReleaseValue) → AreReopened all releases rest → rest ≡ [] → content_of releases ≡ shown all
-reopened_all all rest releases so none = sym (append-nil (content_of releases)) ∙ ap (λ (ys : List code.Record). content_of releases ++ shown ys) (sym none) ∙ so.order
+pub next_none : (rest others : List code.Record) → rest ≡ others → others ≡ [] → IsNext None rest None others
+next_none rest others same none = rw same (record { content = refl; left = omega arith; none = none })
 
--- so many are left
-pub reopened_count : (all rest : List code.Record) (releases : List ReleaseValue) → AreReopened all releases rest → length releases + length rest ≡ length all
-reopened_count all rest releases so =
-    omega (arith, length-content_of releases, length-shown_records rest, length-shown_records all, length-append (content_of releases) (shown rest), ap length so.order)
+pub next_some : (rest others : List code.Record) (r : code.Record) (check : CheckValue) → rest ≡ r ∷ others → check.kept ≡ shown_record r → check.left ≤ r.size + 1
+    → IsNext None rest (Some check) others
+next_some rest others r check is kept left =
+    let size : code.Record → ℕ = λ s. s.size + 2 in
+    let fewer : check.left + sum_by size others ≤ 0 + sum_by size (r ∷ others) = omega (arith, left, sum_by-cons size r others) in
+    rw is (record { content = ap (λ (x : Record). x ∷ shown others) kept; left = fewer; none = tt })
 
 -- an unsound record leaves no sound content
-pub reopened_not : (all rest more : List code.Record) (releases : List ReleaseValue) (r : code.Record) → AreReopened all releases rest → rest ≡ r ∷ more
-    → (IsSoundRecord (shown_record r) → ⊥) → IsSound (shown all) → ⊥
-reopened_not all rest more releases r so is wrong sound =
-    wrong (all-at IsSoundRecord (content_of releases) (shown_record r) (shown more)
-    (subst (All IsSoundRecord) (sym so.order ∙ ap (λ (ys : List code.Record). content_of releases ++ shown ys) is) sound.each))
+pub next_not : (rest others : List code.Record) (r : code.Record) → rest ≡ r ∷ others → (IsSoundRecord (shown_record r) → ⊥) → All IsSoundRecord (shown rest) → ⊥
+next_not rest others r is wrong all =
+    wrong (All-head IsSoundRecord (shown_record r) (shown others) (subst (λ (xs : List code.Record). All IsSoundRecord (shown xs)) is all))
 
-pub reopened_sound : (all : List code.Record) (releases : List ReleaseValue) → AreReopened all releases [] → IsDistinct name_eq (names (shown all)) → length all ≤ max_held
-    → All (λ r. ¬ (HasLaterActive (content_of releases) r.name)) (content_of releases) → IsSound (shown all)
-reopened_sound all releases so distinct few current =
-    let is = reopened_all all [] releases so refl in
-    record {
-      distinct = distinct;
-      few = omega (arith, few, length-shown_records all);
-      each = subst (All IsSoundRecord) is so.sound;
-      current = subst (λ (c : Content). All (λ r. ¬ (HasLaterActive c r.name)) c) is current;
-    }
+-- the same content with the next check
+pub next_content : (rs : List ReleaseValue) (current next : Option CheckValue) (rest others : List code.Record) → IsNext current rest next others
+    → content_in rs next others ≡ content_in rs current rest
+next_content rs current next rest others is = ap (λ (c : Content). content_of rs ++ c) is.content
 
-pub reopened_late : (all : List code.Record) (releases : List ReleaseValue) → AreReopened all releases []
-    → (All (λ r. ¬ (HasLaterActive (content_of releases) r.name)) (content_of releases) → ⊥)
-    → IsSound (shown all) → ⊥
-reopened_late all releases so late sound = late (subst (λ (c : Content). All (λ r. ¬ (HasLaterActive c r.name)) c) (sym (reopened_all all [] releases so refl)) sound.current)
+pub further_content : (rs : List ReleaseValue) (current : Option CheckValue) (check further : CheckValue) (rest others : List code.Record) → IsNext current rest (Some check) others
+    → further.kept ≡ check.kept → content_in rs (Some further) others ≡ content_in rs current rest
+further_content rs current check further rest others is kept =
+    ap (λ (r : Record). content_of rs ++ (r ∷ shown others)) kept ∙ next_content rs current (Some check) rest others is
+
+pub pushed_content : (rs now : List ReleaseValue) (x : ReleaseValue) (current : Option CheckValue) (check : CheckValue) (rest others : List code.Record)
+    → IsNext current rest (Some check) others → now ≡ rs ++ x ∷ [] → x.kept ≡ check.kept → content_in now None others ≡ content_in rs current rest
+pushed_content rs now x current check rest others is pushed kept =
+    ap (λ (ys : List ReleaseValue). content_of ys ++ shown others) pushed
+    ∙ ap (λ (c : Content). c ++ shown others) (content_of-push rs x ∙ ap (λ (r : Record). content_of rs ++ r ∷ []) kept)
+    ∙ append_snoc (content_of rs) check.kept (shown others) ∙ next_content rs current (Some check) rest others is
+
+pub reopening_further : (rs : List ReleaseValue) (room : ℕ) (was now : Content) → now ≡ was → IsReopening rs room was → IsReopening rs room now
+reopening_further rs room was now same is = subst (IsReopening rs room) (sym same) is
+
+pub reopening_pushed : (rs after : List ReleaseValue) (x : ReleaseValue) (r : Record) (room more : ℕ) (was now : Content) → after ≡ rs ++ x ∷ [] → x.kept ≡ r → IsSoundRecord r
+    → now ≡ was → more ≡ room → IsReopening rs room was → IsReopening after more now
+reopening_pushed rs after x r room more was now pushed kept sound same capacity is = rw (same, capacity) (record {
+  distinct = is.distinct;
+  few = is.few;
+  sound = subst (All IsSoundRecord) (sym (ap content_of pushed ∙ content_of-push rs x ∙ ap (λ (y : Record). content_of rs ++ y ∷ []) kept))
+      (All-append IsSoundRecord (content_of rs) (r ∷ []) is.sound (All-cons IsSoundRecord r [] sound (All-nil IsSoundRecord)));
+  room = is.room;
+})
+
+-- there is room for one more
+pub room_left : (rs : List ReleaseValue) (room : ℕ) (current : Option CheckValue) (check : CheckValue) (rest others : List code.Record) → IsReopening rs room (content_in rs current rest)
+    → IsNext current rest (Some check) others → length rs < room
+room_left rs room current check rest others is next =
+    omega (
+      arith,
+      is.room,
+      ap (λ (c : Content). length c) (next_content rs current (Some check) rest others next),
+      length-append (content_of rs) (check.kept ∷ shown others),
+      length-content_of rs,
+    )
+
+-- an unsound record at its turn
+pub reopened_not : (rs : List ReleaseValue) (current : Option CheckValue) (check : CheckValue) (rest others : List code.Record) → IsNext current rest (Some check) others
+    → (IsSoundRecord check.kept → ⊥) → IsSound (content_in rs current rest) → ⊥
+reopened_not rs current check rest others next wrong sound =
+    wrong (all-at IsSoundRecord (content_of rs) check.kept (shown others)
+    (subst (All IsSoundRecord) (sym (next_content rs current (Some check) rest others next)) sound.each))
+
+pub reopened_rest_not : (rs : List ReleaseValue) (current : Option CheckValue) (rest : List code.Record) → (All IsSoundRecord (records_in current ++ shown rest) → ⊥)
+    → IsSound (content_in rs current rest) → ⊥
+reopened_rest_not rs current rest wrong sound = wrong (all-back IsSoundRecord (content_of rs) (records_in current ++ shown rest) sound.each)
+
+-- no record is left
+pub reopened_all : (rs : List ReleaseValue) (current : Option CheckValue) (rest others : List code.Record) → IsNext current rest None others → content_of rs ≡ content_in rs current rest
+reopened_all rs current rest others is =
+    sym (append-nil (content_of rs)) ∙ ap (λ (ys : List code.Record). content_of rs ++ shown ys) (sym is.none) ∙ next_content rs current None rest others is
+
+pub reopened_distinct : (rs : List ReleaseValue) (room : ℕ) (content : Content) → content_of rs ≡ content → IsReopening rs room content → IsDistinct name_eq (names (content_of rs))
+reopened_distinct rs room content same is = subst (λ (c : Content). IsDistinct name_eq (names c)) (sym same) is.distinct
+
+pub reopened_sound : (rs : List ReleaseValue) (room : ℕ) (content : Content) → content_of rs ≡ content → IsReopening rs room content
+    → All (λ r. ¬ (HasLaterActive (content_of rs) r.name)) (content_of rs) → IsSound content
+reopened_sound rs room content same is current = record {
+  distinct = is.distinct;
+  few = is.few;
+  each = subst (All IsSoundRecord) same is.sound;
+  current = subst (λ (c : Content). All (λ r. ¬ (HasLaterActive c r.name)) c) same current;
+}
+
+pub reopened_late : (rs : List ReleaseValue) (content : Content) → content_of rs ≡ content → (All (λ r. ¬ (HasLaterActive (content_of rs) r.name)) (content_of rs) → ⊥)
+    → IsSound content → ⊥
+reopened_late rs content same late sound = late (subst (λ (c : Content). All (λ r. ¬ (HasLaterActive c r.name)) c) (sym same) sound.current)
 
 -- no release so far has a later active one
 abbrev pub NoneLater : List ReleaseValue → ℕ → Type 0

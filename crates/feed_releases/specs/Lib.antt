@@ -11,9 +11,13 @@ pub mod NextRange
 pub mod Reason
 pub mod Answered
 pub mod Feeds
+pub mod Openings
 pub mod Actives
 pub mod Running
 pub mod Ahead
+pub mod Work
+pub mod Reopening
+pub mod ReopeningSteps
 pub mod Growth
 pub mod Committed
 pub mod Statuses

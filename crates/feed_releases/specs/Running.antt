@@ -1,8 +1,8 @@
 -- A check that reads a file ahead.
-use Rattle.std.specs.Prelude.{◌≡◌, ℕ, List}
+use Rattle.std.specs.Prelude.{◌≡◌, ◌-◌, ℕ, List, Option, None, Some}
 use Rattle.feed_list_check.specs.Checks.{IsCheckOfList}
 use Rattle.feed_model.specs.History.{byte_at, or_else}
-use Rattle.feed_model.specs.Content.{IsText, Part, byte_in}
+use Rattle.feed_model.specs.Content.{IsText, Part, Record, byte_in}
 use Rattle.feed_releases.specs.declared.running.Running.{Running}
 
 -- the most bytes that are read at once
@@ -22,3 +22,12 @@ IsRunning parts running = ∥ HasRead parts running ∥₁
 -- the parts have the stored bytes, and at the other places those of a piece
 abbrev pub IsUnion : List Part → List Part → ℕ → List ℕ → Type 0
 IsUnion parts kept first bytes = (place : ℕ) → byte_in parts place ≡ or_else (byte_in kept place) (byte_at first bytes place)
+
+-- these places, if the first one is stored
+abbrev pub unread_from : Option ℕ → ℕ → ℕ
+unread_from None places = 0
+unread_from (Some byte) places = places
+
+-- how many bytes of the file the check did not receive yet, if the next one is stored; otherwise it can receive none
+abbrev pub unread_of : Record → Running → ℕ
+unread_of r running = unread_from (byte_in r.parts running.next) (r.size - running.next)

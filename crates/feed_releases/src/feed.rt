@@ -5,13 +5,13 @@ ghost use Rattle.feed_releases.specs.ReleaseValue.{content_of};
 ghost use Rattle.feed_releases.specs.Ahead.{IsAhead};
 
 mod offer;
+mod opening;
 mod piece;
 mod reopen;
 
 use crate::actives::{ActiveRelease, actives_of};
 use crate::ahead::Ahead;
 use crate::event::Event;
-use crate::feed::reopen::from_records;
 use crate::release::Release;
 use crate::releases::{active_of, find};
 use crate::statuses::{ReleaseStatus, statuses_of};
@@ -20,6 +20,7 @@ use feed_kbart::BadFile;
 use feed_keep::Keep;
 use feed_model::{KeepFault, Refusal, Reply};
 use feed_names::ReleaseName;
+pub use opening::{Opening, OpeningStep};
 use std::alloc::{AllocError, Global};
 use thiserror::Error;
 
@@ -65,7 +66,7 @@ pub struct Feed<K: Keep + Drop> {
 }
 
 impl<K: Keep + Drop> Feed<K> {
-    ghost use Rattle.std.specs.Prelude.{◌≢◌, ◌↔◌, ◌∷◌, []};
+    ghost use Rattle.std.specs.Prelude.{◌≢◌, ◌↔◌, ◌<◌, ◌∷◌, []};
     ghost use Rattle.std.specs.Prelude.{All, Err, map, IfOk, IfErr, OnErr, IsTrue, option_map};
     ghost use Rattle.std.specs.List.{Contains};
     ghost use Rattle.feed_model.specs.History.{Answer as event_answer, History, Reports};
@@ -81,6 +82,7 @@ impl<K: Keep + Drop> Feed<K> {
     ghost use Rattle.feed_keep.specs.Cause.{HasFailedSince, IsCounted};
     ghost use Rattle.feed_keep.specs.Loads.{one_more};
     ghost use Rattle.feed_releases.specs.Feeds.{CommitsNothing, keeper_of, recorded, releases_of};
+    ghost use Rattle.feed_releases.specs.Work.{unread, work_left};
     ghost use Rattle.feed_releases.specs.Statuses.{status_of};
 
     /// Opens a feed on the records of a keeper. Validates and reads the file of each complete release.
@@ -90,7 +92,7 @@ impl<K: Keep + Drop> Feed<K> {
     /// `Damaged` if no feed can have produced the records: a name appears twice; there are more than 256 releases; a
     /// size is above the limit of a file; parts are empty, above the limit of a piece, out of order or outside the
     /// file; a release has a later active one in its package; or a state or a reason does not match its file.
-    pub fn open(alloc: Global, mut keeper: K) -> Result<Feed<K>, OpenFault<K>>
+    pub fn open(alloc: Global, keeper: K) -> Result<Feed<K>, OpenFault<K>>
         ensures content { IfOk result (λ feed. K.clean (keeper_of feed) → recorded feed ≡ K.content keeper) }
         ensures sound { IfOk result (λ feed. IsSound (recorded feed)) }
         ensures clean { IfOk result (λ feed. K.clean (keeper_of feed) → K.clean keeper) }
@@ -108,18 +110,16 @@ impl<K: Keep + Drop> Feed<K> {
             (K.failed fault.keeper)) }
         ensures kept_loaded { IfErr result (λ fault. K.loads fault.keeper ≡ one_more (K.loads keeper)) }
     {
-        let records = match keeper.load(alloc) {
-            Ok(records) => records,
-            Err(cause) => return Err(OpenFault { cause, keeper }),
+        let mut opening = match Opening::begin(alloc, keeper) {
+            Ok(opening) => opening,
+            Err(fault) => return Err(fault),
         };
-        match from_records(alloc, records) {
-            Ok(releases) => Ok(Feed {
-                alloc,
-                keeper,
-                releases,
-                ahead: None,
-            }),
-            Err(cause) => Err(OpenFault { cause, keeper }),
+        loop {
+            match opening.advance(false) {
+                Ok(OpeningStep::Pending(further)) => opening = further,
+                Ok(OpeningStep::Opened(feed)) => return Ok(feed),
+                Err(fault) => return Err(fault),
+            }
         }
     }
 
@@ -168,20 +168,35 @@ impl<K: Keep + Drop> Feed<K> {
         Ok(answers)
     }
 
-    /// Reads ahead in the release that took a piece last: checks at most 131,072 of its stored bytes. So its last piece
-    /// leaves little to check. Returns whether there is more to read. Each answer is the one without this call.
-    pub fn read_on(&mut self) -> bool
+    /// Does some of the work that no answer waits for: reads ahead in the release that took a piece last, at most
+    /// 131,072 of its stored bytes. So its last piece leaves little to check. Returns whether there is more to do. Each
+    /// answer is the one without this call.
+    pub fn catch_up(&mut self) -> bool
         ensures releases { releases_of self.new ≡ releases_of self.old }
         ensures keeper { keeper_of self.new ≡ keeper_of self.old }
+        ensures more { IsTrue result ↔ (0 < work_left self.new) }
+        ensures less { IsTrue result → work_left self.new < work_left self.old }
+    {
+        self.read_ahead();
+        match &self.ahead {
+            Some(ahead) => self.releases[ahead.at].has_more(&ahead.running),
+            None => false,
+        }
+    }
+
+    // Reads ahead at most a window. If memory runs out, nothing is read ahead any more.
+    fn read_ahead(&mut self)
+        ensures releases { releases_of self.new ≡ releases_of self.old }
+        ensures keeper { keeper_of self.new ≡ keeper_of self.old }
+        ensures less { 0 < unread self.new → unread self.new < unread self.old }
     {
         let Some(Ahead { at, running }) = self.ahead.take() else {
-            return false;
+            return;
         };
-        let Some((running, has_more)) = self.releases[at].read_on(self.alloc, running) else {
-            return false;
+        let Some(running) = self.releases[at].read_on(self.alloc, running) else {
+            return;
         };
         self.ahead = Some(Ahead { at, running });
-        has_more
     }
 
     /// Returns the active release of a package: the complete and good one with the latest day.

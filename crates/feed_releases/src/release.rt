@@ -1,10 +1,10 @@
 //! A recorded release in memory.
-ghost use Rattle.std.specs.Prelude.{◌≡◌, ◌≤◌, ◌+◌, length, None, IfSome, option_map};
+ghost use Rattle.std.specs.Prelude.{◌≡◌, ◌↔◌, ◌<◌, ◌≤◌, ◌+◌, length, None, IfSome, IsTrue, option_map};
 ghost use Rattle.feed_model.specs.Reply.{max_file, missing_below};
 ghost use Rattle.feed_model.specs.Content.{byte_in};
 ghost use Rattle.feed_model.specs.Change.{new_record};
 ghost use Rattle.feed_releases.specs.NextRange.{IsNextOf};
-ghost use Rattle.feed_releases.specs.Running.{IsRunning};
+ghost use Rattle.feed_releases.specs.Running.{IsRunning, unread_of};
 ghost use Rattle.feed_releases.specs.ReleaseValue.{IsKnown, IsOverlapOf};
 
 mod growth;
@@ -17,6 +17,7 @@ use feed_kbart::{BadFile, Holdings};
 use feed_model::State;
 use feed_names::ReleaseName;
 use feed_parts::Segments;
+pub(crate) use reopen::{RecordCheck, RecordStep};
 use std::alloc::Global;
 use std::marker::Model;
 
@@ -114,17 +115,21 @@ impl Release {
         Some((gap.first, gap.first + (gap.end - gap.first).min(max) - 1))
     }
 
-    /// Has a check of the file read on in the stored bytes, at most a window. Returns the check and whether it can read
-    /// further, or `None` if memory runs out.
-    pub(crate) fn read_on(&self, alloc: Global, running: Running) -> Option<(Running, bool)>
-        ensures { IfSome result (λ read. IsRunning self.now.kept.parts running
-            → IsRunning self.now.kept.parts read.0) }
+    /// Has a check of the file read on in the stored bytes, at most a window. Returns `None` if memory runs out.
+    pub(crate) fn read_on(&self, alloc: Global, running: Running) -> Option<Running>
+        ensures reads { IfSome result (λ further. IsRunning self.now.kept.parts running
+            → IsRunning self.now.kept.parts further) }
+        ensures less { IfSome result (λ further. 0 < unread_of self.now.kept further
+            → unread_of self.now.kept further < unread_of self.now.kept running) }
     {
-        let Some(running) = running.read_on(alloc, &self.kept) else {
-            return None;
-        };
-        let has_more = running.has_more(&self.kept);
-        Some((running, has_more))
+        running.read_on(alloc, &self.kept)
+    }
+
+    /// Returns whether a check of the file can read on in the stored bytes.
+    pub(crate) fn has_more(&self, running: &Running) -> bool
+        ensures { IsTrue result ↔ (0 < unread_of self.now.kept running.now) }
+    {
+        running.has_more(&self.kept)
     }
 
     /// Returns how a piece inside the file overlaps the stored bytes. Does not allocate.

@@ -1,5 +1,5 @@
 //! The check of a file that is not complete yet. It reads ahead as far as the bytes are stored.
-ghost use Rattle.std.specs.Prelude.{◌≡◌, ◌≤◌, ◌<◌, ◌+◌, ◌↔◌, ℕ, List, IfSome, IsSome, IsTrue, length};
+ghost use Rattle.std.specs.Prelude.{◌≡◌, ◌≤◌, ◌<◌, ◌+◌, ◌↔◌, ℕ, List, None, IfSome, IsSome, IsTrue, length};
 ghost use Rattle.feed_kbart.specs.Files.{IsReadOf};
 ghost use Rattle.feed_model.specs.Content.{IsText, Part, byte_in};
 ghost use Rattle.feed_model.specs.Parts.{AgreesIn};
@@ -52,6 +52,7 @@ impl Running {
     pub(crate) fn read_on(self, alloc: Global, kept: &Segments) -> Option<Running>
         ensures few { IfSome result (λ running. running.next ≤ self.next + window) }
         ensures some { IfSome result (λ running. IsSome (byte_in kept.now.parts self.next) → self.next < running.next) }
+        ensures none { IfSome result (λ running. byte_in kept.now.parts self.next ≡ None → running.next ≡ self.next) }
         ensures reads { IfSome result (λ running. IsRunning kept.now.parts self → IsRunning kept.now.parts running) }
     {
         let bytes = kept.bytes_from(self.next);
@@ -87,11 +88,19 @@ impl Running {
         let Some(running) = self.read_rest(alloc, size, kept, first, bytes) else {
             return None;
         };
-        // A whole file has every place, so this is never so.
+        // A file that the piece completes has every place, so all of it was read.
         if running.next != size {
             return None;
         }
-        Some(running.check.finish(alloc))
+        Some(running.finish_whole(alloc))
+    }
+
+    /// Returns what a file reads as that was read to its end.
+    pub(crate) fn finish_whole(self, alloc: Global) -> Result<Holdings, KbartFault>
+        ensures { (parts : List Part) (text : List ℕ) → IsRunning parts self → IsText self.next parts text
+            → IsReadOf text result }
+    {
+        self.check.finish(alloc)
     }
 
     // Reads on in the stored bytes and those of a piece, up to the end of the file or the first place that both lack.

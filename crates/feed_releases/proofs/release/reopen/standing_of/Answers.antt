@@ -1,25 +1,17 @@
-use Rattle.std.proofs.Common.{◌≡◌, Result, Ok, Err, ◌∙◌, ap, subst, arith}
-use Rattle.feed_kbart.specs.HoldingsValue.{HoldingsValue}
-use Rattle.feed_kbart.specs.declared.fault.KbartFault.{KbartFault}
-use Rattle.feed_kbart.specs.declared.fault.KbartFault.TheVariants.{Bad}
+use Rattle.std.proofs.Common.{◌≡◌, ℕ, sym, subst, arith}
 use Rattle.feed_model.specs.Reply.{missing_below}
 use Rattle.feed_model.specs.Content.{byte_in}
 use Rattle.feed_model.proofs.Keeps.{none_missing}
-use Rattle.feed_releases.specs.Judged.{IsJudged}
+use Rattle.feed_releases.specs.Standing.{IsStandingOf}
 use Rattle.feed_releases.proofs.Judged.{judged}
+use Rattle.feed_releases.proofs.ReadAhead.{if_ok}
 use Rattle.feed_releases.proofs.release.reopen.standing_of.Goals as goal
-use Rattle.feed_releases.proofs.release.reopen.standing_of.Goals.{After-read_parts}
 
--- the result of validating the file of a complete release
-judgement : (c : After-read_parts) (outcome : Result HoldingsValue KbartFault) → c.read_parts.result ≡ outcome
-    → (missing_below (byte_in c.args.kept.now.parts) c.args.size ≡ 0) × IsJudged c.args.size c.args.kept.now.parts outcome
-judgement c outcome is =
-    let none : missing_below (byte_in c.args.kept.now.parts) c.args.size ≡ 0 = omega (arith, c.missing.ensures, c.if-missing-gt0.false) in
-    let text = c.reader.ensures.text c.args.size c.requires ((none_missing (byte_in c.args.kept.now.parts) c.args.size).0 none) in
-    (none, subst (IsJudged c.args.size c.args.kept.now.parts) is (judged c.args.size c.args.kept.now.parts c.reader.result c.read_parts.result text c.read_parts.ensures))
-
-pub returns-in-Ok : goal.returns-in-Ok
-returns-in-Ok c = judgement (goal.at.returns-in-Ok c).After-read_parts (Ok c.in-Ok.holdings) c.in-Ok.is
-
-pub returns-in-Err-Bad : goal.returns-in-Err-Bad
-returns-in-Err-Bad c = judgement (goal.at.returns-in-Err-Bad c).After-read_parts (Err (Bad c.in-Err-Bad.why)) (c.in-Err-Bad.is ∙ ap Err c.in-Err-Bad.field-0-is)
+pub returns : goal.returns
+returns c =
+    let size = c.args.size in
+    let parts = c.args.kept.now.parts in
+    let none : missing_below (byte_in parts) size ≡ 0 = omega (arith, c.missing.ensures, c.if-missing-gt0.false) in
+    let text = c.reader.ensures.text size c.requires ((none_missing (byte_in parts) size).0 none) in
+    if_ok c.standing_from.result _ _ c.standing_from.ensures (λ standing is.
+    subst (λ (m : ℕ). IsStandingOf size parts m standing) (sym none) (is size parts (judged size parts c.reader.result c.read_parts.result text c.read_parts.ensures)))

@@ -1,6 +1,7 @@
-use Rattle.feed_releases.proofs.ReadAhead.{read_whole}
+use Rattle.std.proofs.Common.{ℕ, subst, sym}
+use Rattle.feed_model.specs.Content.{IsText}
 use Rattle.feed_releases.proofs.running.Running.finish.Goals as goal
 
 pub returns : goal.returns
 returns c parts text union is =
-    read_whole c.args.size parts text c.in-Some.running c.finish.result is c.if-running-size.false (c.in-Some.ensures parts union) c.finish.ensures
+    c.finish_whole.ensures parts text (c.in-Some.ensures parts union) (subst (λ (n : ℕ). IsText n parts text) (sym c.if-running-size.false) is)

@@ -3,13 +3,13 @@ use Rattle.feed_model.specs.Content.{IsContent}
 use Rattle.feed_releases.specs.ReleaseValue.{ReleaseValue, content_of}
 use Rattle.feed_node_machine.specs.NodeEvents.{feed_history}
 use Rattle.feed_node_machine.proofs.Later.{later_kept}
-use Rattle.feed_node_machine.proofs.machine.NodeMachine.read_on.Goals as goal
+use Rattle.feed_node_machine.proofs.machine.NodeMachine.catch_up.Goals as goal
 use Rattle.std.specs.Prelude.{List}
 
 pub returns-clause-history : goal.returns-clause-history
 returns-clause-history g c = λ history has. record {
   connections = has.connections;
-  feed = subst (λ (rs : List ReleaseValue). IsContent (content_of rs) (feed_history history)) (sym c.read_on.ensures.releases) has.feed;
+  feed = subst (λ (rs : List ReleaseValue). IsContent (content_of rs) (feed_history history)) (sym c.catch_up.ensures.releases) has.feed;
   fetching = has.fetching;
   requested = has.requested;
   today = has.today;
