@@ -20,7 +20,10 @@ use std::io;
 use std::io::Write;
 use std::time::Instant;
 
-// The milliseconds of steps after which a turn answers readers.
+// The milliseconds before the first turn, so that no client gets 503 from a node with small lists.
+const FIRST_MILLIS: u128 = 50;
+
+// The milliseconds of steps between two turns.
 const STEPS_MILLIS: u128 = 2;
 
 /// Why a node ends before its feed is open.
@@ -35,9 +38,9 @@ pub enum StartFault {
 // A node without releases, which replies that it starts.
 type StartingNode<'a> = ServedNode<'a, ListKeep, StartingResponder<'a>>;
 
-/// Opens a feed in steps, and runs a turn of a node after each 2 ms of them. This node replies to requests for reports,
-/// as one without an active release, and to all others by 503. Prints the lines of the log after each turn. Once the
-/// feed is open, its connections have a second to end.
+/// Opens a feed in steps, and runs a turn of a node after 50 ms and then after each 2 ms of them. This node replies to
+/// requests for reports, as one without an active release, and to all others by 503. Prints the lines of the log after
+/// each turn. Once the feed is open, the connections of this node have a second to end.
 pub fn start<K: Keep + Drop, O: Write>(
     rt: &HostRuntime,
     opening: Opening<K>,
@@ -83,8 +86,10 @@ struct Starting<'a, O: Write> {
     rt: &'a HostRuntime,
     events: Events,
     log: AccessLog<'a, O>,
-    /// When the last turn ended.
+    /// When the last turn ended, or the first step began.
     last_turn: Option<Instant>,
+    /// The milliseconds from then to the next turn.
+    until_turn: u128,
 }
 
 impl<'a, O: Write> Starting<'a, O> {
@@ -102,6 +107,7 @@ impl<'a, O: Write> Starting<'a, O> {
             events,
             log: AccessLog::new(rt, out, setup.state, setup.log),
             last_turn: Instant::now(rt).ok(),
+            until_turn: FIRST_MILLIS,
         })
     }
 
@@ -144,13 +150,14 @@ impl<'a, O: Write> Starting<'a, O> {
         server.skip_wait();
         let outcome = server.turn(self.rt, node, &mut self.events, &mut self.log);
         self.last_turn = Instant::now(self.rt).ok();
+        self.until_turn = STEPS_MILLIS;
         self.end_turn(outcome)
     }
 
-    // Returns whether the steps since the last turn took so long that readers are answered now.
+    // Returns whether the steps since the last turn took so long that the next one is due.
     fn is_due(&self) -> bool {
         match self.millis() {
-            Some(millis) => STEPS_MILLIS <= millis,
+            Some(millis) => self.until_turn <= millis,
             None => true,
         }
     }

@@ -1,12 +1,7 @@
 //! The replies of a node whose feed is not open yet: reports of itself, and no others.
-ghost use Rattle.std.specs.Prelude.{IfOk, IfSome};
-ghost use Rattle.feed_http_heads.specs.Options.{SaysWhetherItKeeps};
-ghost use Rattle.feed_node_service.specs.Starting.{IsStartingReport};
-
 use crate::node_state::NodeState;
 use feed_http_heads::Request;
 use feed_keep::Keep;
-use feed_monitoring::{ReportReply, gets_report};
 use feed_node_connection::{IncomingRequest, Reply, RespondFault};
 use feed_node_machine::{FeedRespond, Occasion};
 use feed_releases::Feed;
@@ -21,26 +16,6 @@ pub struct StartingResponder<'a> {
     pub version: &'a [u8],
     /// Whether clients on other machines may have reports of the node, too.
     pub has_open_reports: bool,
-}
-
-impl<'a> StartingResponder<'a> {
-    // Returns the reply about the node, if the request asks for one and the client may have it.
-    fn report(
-        &self,
-        alloc: Global,
-        is_local: bool,
-        bytes: &[u8],
-        persists: bool,
-    ) -> Result<Option<ReportReply>, AllocError>
-        ensures value { IfOk result (λ found. IfSome found
-            (IsStartingReport self.now is_local bytes.now persists)) }
-        ensures says { IfOk result (λ found. IfSome found (λ reply. SaysWhetherItKeeps persists reply.bytes.items)) }
-    {
-        if !gets_report(is_local, self.has_open_reports, bytes) {
-            return Ok(None);
-        }
-        self.state.report(alloc, bytes, persists, self.version, &[])
-    }
 }
 
 impl<'a> FeedRespond for StartingResponder<'a> {
@@ -60,7 +35,15 @@ impl<'a> FeedRespond for StartingResponder<'a> {
         occasion: &Occasion<'_, '_, K>,
         request: &IncomingRequest<'_>,
     ) -> Result<Reply, RespondFault> {
-        match self.report(alloc, occasion.is_local, request.head, request.persists)? {
+        let found = self.state.starting_report(
+            alloc,
+            occasion.is_local,
+            self.has_open_reports,
+            request.head,
+            request.persists,
+            self.version,
+        )?;
+        match found {
             Some(reply) => Ok(Reply::new(reply.bytes, reply.status, reply.body_len)),
             None => Err(RespondFault::Busy),
         }
