@@ -11,6 +11,7 @@ pub mod NextRange
 pub mod Reason
 pub mod Answered
 pub mod Feeds
+pub mod Openings
 pub mod Actives
 pub mod Running
 pub mod Ahead

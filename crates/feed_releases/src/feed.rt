@@ -5,6 +5,7 @@ ghost use Rattle.feed_releases.specs.ReleaseValue.{content_of};
 ghost use Rattle.feed_releases.specs.Ahead.{IsAhead};
 
 mod offer;
+mod opening;
 mod piece;
 mod reopen;
 
@@ -20,6 +21,7 @@ use feed_kbart::BadFile;
 use feed_keep::Keep;
 use feed_model::{KeepFault, Refusal, Reply};
 use feed_names::ReleaseName;
+pub use opening::{Opening, OpeningStep};
 use std::alloc::{AllocError, Global};
 use thiserror::Error;
 

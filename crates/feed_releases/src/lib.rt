@@ -17,6 +17,6 @@ mod statuses;
 
 pub use actives::ActiveRelease;
 pub use event::Event;
-pub use feed::{AnswerFault, Feed, OpenFault, Point};
+pub use feed::{AnswerFault, Feed, OpenFault, Opening, OpeningStep, Point};
 pub use laws::{answers_stay, list_alike};
 pub use statuses::ReleaseStatus;

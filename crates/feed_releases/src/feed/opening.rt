@@ -1,0 +1,91 @@
+//! Opening a feed in steps of bounded work.
+ghost use Rattle.std.specs.Prelude.{◌≡◌};
+ghost use Rattle.std.specs.List.{IsDistinct};
+ghost use Rattle.feed_names.specs.ReleaseName.{name_eq};
+ghost use Rattle.feed_model.specs.Content.{names};
+ghost use Rattle.feed_keep.specs.Shown.{shown};
+
+use crate::feed::reopen::from_records;
+use crate::feed::{Feed, OpenFault};
+use feed_keep::{Keep, Record};
+use feed_model::KeepFault;
+use std::alloc::Global;
+
+/// A feed that is being opened: it checks the records of its keeper in steps.
+#[derive(Drop)]
+pub struct Opening<K: Keep + Drop> {
+    alloc: Global,
+    keeper: K,
+    records: Vec<Record>,
+    ghost mirrors: { K.clean keeper → K.content keeper ≡ shown records.items },
+    ghost listed: { K.clean keeper → ∥ K.listed keeper ∥₁ },
+    ghost distinct: { ∥ IsDistinct name_eq (names (shown records.items)) ∥₁ },
+}
+
+/// A feed after a step of its opening.
+#[derive(Drop)]
+pub enum OpeningStep<K: Keep + Drop> {
+    /// There is more to check.
+    Pending(Opening<K>),
+    /// The feed is open.
+    Opened(Feed<K>),
+}
+
+impl<K: Keep + Drop> Opening<K> {
+    ghost use Rattle.std.specs.Prelude.{◌⊎◌, IfOk, IfErr, MatchResult};
+    ghost use Rattle.feed_model.specs.Sound.{IsSound};
+    ghost use Rattle.feed_keep.specs.Cause.{IsCounted};
+    ghost use Rattle.feed_releases.specs.Openings.{IsLoaded, IsOpeningStep, opening_keeper};
+
+    /// Loads the records of a keeper, once.
+    ///
+    /// # Errors
+    ///
+    /// Those of the keeper, and `Damaged` if there are more than 256 records.
+    pub fn begin(alloc: Global, mut keeper: K) -> Result<Opening<K>, OpenFault<K>>
+        ensures loaded { MatchResult result (λ opening. IsLoaded K.Keep keeper (opening_keeper opening))
+            (λ fault. IsLoaded K.Keep keeper fault.keeper) }
+        ensures counted { IfOk result (λ opening. K.failed (opening_keeper opening) ≡ K.failed keeper) }
+        ensures device { IfErr result (λ fault. IsCounted (fault.cause ≡ KeepFault.Device) (K.failed keeper)
+            (K.failed fault.keeper)) }
+        ensures damaged { IfErr result (λ fault. fault.cause ≡ KeepFault.Damaged → K.clean fault.keeper
+            → ∥ K.listed keeper ∥₁ → ¬ (IsSound (K.content keeper))) }
+    {
+        match keeper.load(alloc) {
+            Ok(records) => Ok(Opening {
+                alloc,
+                keeper,
+                records,
+            }),
+            Err(cause) => Err(OpenFault { cause, keeper }),
+        }
+    }
+
+    /// Checks some of the records. `begin` and steps until the feed is open have the results of `Feed::open`.
+    ///
+    /// # Errors
+    ///
+    /// `Damaged` if no feed can have produced the records, and `Memory`.
+    pub fn step(self) -> Result<OpeningStep<K>, OpenFault<K>>
+        ensures step { IfOk result (IsOpeningStep self) }
+        ensures kept { IfErr result (λ fault. fault.keeper ≡ opening_keeper self) }
+        ensures cause { IfErr result (λ fault. (fault.cause ≡ KeepFault.Memory)
+            ⊎ ((fault.cause ≡ KeepFault.Damaged)
+            × (K.clean fault.keeper → ¬ (IsSound (K.content fault.keeper))))) }
+    {
+        let Opening {
+            alloc,
+            keeper,
+            records,
+        } = self;
+        match from_records(alloc, records) {
+            Ok(releases) => Ok(OpeningStep::Opened(Feed {
+                alloc,
+                keeper,
+                releases,
+                ahead: None,
+            })),
+            Err(cause) => Err(OpenFault { cause, keeper }),
+        }
+    }
+}
