@@ -35,8 +35,8 @@ const EVENTS: usize = 1_024;
 // The most connections that one turn accepts.
 const ACCEPTS: usize = 64;
 
-// The most microseconds for which connections are served before they are closed.
-const DRAIN_MICROS: u64 = 1_000_000;
+// The most microseconds for which connections are served before all are closed.
+const DRAIN_MICROS: u64 = 250_000;
 
 // The most bytes of one read.
 const READ_BYTES: usize = 16_384;
@@ -206,7 +206,7 @@ impl Server {
         outcome
     }
 
-    /// Runs turns until all connections are closed, for at most a second, and closes those that are left. New connections
+    /// Runs turns until all connections are closed, for at most 250 ms, and closes those that are left. New connections
     /// wait meanwhile, and the next turn accepts them: it may be one of another node.
     pub fn drain<K: Keep + Drop, S: FeedRespond + Drop, L: Log>(
         &mut self,
@@ -230,7 +230,7 @@ impl Server {
         self.has_more_work = is_accepting;
     }
 
-    // Runs turns until all connections are closed, for at most a second.
+    // Runs turns until all connections are closed, for at most 250 ms.
     fn run_last_turns<K: Keep + Drop, S: FeedRespond + Drop, L: Log>(
         &mut self,
         rt: &impl Clock,

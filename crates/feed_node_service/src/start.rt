@@ -40,7 +40,7 @@ type StartingNode<'a> = ServedNode<'a, ListKeep, StartingResponder<'a>>;
 
 /// Opens a feed in steps, and runs a turn of a node after 50 ms and then after each 2 ms of them. This node replies to
 /// requests for reports, as one without an active release, and to all others by 503. Prints the lines of the log after
-/// each turn. Once the feed is open, the connections of this node have a second to end.
+/// each turn. Once the feed is open, the connections of this node have 250 ms to end.
 pub fn start<K: Keep + Drop, O: Write>(
     rt: &HostRuntime,
     opening: Opening<K>,
