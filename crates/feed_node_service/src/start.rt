@@ -21,10 +21,10 @@ use std::io::Write;
 use std::time::Instant;
 
 // The milliseconds before the first turn, so that no client gets 503 from a node with small lists.
-const FIRST_MILLIS: u128 = 50;
+const FIRST_MILLIS: u64 = 50;
 
 // The milliseconds of steps between two turns.
-const STEPS_MILLIS: u128 = 2;
+const STEPS_MILLIS: u64 = 2;
 
 /// Why a node ends before its feed is open.
 #[derive(Drop)]
@@ -89,7 +89,7 @@ struct Starting<'a, O: Write> {
     /// When the last turn ended, or the first step began.
     last_turn: Option<Instant>,
     /// The milliseconds from then to the next turn.
-    until_turn: u128,
+    until_turn: u64,
 }
 
 impl<'a, O: Write> Starting<'a, O> {
@@ -163,10 +163,11 @@ impl<'a, O: Write> Starting<'a, O> {
     }
 
     // Returns the milliseconds since the last turn.
-    fn millis(&self) -> Option<u128> {
+    fn millis(&self) -> Option<u64> {
         let last = self.last_turn?;
         let now = Instant::now(self.rt).ok()?;
-        Some(now.saturating_duration_since(last).as_millis())
+        let passed = now.saturating_duration_since(last).as_millis();
+        Some(passed.min(u64::MAX as u128) as u64)
     }
 
     // Ends the connections.
