@@ -10,7 +10,8 @@ import threading
 import time
 
 import make_script
-from measuring import BUILT, CALLS, KBFEED, MIB, PEER, PEERS, TIMED, Benchmark, Failed, free_port, is_listening, usage_of
+from measuring import (BUILT, CALLS, KBFEED, MIB, PEER, PEERS, TIMED, Benchmark, Failed, free_port, is_listening,
+                       usage_of)
 
 TOKEN = "benchmark-of-kbfeed-on-127.0.0.1"
 # The seconds between two requests of a reader whose waits are measured.
@@ -285,7 +286,7 @@ def serving_node(shop, database, *options, calls=None):
 
 
 def until_it_answers(port):
-    """Waits until a node answers readers, and returns the longest wait of a client for a reply meanwhile, in seconds."""
+    """Waits until a node answers readers. Returns the longest wait of a client for a reply meanwhile, in seconds."""
     longest, status = 0.0, 503
     while status == 503:
         began = time.monotonic()
@@ -333,8 +334,8 @@ def figures_of(name, units, measured, needs):
 
 
 def node_start(shop):
-    """From the start of a node to its listening socket and to its first answer, with the memory that it then has, and the
-    longest wait for a reply in between."""
+    """From the start of a node to its listening socket and to its first answer, with the memory that it then has, and
+    the longest wait for a reply in between."""
     units = {"": "ms", "-answers": "ms", "-wait": "ms, longest wait"}
     lists = [(str(mib), lambda mib=mib: shop.list_of(mib)) for mib in shop.sizes]
     for label, made in [*lists, ("short", lambda: shop.short_list(max(shop.sizes)))]:
@@ -443,8 +444,8 @@ def post_feed(port, name, result):
 
 
 def switched(shop, old, new):
-    """Has a node switch from a list to its next release. Returns the longest wait of a reader meanwhile, the next longest
-    one, the commit of the last piece with its syncs alone, and the part of the wait at this commit that is not in it."""
+    """Has a node switch from a list to its next release. Returns the longest wait of a reader meanwhile, the next
+    longest one, the commit of the last piece, its syncs alone, and the wait at this commit without it."""
     database, token, calls, result = shop.fresh(".db"), shop.fresh(".token"), shop.fresh(".calls"), []
     token.write_text(f"{TOKEN}\n")
     target = f"resolve?{query_for(old)}"
@@ -463,12 +464,13 @@ def switched(shop, old, new):
         raise Failed(f"the fetches end with {result}")
     lengths = sorted(till - since for since, till in times)
     at_commit = max((till - since for since, till in times if since < end and begin < till), default=0.0)
-    values = (lengths[-1], lengths[-2] if len(lengths) > 1 else 0.0, end - begin, syncs, max(0.0, at_commit - (end - begin)))
+    values = (lengths[-1], lengths[-2] if len(lengths) > 1 else 0.0, end - begin, syncs,
+              max(0.0, at_commit - (end - begin)))
     return [{"value": value * 1e3, "memory": memory} for value in values]
 
 
 def node_switch(shop):
-    """How long a reader waits while a node takes in the next release of a list and switches to it, beside the commit."""
+    """The waits of a reader while a node takes in the next release of a list and switches to it, and the commit."""
     units = {"": "ms, longest wait", "-next": "ms, next longest wait", "-commit": "ms, last commit",
              "-sync": "ms, syncs of it", "-beside": "ms, wait at it without it"}
     lists = [(str(mib), lambda day, mib=mib: shop.list_of(mib, day)) for mib in shop.sizes]

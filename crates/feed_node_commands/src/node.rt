@@ -38,14 +38,14 @@ pub struct Hosting<'a> {
     pub site: Option<&'a str>,
 }
 
-/// Runs a node: opens the feed of a database and answers readers at an address, without end. It listens once the records
-/// of the database are loaded. Until their lists are checked, readers get 503. If the node has a source, a client that
-/// has the token can make it fetch a release from there. It prints a line for each request, at once. The first fault is
-/// reported: of the source (`Host`, `Read`, `Token`), of the site file (`Read`, `Site`), of the database, of the address
-/// (`Bind`), of a list (`Damaged`), of the sockets (`Poll`), of the print, and of a database whose file is gone
-/// (`Device`). A host that has no address yet is reported too (`Resolve`), and the node runs. If there are too few
-/// descriptors for all clients, that is reported (`Descriptors`), and the node answers fewer at a time, or does not
-/// start with fewer than 16. A check answers no reader, and prints `ok` if all is well.
+/// Runs a node: opens the feed of a database and answers readers at an address, without end. It listens once the
+/// records of the database are loaded. Until their lists are checked, readers get 503. If the node has a source, a
+/// client that has the token can make it fetch a release from there. It prints a line for each request, at once. The
+/// first fault is reported: of the source (`Host`, `Read`, `Token`), of the site file (`Read`, `Site`), of the
+/// database, of the address (`Bind`), of a list (`Damaged`), of the sockets (`Poll`), of the print, and of a database
+/// whose file is gone (`Device`). A host that has no address yet is reported too (`Resolve`), and the node runs. If
+/// there are too few descriptors for all clients, that is reported (`Descriptors`), and the node answers fewer at a
+/// time, or does not start with fewer than 16. A check answers no reader, and prints `ok` if all is well.
 pub fn run_node<D: Database, O: Write, F: Write + Drop>(
     rt: &HostRuntime,
     database: &D,
