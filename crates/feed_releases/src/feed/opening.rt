@@ -61,6 +61,18 @@ impl<K: Keep + Drop> Opening<K> {
         }
     }
 
+    /// Returns the keeper.
+    pub fn into_keeper(self) -> K
+        ensures { result ≡ opening_keeper self }
+    {
+        let Opening {
+            alloc: _,
+            keeper,
+            records: _,
+        } = self;
+        keeper
+    }
+
     /// Checks some of the records. `begin` and steps until the feed is open have the results of `Feed::open`.
     ///
     /// # Errors

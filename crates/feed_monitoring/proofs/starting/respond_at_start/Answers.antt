@@ -12,5 +12,6 @@ starting : (is_local is_open : Bool) (metrics : MetricsValue) (gauges : Gauges) 
 starting is_local is_open metrics gauges bytes keeps None allowed none is = inr is
 starting is_local is_open metrics gauges bytes keeps (Some reply) allowed none is = record { allowed = allowed; gauges = gauges; none = none; is = is }
 
-pub returns-in_ok-found-clause-value : goal.returns-in_ok-found-clause-value
-returns-in_ok-found-clause-value c = ?
+pub returns-clause-value : goal.returns-clause-value
+returns-clause-value c =
+    starting c.args.is_local c.args.is_open c.args.metrics.now _ c.args.bytes.now c.args.keeps c.in_ok-found.found c.if-not-gets_report.ensures.allowed refl c.in_ok-found.ensures.value
