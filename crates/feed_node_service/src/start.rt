@@ -1,9 +1,7 @@
 //! Opens the feed of a node in steps, between the turns of its loop.
-ghost use Rattle.std.specs.Prelude.{◌≡◌, IfErr, IfOk};
-ghost use Rattle.feed_model.specs.Sound.{IsSound};
-ghost use Rattle.feed_node_service.specs.Starting.{IsLaterStart};
-ghost use Rattle.feed_node_table.specs.Tables.{size_of};
-ghost use Rattle.feed_releases.specs.Openings.{IsOpeningStep, opening_keeper};
+ghost use Rattle.std.specs.Prelude.{IfErr, IfOk};
+ghost use Rattle.feed_releases.specs.Openings.{IsOpeningStep};
+ghost use Rattle.feed_node_service.specs.Starting.{IsEnd, IsLaterStart, IsStartFault};
 
 use crate::access_log::AccessLog;
 use crate::node_loop::{End, NodeSetup};
@@ -16,6 +14,7 @@ use feed_node_server::{ServedNode, Server};
 use feed_node_table::Table;
 use feed_releases::{Feed, Opening, OpeningStep};
 use mio::Events;
+use std::alloc::AllocError;
 use std::io;
 use std::io::Write;
 use std::time::Instant;
@@ -49,11 +48,14 @@ pub fn start<K: Keep + Drop, O: Write>(
     out: &mut O,
 ) -> Result<Feed<K>, StartFault>
     ensures opened { IfOk result (λ feed. IsOpeningStep opening (OpeningStep.Opened feed)) }
-    ensures damaged { IfErr result (λ fault. fault ≡ StartFault.Keeper KeepFault.Damaged
-        → K.clean (opening_keeper opening) → ¬ (IsSound (K.content (opening_keeper opening)))) }
+    ensures fault { IfErr result (IsStartFault opening) }
 {
-    let mut node = starting_node(rt, server.clients(), setup)?;
-    let mut starting = Starting::new(rt, server, setup, out)?;
+    let Ok(mut node) = starting_node(rt, server.clients(), setup) else {
+        return Err(StartFault::Ended(End::Memory));
+    };
+    let Ok(mut starting) = Starting::new(rt, server, setup, out) else {
+        return Err(StartFault::Ended(End::Memory));
+    };
     let feed = starting.open(opening, &mut node, server)?;
     starting.end(&mut node, server)?;
     Ok(feed)
@@ -64,12 +66,10 @@ fn starting_node<'a>(
     rt: &HostRuntime,
     clients: usize,
     setup: &'a NodeSetup<'_>,
-) -> Result<StartingNode<'a>, StartFault> {
-    let Ok(table) = Table::new(rt.alloc(), clients) else {
-        return Err(StartFault::Ended(End::Memory));
-    };
+) -> Result<StartingNode<'a>, AllocError> {
+    let table = Table::new(rt.alloc(), clients)?;
     let Ok(feed) = Feed::open(rt.alloc(), ListKeep::new(rt.alloc())) else {
-        return Err(StartFault::Ended(End::Memory));
+        return Err(AllocError);
     };
     let responder = StartingResponder {
         state: setup.state,
@@ -98,9 +98,9 @@ impl<'a, O: Write> Starting<'a, O> {
         server: &Server,
         setup: &'a NodeSetup<'_>,
         out: &'a mut O,
-    ) -> Result<Starting<'a, O>, StartFault> {
+    ) -> Result<Starting<'a, O>, AllocError> {
         let Ok(events) = server.events() else {
-            return Err(StartFault::Ended(End::Memory));
+            return Err(AllocError);
         };
         Ok(Starting {
             rt,
@@ -120,8 +120,7 @@ impl<'a, O: Write> Starting<'a, O> {
         server: &mut Server,
     ) -> Result<Feed<K>, StartFault>
         ensures opened { IfOk result (λ feed. IsOpeningStep opening (OpeningStep.Opened feed)) }
-        ensures damaged { IfErr result (λ fault. fault ≡ StartFault.Keeper KeepFault.Damaged
-            → K.clean (opening_keeper opening) → ¬ (IsSound (K.content (opening_keeper opening)))) }
+        ensures fault { IfErr result (IsStartFault opening) }
         ensures later { IsLaterStart node.old node.new }
     {
         let mut rest = opening;
@@ -141,7 +140,7 @@ impl<'a, O: Write> Starting<'a, O> {
         node: &mut StartingNode<'_>,
         server: &mut Server,
     ) -> Result<(), StartFault>
-        ensures cause { IfErr result (λ fault. (end : End) × (fault ≡ StartFault.Ended end)) }
+        ensures cause { IfErr result IsEnd }
         ensures later { IsLaterStart node.old node.new }
     {
         if !self.is_due() {
@@ -172,7 +171,7 @@ impl<'a, O: Write> Starting<'a, O> {
 
     // Ends the connections.
     fn end(&mut self, node: &mut StartingNode<'_>, server: &mut Server) -> Result<(), StartFault>
-        ensures cause { IfErr result (λ fault. (end : End) × (fault ≡ StartFault.Ended end)) }
+        ensures cause { IfErr result IsEnd }
         ensures later { IsLaterStart node.old node.new }
     {
         let outcome = server.drain(self.rt, node, &mut self.events, &mut self.log);
@@ -181,7 +180,7 @@ impl<'a, O: Write> Starting<'a, O> {
 
     // Prints the lines of the log, if the sockets did not fail.
     fn end_turn(&mut self, outcome: io::Result<()>) -> Result<(), StartFault>
-        ensures { IfErr result (λ fault. (end : End) × (fault ≡ StartFault.Ended end)) }
+        ensures { IfErr result IsEnd }
     {
         if let Err(fault) = outcome {
             return Err(StartFault::Ended(End::Sockets(fault)));
