@@ -10,9 +10,12 @@ import threading
 import time
 
 import make_script
-from measuring import BUILT, KBFEED, MIB, PEER, PEERS, TIMED, Benchmark, Failed, free_port, is_listening, usage_of
+from measuring import (BUILT, CALLS, KBFEED, MIB, PEER, PEERS, TIMED, Benchmark, Failed, free_port, is_listening,
+                       usage_of)
 
 TOKEN = "benchmark-of-kbfeed-on-127.0.0.1"
+# The seconds between two requests of a reader whose waits are measured.
+STEP = 0.005
 ROUNDS = {"1M": 4, "256K": 2, "1K": 2}
 
 
@@ -265,38 +268,84 @@ def replay(shop):
         yield bench
 
 
-def started_node(shop, database, *options):
-    """Starts a node, and returns its process and its port."""
+def started_node(shop, database, *options, calls=None):
+    """Starts a node that writes its calls to a file, if there is one, and returns its process and its port."""
     port = free_port()
     log = open(shop.fresh(".log"), "wb")
     with log:
         command = [shop.program, "node", database, f"127.0.0.1:{port}", *options]
-        return shop.start(command, lambda: is_listening(port), stdout=log), port
+        env = {**os.environ, "LD_PRELOAD": str(CALLS), "CALLS": str(calls)} if calls else None
+        return shop.start(command, lambda: is_listening(port), stdout=log, env=env), port
+
+
+def serving_node(shop, database, *options, calls=None):
+    """Starts a node, and waits until it answers readers."""
+    child, port = started_node(shop, database, *options, calls=calls)
+    until_it_answers(port)
+    return child, port
+
+
+def until_it_answers(port):
+    """Waits until a node answers readers. Returns the longest wait of a client for a reply meanwhile, in seconds."""
+    longest, status = 0.0, 503
+    while status == 503:
+        began = time.monotonic()
+        connection = http.client.HTTPConnection("127.0.0.1", port, timeout=60)
+        connection.request("GET", "/status")
+        reply = connection.getresponse()
+        reply.read()
+        connection.close()
+        status, longest = reply.status, max(longest, time.monotonic() - began)
+        time.sleep(max(0.0, began + STEP - time.monotonic()))
+    return longest
 
 
 def started(shop, path):
-    """Starts a node with a list, and returns the time until it listens, and its memory then."""
+    """Starts a node with a list. Returns the times until it listens and until it answers readers, with its memory then,
+    and the longest wait for a reply in between."""
     database = database_with(shop, shop.program, path)
     began = time.monotonic()
-    child, _ = started_node(shop, database)
-    spent = time.monotonic() - began
+    child, port = started_node(shop, database)
+    listens = time.monotonic() - began
     try:
+        longest = until_it_answers(port)
+        answers = time.monotonic() - began
         cpu, memory = usage_of(child)
     finally:
         shop.stop(child)
-    return {"value": spent * 1e3, "cpu": cpu, "memory": memory}
+    return [{"value": value * 1e3, "cpu": cpu, "memory": memory} for value in (listens, answers, longest)]
+
+
+def figures_of(name, units, measured, needs):
+    """Returns a benchmark for each of the figures that one run measures, by the endings of their names and their units.
+    The first has the run made, and the others take theirs from it."""
+    kept = {ending: [] for ending in units}
+
+    def figure(ending):
+        if not kept[ending]:
+            for key, value in zip(units, measured()):
+                kept[key].append(value)
+        return kept[ending].pop(0)
+
+    for ending, unit in units.items():
+        bench = Benchmark(f"{name}{ending}", unit)
+        bench.add(KBFEED, "=", lambda ending=ending: figure(ending), needs=needs)
+        yield bench
 
 
 def node_start(shop):
-    """From the start of a node to its listening socket, with the memory that it then has."""
+    """From the start of a node to its listening socket and to its first answer, with the memory that it then has, and
+    the longest wait for a reply in between."""
+    units = {"": "ms", "-answers": "ms", "-wait": "ms, longest wait"}
     lists = [(str(mib), lambda mib=mib: shop.list_of(mib)) for mib in shop.sizes]
     for label, made in [*lists, ("short", lambda: shop.short_list(max(shop.sizes)))]:
-        bench = Benchmark(f"node-start-{label}", "ms")
-        bench.add(KBFEED, "=", lambda made=made: started(shop, made()), needs=("nginx",))
-        bench.add("rust, opens and loads", "-",
-                  lambda made=made: shop.timed([PEER, "load", database_with(shop, PEER, made())]),
-                  needs=("kbpeer", "nginx"))
-        yield bench
+        name = f"node-start-{label}"
+        for bench in figures_of(name, units, lambda made=made: started(shop, made()), ("nginx",)):
+            if bench.name == name:
+                bench.add("rust, opens and loads", "-",
+                          lambda made=made: shop.timed([PEER, "load", database_with(shop, PEER, made())]),
+                          needs=("kbpeer", "nginx"))
+            yield bench
 
 
 def rate(shop, clients, url, *options):
@@ -316,7 +365,7 @@ def target_of(shop):
 
 
 def rate_of_node(shop, clients, options):
-    child, port = started_node(shop, database_of(shop, shop.program, min(shop.sizes)))
+    child, port = serving_node(shop, database_of(shop, shop.program, min(shop.sizes)))
     try:
         value = rate(shop, clients, f"http://127.0.0.1:{port}/{target_of(shop)}", *options)
         return {"value": value, "memory": usage_of(child)[1]}
@@ -326,7 +375,7 @@ def rate_of_node(shop, clients, options):
 
 def site_of(shop):
     """Returns a folder with a file that has the bytes of a node's reply."""
-    child, port = started_node(shop, database_of(shop, shop.program, min(shop.sizes)))
+    child, port = serving_node(shop, database_of(shop, shop.program, min(shop.sizes)))
     try:
         connection = http.client.HTTPConnection("127.0.0.1", port, timeout=30)
         connection.request("GET", f"/{target_of(shop)}")
@@ -361,7 +410,7 @@ def node_requests(shop):
 
 
 def waits(port, target, is_done):
-    """Returns the times of requests, one after another, until `is_done`."""
+    """Returns the begin and the end of requests, one each 5 ms, until `is_done`."""
     connection, times = http.client.HTTPConnection("127.0.0.1", port, timeout=60), []
     while not times or not is_done():
         began = time.monotonic()
@@ -370,8 +419,21 @@ def waits(port, target, is_done):
         reply.read()
         if reply.status != 200:
             raise Failed(f"a reader gets {reply.status}")
-        times.append(time.monotonic() - began)
+        times.append((began, time.monotonic()))
+        time.sleep(max(0.0, began + STEP - time.monotonic()))
     return times
+
+
+def last_commit(path):
+    """Returns the begin and the end of the last commit of a node, and the seconds of its syncs, from the node's calls.
+    The calls on files after the last connection to the knowledge base are those of the commit of the last piece."""
+    calls = [line.split() for line in path.read_text().splitlines()]
+    last = max(at for at, call in enumerate(calls) if call[0] == "connect")
+    commit = calls[last + 1:]
+    if not commit:
+        raise Failed("no call on a file follows the last connection")
+    syncs = sum(float(call[2]) - float(call[1]) for call in commit if call[0] in ("fsync", "fdatasync"))
+    return float(commit[0][1]), float(commit[-1][2]), syncs
 
 
 def post_feed(port, name, result):
@@ -381,45 +443,42 @@ def post_feed(port, name, result):
     result.append(connection.getresponse().read().decode().strip().split("\n")[-1])
 
 
-def switched(shop, mib):
-    """Has a node switch to the next release of a list, and returns the two longest waits of a reader meanwhile."""
-    database, token, result = shop.fresh(".db"), shop.fresh(".token"), []
+def switched(shop, old, new):
+    """Has a node switch from a list to its next release. Returns the longest wait of a reader meanwhile, the next
+    longest one, the commit of the last piece, its syncs alone, and the wait at this commit without it."""
+    database, token, calls, result = shop.fresh(".db"), shop.fresh(".token"), shop.fresh(".calls"), []
     token.write_text(f"{TOKEN}\n")
-    old, new = shop.list_of(mib), shop.list_of(mib, "2024-02-01")
     target = f"resolve?{query_for(old)}"
-    child, port = started_node(shop, database, "--from", shop.shelf_address(), "--token", token)
+    child, port = serving_node(shop, database, "--from", shop.shelf_address(), "--token", token, calls=calls)
     try:
         post_feed(port, old.name, result)
         feeding = threading.Thread(target=post_feed, args=(port, new.name, result))
         feeding.start()
-        times = sorted(waits(port, target, lambda: not feeding.is_alive()))
+        times = waits(port, target, lambda: not feeding.is_alive())
+        begin, end, syncs = last_commit(calls)
         memory = usage_of(child)[1]
     finally:
         shop.stop(child)
         remove_database(database)
     if result != ["status 0", "status 0"]:
         raise Failed(f"the fetches end with {result}")
-    return [{"value": wait * 1e3, "memory": memory} for wait in (times[-1], times[-2] if len(times) > 1 else 0.0)]
+    lengths = sorted(till - since for since, till in times)
+    at_commit = max((till - since for since, till in times if since < end and begin < till), default=0.0)
+    values = (lengths[-1], lengths[-2] if len(lengths) > 1 else 0.0, end - begin, syncs,
+              max(0.0, at_commit - (end - begin)))
+    return [{"value": value * 1e3, "memory": memory} for value in values]
 
 
 def node_switch(shop):
-    """The longest wait of a reader while a node takes in the next release of a list and switches to it."""
-    for mib in shop.sizes:
-        rest = []
+    """The waits of a reader while a node takes in the next release of a list and switches to it, and the commit."""
+    units = {"": "ms, longest wait", "-next": "ms, next longest wait", "-commit": "ms, last commit",
+             "-sync": "ms, syncs of it", "-beside": "ms, wait at it without it"}
+    lists = [(str(mib), lambda day, mib=mib: shop.list_of(mib, day)) for mib in shop.sizes]
+    for label, made in [*lists, ("rows", shop.list_of_rows)]:
+        def measured(made=made):
+            return switched(shop, made("2024-01-01"), made("2024-02-01"))
 
-        def longest(mib=mib, rest=rest):
-            first, second = switched(shop, mib)
-            rest.append(second)
-            return first
-
-        def next_longest(mib=mib, rest=rest):
-            return rest.pop(0) if rest else switched(shop, mib)[1]
-
-        for name, unit, runner in [(f"node-switch-{mib}", "ms, longest wait", longest),
-                                   (f"node-switch-{mib}-next", "ms, next longest wait", next_longest)]:
-            bench = Benchmark(name, unit)
-            bench.add(KBFEED, "=", runner, needs=("nginx",))
-            yield bench
+        yield from figures_of(f"node-switch-{label}", units, measured, ("nginx",))
 
 
 GROUPS = {"start": start, "check": check, "diff": diff, "serve": serve, "fetch": fetch, "store": store, "ask": ask,

@@ -14,6 +14,7 @@ BENCH = pathlib.Path(__file__).resolve().parent
 BUILT = BENCH.parent / "out" / "bench"
 PEER = BUILT / "kbpeer"
 TIMED = BUILT / "timed"
+CALLS = BUILT / "calls.so"
 PEERS = BENCH / "peers"
 MIB = 1 << 20
 KBFEED = "kbfeed"
@@ -117,6 +118,12 @@ class Workshop:
         path = self.shelf / f"Bench{mib}_All_{day}.txt"
         args = ["--bytes", mib * MIB, "--seed", mib * 31 + int(day[5:7])]
         return self.once(path, lambda: self.generated(path, "make_list.py", *args))
+
+    def list_of_rows(self, day="2024-01-01"):
+        """Returns a list of 341,857 rows, 21.6 MB, on the shelf."""
+        path = self.shelf / f"Rows_All_{day}.txt"
+        script = BENCH.parent / "tests/drivers/many_rows.py"
+        return self.once(path, lambda: self.generated(path, script, 341_857, 100_000))
 
     def edited_list(self, mib):
         """Returns the list of so many MiB with edits: of 200 rows one is replaced, and two have another URL."""

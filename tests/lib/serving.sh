@@ -34,4 +34,7 @@ answering() {
   return 1
 }
 
+# Waits until a node with an active release answers readers: the check of large lists takes it a while.
+ready() { until curl -sSf "http://$ADDR/health/ready" > ready 2>&1; do sleep 0.05; done; }
+
 ended() { kill -9 $NODE; wait $NODE 2> /dev/null; true; }

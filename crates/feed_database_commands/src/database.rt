@@ -2,7 +2,7 @@
 use feed_command::{FAILED, Faults, REFUSED};
 use feed_keep::Keep;
 use feed_model::KeepFault;
-use feed_releases::{AnswerFault, Feed};
+use feed_releases::{AnswerFault, Feed, Opening};
 use std::alloc::Global;
 use std::io::Write;
 
@@ -45,13 +45,35 @@ pub fn open_feed<D: Database, F: Write + Drop>(
     database: &D,
     faults: &mut Faults<F>,
 ) -> Result<Feed<D::Keeper>, u8> {
-    let keeper = match database.open() {
-        Ok(keeper) => keeper,
-        Err(fault) => return Err(report_database(faults, fault, database.name())),
-    };
+    let keeper = open_keeper(database, faults)?;
     match Feed::open(alloc, keeper) {
         Ok(feed) => Ok(feed),
         Err(fault) => Err(report_keeper(faults, fault.cause, database.name())),
+    }
+}
+
+/// Begins to open the feed on what a database holds, as `open_feed` does: opens the database and loads its records.
+/// The faults are reported in the same way.
+pub fn begin_feed<D: Database, F: Write + Drop>(
+    alloc: Global,
+    database: &D,
+    faults: &mut Faults<F>,
+) -> Result<Opening<D::Keeper>, u8> {
+    let keeper = open_keeper(database, faults)?;
+    match Opening::begin(alloc, keeper) {
+        Ok(opening) => Ok(opening),
+        Err(fault) => Err(report_keeper(faults, fault.cause, database.name())),
+    }
+}
+
+// Opens the keeper of a database, or reports the fault and returns the status.
+fn open_keeper<D: Database, F: Write + Drop>(
+    database: &D,
+    faults: &mut Faults<F>,
+) -> Result<D::Keeper, u8> {
+    match database.open() {
+        Ok(keeper) => Ok(keeper),
+        Err(fault) => Err(report_database(faults, fault, database.name())),
     }
 }
 
@@ -138,8 +160,8 @@ fn cause_of_other(path: &str) -> &'static str {
     }
 }
 
-// Reports why a keeper does not return its records, or why no feed keeps such records, and returns the status.
-fn report_keeper<F: Write + Drop>(faults: &mut Faults<F>, fault: KeepFault, path: &str) -> u8 {
+/// Reports why a keeper does not return its records, or why no feed keeps such records, and returns the status.
+pub fn report_keeper<F: Write + Drop>(faults: &mut Faults<F>, fault: KeepFault, path: &str) -> u8 {
     match fault {
         KeepFault::Memory => faults.report(fault, FAILED),
         KeepFault::Device => faults.report_with(fault, path, "it does not read", FAILED),

@@ -13,4 +13,4 @@ mod status;
 mod why;
 
 pub use command::{DatabaseCommand, run_database_command};
-pub use database::{Database, DatabaseFault, close_keeper, open_feed};
+pub use database::{Database, DatabaseFault, begin_feed, close_keeper, open_feed, report_keeper};

@@ -1,5 +1,5 @@
 -- The head of a reply about a node, as the grammar reads it.
-use Rattle.std.proofs.Common.{◌≡◌, ◌<◌, ◌^◌, ℕ, List, [], ◌∷◌, ◌++◌, length, reverse, codes, Some, Bool, true, false, refl, ap, sym, ◌∙◌, arith, append_assoc, All}
+use Rattle.std.proofs.Common.{◌≡◌, ◌<◌, ◌^◌, ℕ, List, [], ◌∷◌, ◌++◌, length, reverse, codes, Some, Bool, true, false, refl, ap, ◌∙◌, arith, append_assoc, All}
 use Rattle.std.specs.Prelude.{IsTrue}
 use Rattle.std.specs.List.{AllByRecursion, list_all, flat_map}
 use Rattle.std.specs.Char.{is_ascii_digit}

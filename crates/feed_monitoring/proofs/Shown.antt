@@ -1,6 +1,5 @@
 -- The line of a request, or none for a report that the log hides.
 use Rattle.std.proofs.Common.{◌≡◌, ℕ, Bool, true, false, List, ◌++◌, sym}
-use Rattle.std.specs.Prelude.{◌&&◌, not, is_some}
 use Rattle.std.proofs.lemmas.List.{append-nil}
 use Rattle.httparse.specs.Grammar.{RequestHead}
 use Rattle.feed_access_log.specs.Lines.{line_text}

@@ -3,3 +3,4 @@ pub mod Reports
 pub mod Targets
 pub mod LastValues
 pub mod Exchanges
+pub mod Starting

@@ -9,6 +9,7 @@ mod log_line;
 mod report;
 mod report_reply;
 mod report_text;
+mod starting;
 mod target;
 
 pub use exchange::{put_exchange, record_exchange};
@@ -16,3 +17,4 @@ pub use log_line::{Exchange, LogPolicy};
 pub use report::{Report, asks_for_report, gets_report};
 pub use report_reply::respond_about_node;
 pub use report_text::{ReportKind, ReportReply};
+pub use starting::respond_at_start;

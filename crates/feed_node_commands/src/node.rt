@@ -3,14 +3,16 @@ use crate::command::Upstream;
 use crate::site::read_site;
 use crate::token::read_token;
 use feed_command::{DONE, FAILED, Faults, MISUSED, REFUSED, open_file};
-use feed_database_commands::{Database, close_keeper, open_feed};
+use feed_database_commands::{Database, begin_feed, close_keeper, open_feed, report_keeper};
 use feed_file_commands::note_port;
 use feed_http::is_host;
-use feed_keep::Keep;
 use feed_node_server::{Server, Settings, TimeLimits};
-use feed_node_service::{End, LogSettings, NodeSetup, Source, SourceAddrs, WatchedFile, run};
+use feed_node_service::{
+    End, LogSettings, NodeSetup, NodeState, Source, SourceAddrs, StartFault, WatchedFile, run,
+    start,
+};
 use feed_range::read_number;
-use feed_releases::Feed;
+use feed_releases::Opening;
 use std::io;
 use std::io::Write;
 use std::net::ToSocketAddrs;
@@ -20,7 +22,7 @@ const MIN_CLIENTS: usize = 16;
 
 /// Where a node listens, how many clients it answers at a time, and how many milliseconds each step of a connection and
 /// the time between two requests may take; and for how many seconds a cache may use an answer without asking again, or
-/// 0. A check ends once all is open.
+/// 0. A check only opens all.
 #[derive(Clone, Copy)]
 pub struct Hosting<'a> {
     pub addr: &'a str,
@@ -36,13 +38,14 @@ pub struct Hosting<'a> {
     pub site: Option<&'a str>,
 }
 
-/// Runs a node: opens the feed of a database and answers readers at an address, without end. If it has a source, a
+/// Runs a node: opens the feed of a database and answers readers at an address, without end. It listens once the
+/// records of the database are loaded. Until their lists are checked, readers get 503. If the node has a source, a
 /// client that has the token can make it fetch a release from there. It prints a line for each request, at once. The
 /// first fault is reported: of the source (`Host`, `Read`, `Token`), of the site file (`Read`, `Site`), of the
-/// database, of the address (`Bind`), of the sockets (`Poll`), of the print, and of a database whose file is gone
-/// (`Device`). A host that has no address yet is reported too (`Resolve`), and the node runs. If there are too few
-/// descriptors for all clients, that is reported (`Descriptors`), and the node answers fewer at a time, or does not
-/// start with fewer than 16. A check answers no reader, and prints `ok` if all is well.
+/// database, of the address (`Bind`), of a list (`Damaged`), of the sockets (`Poll`), of the print, and of a database
+/// whose file is gone (`Device`). A host that has no address yet is reported too (`Resolve`), and the node runs. If
+/// there are too few descriptors for all clients, that is reported (`Descriptors`), and the node answers fewer at a
+/// time, or does not start with fewer than 16. A check answers no reader, and prints `ok` if all is well.
 pub fn run_node<D: Database, O: Write, F: Write + Drop>(
     rt: &HostRuntime,
     database: &D,
@@ -118,7 +121,7 @@ fn token_of<F: Write + Drop>(
     }
 }
 
-// Opens the feed and answers readers, until the sockets or a print fail. A check closes it again.
+// Opens the feed and answers readers, until the sockets or a print fail.
 fn run_server<D: Database, O: Write, F: Write + Drop>(
     rt: &HostRuntime,
     database: &D,
@@ -133,30 +136,61 @@ fn run_server<D: Database, O: Write, F: Write + Drop>(
         Ok(site) => site,
         Err(status) => return status,
     };
-    let feed = match open_feed(rt.alloc(), database, faults) {
-        Ok(feed) => feed,
-        Err(status) => return status,
-    };
-    let mut server = match listen(rt, hosting, faults) {
-        Ok(server) => server,
-        Err(status) => {
-            close_keeper(database, feed.restart(), faults);
-            return status;
-        }
-    };
     if hosting.is_check {
-        close_keeper(database, feed.restart(), faults);
-        return faults.check_print(announce(out, "ok"), DONE);
+        return check_server(rt, database, hosting, out, faults);
     }
+    let Ok(state) = NodeState::new(rt.alloc()) else {
+        return report_end(End::Memory, database.name(), faults);
+    };
     let setup = NodeSetup {
         source,
         addrs,
         site,
         version: first_line(hosting.version),
         log: hosting.log,
+        state: &state,
     };
-    let (end, keeper) = serve(rt, database.name(), feed, &mut server, setup, out);
-    end_node(database, keeper, end, faults)
+    match begin(rt, database, hosting, faults) {
+        Ok((opening, server)) => serve(rt, database, opening, server, setup, out, faults),
+        Err(status) => status,
+    }
+}
+
+// Opens the feed, listens at the address, closes both, and reports that all is well.
+fn check_server<D: Database, O: Write, F: Write + Drop>(
+    rt: &HostRuntime,
+    database: &D,
+    hosting: Hosting<'_>,
+    out: &mut O,
+    faults: &mut Faults<F>,
+) -> u8 {
+    let feed = match open_feed(rt.alloc(), database, faults) {
+        Ok(feed) => feed,
+        Err(status) => return status,
+    };
+    let listening = listen(rt, hosting, faults);
+    close_keeper(database, feed.restart(), faults);
+    match listening {
+        Ok(_server) => faults.check_print(announce(out, "ok"), DONE),
+        Err(status) => status,
+    }
+}
+
+// Loads the records of a database, and listens at the address.
+fn begin<D: Database, F: Write + Drop>(
+    rt: &HostRuntime,
+    database: &D,
+    hosting: Hosting<'_>,
+    faults: &mut Faults<F>,
+) -> Result<(Opening<D::Keeper>, Server), u8> {
+    let opening = begin_feed(rt.alloc(), database, faults)?;
+    match listen(rt, hosting, faults) {
+        Ok(server) => Ok((opening, server)),
+        Err(status) => {
+            close_keeper(database, opening.into_keeper(), faults);
+            Err(status)
+        }
+    }
 }
 
 // Returns the number of the version without what it was proved with.
@@ -167,22 +201,30 @@ fn first_line(version: &str) -> &str {
     }
 }
 
-// Answers readers from the feed of the database file at a path. Returns why the node ends, and the keeper of the feed.
-fn serve<K: Keep + Drop, O: Write>(
+// Opens the feed of a database and answers readers from it. Reports why the node ends, and returns the exit status.
+fn serve<D: Database, O: Write, F: Write + Drop>(
     rt: &HostRuntime,
-    path: &str,
-    feed: Feed<K>,
-    server: &mut Server,
+    database: &D,
+    opening: Opening<D::Keeper>,
+    mut server: Server,
     setup: NodeSetup<'_>,
     out: &mut O,
-) -> (End, K) {
-    let file = match WatchedFile::new(rt, path) {
+    faults: &mut Faults<F>,
+) -> u8 {
+    let file = match WatchedFile::new(rt, database.name()) {
         Ok(file) => file,
-        Err(_) => return (End::FileGone, feed.restart()),
+        Err(_) => return report_end(End::FileGone, database.name(), faults),
     };
-    match announce(out, "listening") {
-        Ok(()) => run(rt, feed, server, setup, file, out),
-        Err(error) => (End::Print(error), feed.restart()),
+    if let Err(error) = announce(out, "listening") {
+        return end_node(database, opening.into_keeper(), End::Print(error), faults);
+    }
+    match start(rt, opening, &mut server, &setup, out) {
+        Ok(feed) => {
+            let (end, keeper) = run(rt, feed, &mut server, setup, file, out);
+            end_node(database, keeper, end, faults)
+        }
+        Err(StartFault::Ended(end)) => report_end(end, database.name(), faults),
+        Err(StartFault::Keeper(cause)) => report_keeper(faults, cause, database.name()),
     }
 }
 

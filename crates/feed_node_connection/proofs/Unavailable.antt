@@ -17,7 +17,7 @@ is_field name value some token passes = record { name = (some, AllPass-from_list
 
 abbrev fields : List Field
 fields =
-    field (codes "Content-Type") (codes "text/plain; charset=utf-8") ∷ field (codes "Content-Length") (codes "7") ∷ field (codes "Retry-After") (codes "1") ∷
+    field (codes "Content-Type") (codes "text/plain; charset=utf-8") ∷ field (codes "Content-Length") (codes "12") ∷ field (codes "Retry-After") (codes "1") ∷
     field (codes "Connection") (codes "close") ∷ []
 
 abbrev head : ResponseHead
@@ -32,13 +32,13 @@ valid = record {
   fields = All-from_recursion IsField fields (
     is_field (codes "Content-Type") (codes "text/plain; charset=utf-8") (omega arith) refl refl,
     (
-      is_field (codes "Content-Length") (codes "7") (omega arith) refl refl,
+      is_field (codes "Content-Length") (codes "12") (omega arith) refl refl,
       (is_field (codes "Retry-After") (codes "1") (omega arith) refl refl, (is_field (codes "Connection") (codes "close") (omega arith) refl refl, tt)),
     ),
   );
 }
 
-printed : unavailable ≡ print_response head ++ codes "Memory\n"
+printed : unavailable ≡ print_response head ++ codes "Unavailable\n"
 unfolding print_response
 printed = refl
 
@@ -47,4 +47,4 @@ unfolding httparse_on_literals
 closes = refl
 
 pub unavailable_says : SaysWhetherItKeeps false unavailable
-unavailable_says = record { head = head; rest = codes "Memory\n"; reads = (valid, printed); says = closes }
+unavailable_says = record { head = head; rest = codes "Unavailable\n"; reads = (valid, printed); says = closes }

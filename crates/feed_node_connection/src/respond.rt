@@ -9,7 +9,7 @@ use std::alloc::{AllocError, Global};
 /// The reply if the responder makes none (RFC 9110, section 15.6.4).
 pub const UNAVAILABLE: &[u8] =
     b"HTTP/1.1 503 Service Unavailable\r\nContent-Type: text/plain; charset=utf-8\r\n\
-    Content-Length: 7\r\nRetry-After: 1\r\nConnection: close\r\n\r\nMemory\n";
+    Content-Length: 12\r\nRetry-After: 1\r\nConnection: close\r\n\r\nUnavailable\n";
 
 /// The interim reply to a client that waits before it sends the body of a request (RFC 9110, section 15.2.1).
 pub const CONTINUE: &[u8] = b"HTTP/1.1 100 Continue\r\n\r\n";
@@ -22,7 +22,7 @@ pub const BODY_LIMIT: usize = 8_192;
 pub enum RespondFault {
     /// Memory ran out.
     Memory,
-    /// The node has too much to do. The client may send its request again.
+    /// The node has too much to do, or does not serve yet. The client may send its request again.
     Busy,
 }
 
@@ -129,7 +129,7 @@ pub(crate) fn unavailable(alloc: Global, fault: RespondFault) -> Result<Reply, A
         bytes: Vec::from_slice(alloc, UNAVAILABLE)?,
         summary: ReplySummary {
             status: 503,
-            body_len: 7,
+            body_len: 12,
             is_streamed: false,
             fault: Some(fault),
         },

@@ -35,6 +35,9 @@ const EVENTS: usize = 1_024;
 // The most connections that one turn accepts.
 const ACCEPTS: usize = 64;
 
+// The most microseconds for which connections are served before all are closed.
+const DRAIN_MICROS: u64 = 250_000;
+
 // The most bytes of one read.
 const READ_BYTES: usize = 16_384;
 
@@ -68,6 +71,8 @@ pub struct Server {
     now: u64,
     /// The microseconds at which the clocks of the connections were advanced last.
     last_tick: u64,
+    /// Whether new connections are accepted. Otherwise they wait.
+    is_accepting: bool,
     /// Whether connections may wait to be accepted that no event will report.
     may_accept: bool,
     /// Whether work is left after the last turn, so that the next one does not block.
@@ -98,6 +103,7 @@ impl Server {
             start,
             now: 0,
             last_tick: 0,
+            is_accepting: true,
             may_accept: false,
             has_more_work: false,
         })
@@ -200,6 +206,63 @@ impl Server {
         outcome
     }
 
+    /// Runs turns until all connections are closed, for at most 250 ms, and closes those that are left. New connections
+    /// wait meanwhile, and the next turn accepts them: it may be one of another node.
+    pub fn drain<K: Keep + Drop, S: FeedRespond + Drop, L: Log>(
+        &mut self,
+        rt: &impl Clock,
+        node: &mut ServedNode<'_, K, S>,
+        events: &mut Events,
+        log: &mut L,
+    ) -> io::Result<()>
+        ensures { IsLater S.wanted S.replies node.old node.new }
+    {
+        self.set_accepting(false);
+        let outcome = self.run_last_turns(rt, node, events, log);
+        self.close_all(node, log);
+        self.set_accepting(true);
+        outcome
+    }
+
+    fn set_accepting(&mut self, is_accepting: bool) {
+        self.is_accepting = is_accepting;
+        self.may_accept = is_accepting;
+        self.has_more_work = is_accepting;
+    }
+
+    // Runs turns until all connections are closed, for at most 250 ms.
+    fn run_last_turns<K: Keep + Drop, S: FeedRespond + Drop, L: Log>(
+        &mut self,
+        rt: &impl Clock,
+        node: &mut ServedNode<'_, K, S>,
+        events: &mut Events,
+        log: &mut L,
+    ) -> io::Result<()>
+        ensures { IsLater S.wanted S.replies node.old node.new }
+    {
+        let end = self.now.saturating_add(DRAIN_MICROS);
+        for _ in 0..u64::MAX {
+            if node.table().len() == 0 || end <= self.now {
+                return Ok(());
+            }
+            self.run_turn(rt, node, events, log)?;
+        }
+        Ok(())
+    }
+
+    // Closes all connections.
+    fn close_all<K: Keep + Drop, S: FeedRespond + Drop, L: Log>(
+        &self,
+        node: &mut ServedNode<'_, K, S>,
+        log: &mut L,
+    )
+        ensures { IsLater S.wanted S.replies node.old node.new }
+    {
+        for _ in 0..node.table().len() {
+            node.make_room(self.now, log);
+        }
+    }
+
     fn run_turn<K: Keep + Drop, S: FeedRespond + Drop, L: Log>(
         &mut self,
         rt: &impl Clock,
@@ -249,7 +312,7 @@ impl Server {
         ensures { IsLater S.wanted S.replies node.old node.new }
     {
         if token == LISTENER {
-            self.may_accept = true;
+            self.may_accept = self.is_accepting;
         } else {
             node.mark_ready(token.0);
         }

@@ -3,3 +3,4 @@ pub mod Reports
 pub mod Responders
 pub mod Agreement
 pub mod Runs
+pub mod Starting

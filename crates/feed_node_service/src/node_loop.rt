@@ -1,5 +1,5 @@
 //! Runs a node: the loop that ends only when its sockets, its log or the file of its database fail.
-ghost use Rattle.std.specs.Prelude.{◌≡◌, IfOk};
+ghost use Rattle.std.specs.Prelude.{◌≡◌};
 ghost use Rattle.feed_node_table.specs.Tables.{size_of};
 ghost use Rattle.feed_node_service.specs.Runs.{HasGoneOn, IsLaterNode};
 
@@ -17,7 +17,6 @@ use feed_node_table::Table;
 use feed_releases::Feed;
 use feed_resolver_tag::Site;
 use mio::Events;
-use std::alloc::{AllocError, Global};
 use std::io;
 use std::io::Write;
 use std::time::Instant;
@@ -34,7 +33,8 @@ pub enum End {
     FileGone,
 }
 
-/// The setup of a node, beside its feed, its server and the file of its database.
+/// The setup of a node, beside its feed, its server and the file of its database. The start and the run of a node have
+/// the same, so its counters begin with the start.
 #[derive(Drop)]
 pub struct NodeSetup<'a> {
     /// The server that releases are fetched from, and its addresses.
@@ -45,6 +45,7 @@ pub struct NodeSetup<'a> {
     /// The version of the program.
     pub version: &'a str,
     pub log: LogSettings,
+    pub state: &'a NodeState,
 }
 
 /// Answers readers from a feed, until the poll or a print fails, or the file of the database is gone as a fetch stores
@@ -60,22 +61,13 @@ pub fn run<K: Keep + Drop, O: Write>(
 ) -> (End, K)
     ensures { HasGoneOn feed result }
 {
-    let Ok((state, table)) = allocate(rt.alloc(), server.clients()) else {
+    let Ok(table) = Table::new(rt.alloc(), server.clients()) else {
         return (End::Memory, feed.restart());
     };
-    run_over(rt, feed, server, setup, file, out, &state, table)
+    run_over(rt, feed, server, setup, file, out, table)
 }
 
-// Allocates the state that the parts of a node share, and a table without connections.
-fn allocate(alloc: Global, clients: usize) -> Result<(NodeState, Table<Socket>), AllocError>
-    ensures { IfOk result (λ made. size_of made.1 ≡ 0) }
-{
-    let state = NodeState::new(alloc)?;
-    let table = Table::new(alloc, clients)?;
-    Ok((state, table))
-}
-
-// Runs a node over its state and its table.
+// Runs a node over its table.
 fn run_over<'a, K: Keep + Drop, O: Write>(
     rt: &'a HostRuntime,
     feed: Feed<K>,
@@ -83,12 +75,12 @@ fn run_over<'a, K: Keep + Drop, O: Write>(
     setup: NodeSetup<'a>,
     file: WatchedFile<'a>,
     out: &'a mut O,
-    state: &'a NodeState,
     table: Table<Socket>,
 ) -> (End, K)
     requires { size_of table ≡ 0 }
     ensures { HasGoneOn feed result }
 {
+    let state = setup.state;
     let responder = FeedResponder {
         state,
         site: setup.site,

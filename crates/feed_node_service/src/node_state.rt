@@ -2,10 +2,13 @@
 ghost use Rattle.std.specs.Prelude.{IfOk, IfSome};
 ghost use Rattle.feed_http_heads.specs.Options.{SaysWhetherItKeeps};
 ghost use Rattle.feed_node_service.specs.Reports.{IsSomeReply};
+ghost use Rattle.feed_node_service.specs.Starting.{IsSomeStartingReply};
 
 use crate::counts::NodeCounts;
 use feed_metrics::{Gauges, ReleaseTime};
-use feed_monitoring::{Exchange, LogPolicy, ReportReply, record_exchange, respond_about_node};
+use feed_monitoring::{
+    Exchange, LogPolicy, ReportReply, record_exchange, respond_about_node, respond_at_start,
+};
 use feed_node_server::CloseCause;
 use std::alloc::{AllocError, Global};
 use std::cell::{Cell, RefCell};
@@ -109,6 +112,39 @@ impl NodeState {
                 };
                 respond_about_node(alloc, bytes, persists, &counts.metrics, &gauges)
             }
+            Err(_) => Err(AllocError),
+        }
+    }
+
+    /// Returns the reply of a node that starts to a request for a report, if its client may have it. Returns none for
+    /// any other request.
+    ///
+    /// # Errors
+    ///
+    /// Running out of memory.
+    pub fn starting_report(
+        &self,
+        alloc: Global,
+        is_local: bool,
+        is_open: bool,
+        bytes: &[u8],
+        persists: bool,
+        version: &[u8],
+    ) -> Result<Option<ReportReply>, AllocError>
+        ensures value { IfOk result (IsSomeStartingReply is_local is_open bytes.now persists) }
+        ensures says { IfOk result (λ found. IfSome found (λ reply. SaysWhetherItKeeps persists reply.bytes.items)) }
+    {
+        match self.counts.try_borrow() {
+            Ok(counts) => respond_at_start(
+                alloc,
+                is_local,
+                is_open,
+                bytes,
+                persists,
+                &counts.metrics,
+                version,
+                counts.open,
+            ),
             Err(_) => Err(AllocError),
         }
     }

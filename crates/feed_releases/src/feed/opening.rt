@@ -72,8 +72,8 @@ impl<K: Keep + Drop> Opening<K> {
         keeper
     }
 
-    /// Reads at most 131,072 bytes of a complete file, or ends its check, which builds its index. `begin` and steps
-    /// until the feed is open have the results of `Feed::open`.
+    /// Reads at most 131,072 bytes of a complete file, or ends its check. `begin` and steps until the feed is open have
+    /// the results of `Feed::open`.
     ///
     /// # Errors
     ///

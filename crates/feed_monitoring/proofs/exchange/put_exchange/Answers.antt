@@ -1,4 +1,4 @@
-use Rattle.std.proofs.Common.{refl, inl, inr, []}
+use Rattle.std.proofs.Common.{refl, inl, []}
 use Rattle.std.proofs.lemmas.Result.{on_ok_weaker}
 use Rattle.feed_monitoring.proofs.exchange.put_exchange.Goals as goal
 

@@ -1,4 +1,3 @@
-use Rattle.std.proofs.Common.{ap, ◌∙◌}
 use Rattle.feed_monitoring.proofs.ReportHeads.{report_written}
 use Rattle.feed_monitoring.proofs.report_text.report_bytes.Goals as goal
 

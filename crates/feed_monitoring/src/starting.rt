@@ -1,0 +1,44 @@
+//! The replies about a node that does not answer readers yet.
+ghost use Rattle.std.specs.Prelude.{IfOk, IfSome};
+ghost use Rattle.feed_http_heads.specs.Options.{SaysWhetherItKeeps};
+ghost use Rattle.feed_monitoring.specs.Starting.{IsStartingReply};
+
+use crate::report::gets_report;
+use crate::report_reply::respond_about_node;
+use crate::report_text::ReportReply;
+use feed_metrics::{Gauges, Metrics};
+use std::alloc::{AllocError, Global};
+
+/// Returns the reply of a node that starts, if its client may have reports and the request is for one: the metrics, or
+/// the health of a node without an active release, which is alive and not ready. Returns none for any other request.
+/// `is_local`, `is_open` and `keeps` are those of `gets_report` and `respond_about_node`.
+///
+/// # Errors
+///
+/// Running out of memory.
+pub fn respond_at_start(
+    alloc: Global,
+    is_local: bool,
+    is_open: bool,
+    bytes: &[u8],
+    keeps: bool,
+    metrics: &Metrics,
+    version: &[u8],
+    open: u64,
+) -> Result<Option<ReportReply>, AllocError>
+    ensures value { IfOk result (IsStartingReply is_local is_open metrics.now bytes.now keeps) }
+    ensures says { IfOk result (λ found. IfSome found (λ reply. SaysWhetherItKeeps keeps reply.bytes.items)) }
+{
+    if !gets_report(is_local, is_open, bytes) {
+        return Ok(None);
+    }
+    let gauges = Gauges {
+        version,
+        open,
+        held_bytes: 0,
+        releases: &[],
+        since_switch: None,
+    };
+    let found = respond_about_node(alloc, bytes, keeps, metrics, &gauges)?;
+    Ok(found)
+}

@@ -1,0 +1,41 @@
+-- A node that does not answer readers yet.
+use Rattle.std.specs.Prelude.{◌≡◌, ℕ, Bool, List, Option, Some}
+use Rattle.feed_model.specs.Sound.{IsSound}
+use Rattle.feed_model.specs.declared.keep_fault.KeepFault.TheVariants.{Damaged}
+use Rattle.feed_releases.specs.Openings.{opening_keeper}
+use Rattle.feed_releases.specs.declared.feed.opening.Opening.{Opening}
+use Rattle.feed_node_service.specs.declared.node_loop.End.{End}
+use Rattle.feed_node_service.specs.declared.start.StartFault.{StartFault}
+use Rattle.feed_node_service.specs.declared.start.StartFault.TheVariants.{Ended, Keeper}
+use Rattle.feed_keep.specs.declared.keep.Keep.{Ghosts}
+use Rattle.feed_metrics.specs.Texts.{MetricsValue}
+use Rattle.feed_model.specs.History.{History}
+use Rattle.feed_monitoring.specs.Starting.{IsStartingReply}
+use Rattle.feed_monitoring.specs.declared.report_text.ReportReply.{ReportReply}
+use Rattle.feed_node_machine.specs.Nodes.{IsLater}
+use Rattle.feed_node_machine.specs.Rules.{Terms}
+use Rattle.feed_node_machine.specs.declared.machine.NodeMachine.{NodeMachine}
+use Rattle.feed_node_server.specs.declared.socket.Socket.{Socket}
+use Rattle.feed_node_service.specs.declared.starting_responder.StartingResponder.{StartingResponder}
+
+-- the reply about a node that starts, by some counters
+abbrev pub IsSomeStartingReply : Bool → Bool → List ℕ → Bool → Option ReportReply → Type 0
+IsSomeStartingReply is_local is_open bytes keeps found = (metrics : MetricsValue) × IsStartingReply is_local is_open metrics bytes keeps found
+
+-- the replies of a node that starts: those about itself. To any other request its responder makes none, so the reply is
+-- `unavailable`
+abbrev pub IsStartingText : StartingResponder → Terms → History → List ℕ → List ℕ → Bool → List ℕ → Type 0
+IsStartingText responder terms h bytes body keeps text =
+    (reply : ReportReply) × IsSomeStartingReply terms.is_local responder.has_open_reports bytes keeps (Some reply) × (text ≡ reply.bytes.items)
+
+-- each history that the node had continues with some events to one that it has
+abbrev pub IsLaterStart : {K : Type 0} {k : Ghosts K} → NodeMachine Socket K StartingResponder k → NodeMachine Socket K StartingResponder k → Type 0
+IsLaterStart old new = IsLater (λ responder head. 0) IsStartingText old new
+
+-- the node ends as one that answers readers does
+abbrev pub IsEnd : StartFault → Type 0
+IsEnd fault = (cause : End) × (fault ≡ Ended cause)
+
+-- a node may end so while this feed is opened: as damaged only if no feed has the content of its keeper
+abbrev pub IsStartFault : {K : Type 0} {k : Ghosts K} → Opening K k → StartFault → Type 0
+IsStartFault {k = k} opening fault = fault ≡ Keeper Damaged → k.clean (opening_keeper opening) → ¬ (IsSound (k.content (opening_keeper opening)))

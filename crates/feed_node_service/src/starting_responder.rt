@@ -1,0 +1,59 @@
+//! The replies of a node whose feed is not open yet: reports of itself, and no others.
+use crate::node_state::NodeState;
+use feed_http_heads::Request;
+use feed_keep::Keep;
+use feed_node_connection::{IncomingRequest, Reply, RespondFault};
+use feed_node_machine::{FeedRespond, Occasion};
+use feed_releases::Feed;
+use std::alloc::{AllocError, Global};
+
+/// A responder that makes replies about the node alone, as of one without an active release. To any other request it
+/// makes none, so the client gets 503 and may try again.
+#[derive(Drop)]
+pub struct StartingResponder<'a> {
+    pub state: &'a NodeState,
+    /// The version of the program.
+    pub version: &'a [u8],
+    /// Whether clients on other machines may have reports of the node, too.
+    pub has_open_reports: bool,
+}
+
+impl<'a> FeedRespond for StartingResponder<'a> {
+    ghost use Rattle.feed_node_service.specs.Starting.{IsStartingText};
+
+    ghost wanted = { λ responder head. 0 };
+
+    ghost replies = { IsStartingText };
+
+    fn body_len(&self, _request: &Request<'_>) -> usize {
+        0
+    }
+
+    fn respond<K: Keep + Drop>(
+        &self,
+        alloc: Global,
+        occasion: &Occasion<'_, '_, K>,
+        request: &IncomingRequest<'_>,
+    ) -> Result<Reply, RespondFault> {
+        let found = self.state.starting_report(
+            alloc,
+            occasion.is_local,
+            self.has_open_reports,
+            request.head,
+            request.persists,
+            self.version,
+        )?;
+        match found {
+            Some(reply) => Ok(Reply::new(reply.bytes, reply.status, reply.body_len)),
+            None => Err(RespondFault::Busy),
+        }
+    }
+
+    fn keep_releases<K: Keep + Drop>(
+        &mut self,
+        _alloc: Global,
+        _feed: &Feed<K>,
+    ) -> Result<bool, AllocError> {
+        Ok(false)
+    }
+}
