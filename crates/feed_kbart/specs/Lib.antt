@@ -20,3 +20,4 @@ pub mod Files
 pub mod Faults
 pub mod Kept
 pub mod ListRecords
+pub mod Retired

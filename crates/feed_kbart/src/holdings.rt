@@ -10,6 +10,7 @@ use crate::file_rows::FileRows;
 use crate::header::Columns;
 use crate::identifiers::isbn_number;
 use crate::index::Index;
+use crate::retired::RetiredHoldings;
 use crate::row::Row;
 use crate::row_store::RowStore;
 use csv::ByteRecord;
@@ -145,5 +146,13 @@ impl Holdings {
         ensures { result.now ≡ self.now.aside }
     {
         &self.aside
+    }
+
+    /// Ends the use of the holdings, so that they can be freed in portions. All rows are left.
+    pub fn retire(self) -> RetiredHoldings
+        ensures { length self.rows ≤ result }
+    {
+        let Holdings { rows, index, .. } = self;
+        RetiredHoldings::of(rows, index)
     }
 }
