@@ -189,6 +189,14 @@ impl Segments {
         self.count = self.count.saturating_add(count);
     }
 
+    /// Returns the parts by value, in the order of their places. Does not allocate.
+    pub fn into_parts(self) -> Vec<Part>
+        ensures { shown_parts result.items ≡ self.parts }
+    {
+        let Segments { parts, count: _ } = self;
+        parts
+    }
+
     /// Returns a reader of the bytes, in the order of their places. Does not allocate.
     pub fn reader(&self) -> SegmentReader<'_>
         ensures bytes { result ≡ joined self.now.parts }

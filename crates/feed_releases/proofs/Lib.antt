@@ -9,6 +9,7 @@ mod Answering
 mod Reopened
 mod Failed
 mod Earlier
+mod Dropping
 mod ReadAhead
 pub mod Inserting
 pub mod ActivesReported

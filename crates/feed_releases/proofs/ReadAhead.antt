@@ -18,13 +18,13 @@ use Rattle.feed_model.specs.Parts.{AgreesIn, AreWithin}
 use Rattle.feed_parts.specs.Segments.{HasRun}
 use Rattle.feed_parts.proofs.From.{slice_get-drop}
 use Rattle.feed_parts.proofs.Places.{byte_at_from, cases_option, first_some, none_after, some_is, some_not_none}
-use Rattle.feed_releases.specs.declared.running.Running.{Running}
+use Rattle.feed_releases.specs.declared.file_check.FileCheck.{FileCheck}
 use Rattle.feed_model.specs.Change.{merged}
 use Rattle.feed_releases.specs.declared.standing.Standing.{Standing}
 use Rattle.feed_releases.specs.declared.standing.Standing.TheVariants as standings
 use Rattle.feed_releases.specs.Standing.{IsStandingOf, record_after}
 use Rattle.feed_releases.specs.ReleaseValue.{ReleaseValue}
-use Rattle.feed_releases.specs.Running.{HasRead, IsRunning, IsUnion, unread_from, unread_of}
+use Rattle.feed_releases.specs.FileCheck.{HasRead, IsCheckOf, IsUnion, unread_from, unread_of}
 use Rattle.feed_releases.specs.Work.{unread_at, unread_in}
 use Rattle.feed_releases.specs.declared.ahead.Ahead.{Ahead}
 use Rattle.feed_releases.specs.Ahead.{IsReadAt}
@@ -91,13 +91,13 @@ text_on n parts kept first bytes text union is = record {
 }
 
 -- the law: a check continues beside the bytes of a piece
-pub running_on : (parts kept : List Part) (first : ℕ) (bytes : List ℕ) (running : Running) → IsUnion parts kept first bytes → IsRunning kept running → IsRunning parts running
+pub running_on : (parts kept : List Part) (first : ℕ) (bytes : List ℕ) (running : FileCheck) → IsUnion parts kept first bytes → IsCheckOf kept running → IsCheckOf parts running
 running_on parts kept first bytes running union running_was = ∥∥₁_map running_was (λ (was : HasRead kept running).
     record { text = was.text; is = text_on running.next parts kept first bytes was.text union was.is; check = was.check })
 
 -- the bytes from the place on continue the text
-pub running_more : (parts : List Part) (running further : Running) (bytes : List ℕ) → IsRunning parts running → HasRun parts running.next bytes → further.next ≡ running.next + length bytes
-    → ((text : List ℕ) → IsCheckOfList text running.check → IsCheckOfList (text ++ bytes) further.check) → IsRunning parts further
+pub running_more : (parts : List Part) (running further : FileCheck) (bytes : List ℕ) → IsCheckOf parts running → HasRun parts running.next bytes → further.next ≡ running.next + length bytes
+    → ((text : List ℕ) → IsCheckOfList text running.check → IsCheckOfList (text ++ bytes) further.check) → IsCheckOf parts further
 running_more parts running further bytes running_was run next step = ∥∥₁_map running_was (λ (was : HasRead parts running). record {
   text = was.text ++ bytes;
   is = rw next (text_more running.next parts was.text bytes was.is run);
@@ -113,8 +113,8 @@ read_prop text (Err faults.Read) = Prim.hlevel props
 read_prop text (Err faults.TooLong) = Prim.hlevel props
 
 -- a check that received the whole file has its text
-pub read_whole : (size : ℕ) (parts : List Part) (text : List ℕ) (running : Running) (outcome : Result HoldingsValue KbartFault) → IsText size parts text → running.next ≡ size
-    → IsRunning parts running → ((text : List ℕ) → IsCheckOfList text running.check → IsReadOf text outcome) → IsReadOf text outcome
+pub read_whole : (size : ℕ) (parts : List Part) (text : List ℕ) (running : FileCheck) (outcome : Result HoldingsValue KbartFault) → IsText size parts text → running.next ≡ size
+    → IsCheckOf parts running → ((text : List ℕ) → IsCheckOfList text running.check → IsReadOf text outcome) → IsReadOf text outcome
 read_whole size parts text running outcome is next running_was finish = ∥∥₁_elim running_was (read_prop text outcome) (λ (was : HasRead parts running).
     let same : was.text ≡ text = one_text size parts was.text text (subst (λ (n : ℕ). IsText n parts was.text) next was.is) is in
     subst (λ (t : List ℕ). IsReadOf t outcome) same (finish was.text was.check))
@@ -162,8 +162,8 @@ more_so parts place (x ∷ xs) false has missing is =
     (λ more. some_is (byte_in parts place) x here, λ some. refl)
 
 -- the check of a release continues in the list of releases, beside the new parts of a piece
-pub read_at : (rs : List ReleaseValue) (at : ℕ) (r : ReleaseValue) (running : Option Running) → r ≡ get_or rs at r → IfSome running (IsReadAt rs at) → IfSome running (IsRunning r.kept.parts)
-read_at rs at r running here read = if_some running (IsReadAt rs at) (IsRunning r.kept.parts) read (λ a is. subst (λ (y : ReleaseValue). IsRunning y.kept.parts a) (sym here) (is r))
+pub read_at : (rs : List ReleaseValue) (at : ℕ) (r : ReleaseValue) (running : Option FileCheck) → r ≡ get_or rs at r → IfSome running (IsReadAt rs at) → IfSome running (IsCheckOf r.kept.parts)
+read_at rs at r running here read = if_some running (IsReadAt rs at) (IsCheckOf r.kept.parts) read (λ a is. subst (λ (y : ReleaseValue). IsCheckOf y.kept.parts a) (sym here) (is r))
 
 get_or-set : (rs : List ReleaseValue) (at : ℕ) (x d : ReleaseValue) → at < length rs → get_or (set rs at x) at d ≡ x
 get_or-set [] at x d within = absurd (omega (arith, within))
@@ -175,11 +175,11 @@ parts_after new standings.Partial r = refl
 parts_after new (standings.Bad why) r = refl
 parts_after new (standings.Good holdings) r = refl
 
-pub read_after : (rs : List ReleaseValue) (at : ℕ) (r x : ReleaseValue) (new : List Part) (standing : Standing) (running : Option Running) → at < length rs
-    → x.kept ≡ record_after new standing r.kept → IfSome running (IsRunning (merged r.kept.parts new)) → IfSome running (IsReadAt (set rs at x) at)
-read_after rs at r x new standing running within taken read = if_some running (IsRunning (merged r.kept.parts new)) (IsReadAt (set rs at x) at) read (λ a is d.
+pub read_after : (rs : List ReleaseValue) (at : ℕ) (r x : ReleaseValue) (new : List Part) (standing : Standing) (running : Option FileCheck) → at < length rs
+    → x.kept ≡ record_after new standing r.kept → IfSome running (IsCheckOf (merged r.kept.parts new)) → IfSome running (IsReadAt (set rs at x) at)
+read_after rs at r x new standing running within taken read = if_some running (IsCheckOf (merged r.kept.parts new)) (IsReadAt (set rs at x) at) read (λ a is d.
     let parts : x.kept.parts ≡ merged r.kept.parts new = ap (λ (k : Record). k.parts) taken ∙ parts_after new standing r.kept in
-    subst (λ (y : ReleaseValue). IsRunning y.kept.parts a) (sym (get_or-set rs at x d within)) (rw parts is))
+    subst (λ (y : ReleaseValue). IsCheckOf y.kept.parts a) (sym (get_or-set rs at x d within)) (rw parts is))
 
 pub if_ok : {A E : Type 0} (o : Result A E) (P Q : A → Type 0) → IfOk o P → ((a : A) → P a → Q a) → IfOk o Q
 if_ok (Ok a) P Q p f = f a p
@@ -193,7 +193,7 @@ inside size place parts within some = elim (cases_lt place size) [
 ]
 
 -- a check that reads no further in a complete file read all of it
-pub read_all : (size : ℕ) (parts : List Part) (running : Running) → AreWithin size parts → missing_below (byte_in parts) size ≡ 0 → IsRunning parts running
+pub read_all : (size : ℕ) (parts : List Part) (running : FileCheck) → AreWithin size parts → missing_below (byte_in parts) size ≡ 0 → IsCheckOf parts running
     → (IsSome (byte_in parts running.next) → ⊥) → running.next ≡ size
 read_all size parts running within whole running_was none = ∥∥₁_elim running_was (Prim.hlevel props) (λ (was : HasRead parts running).
     let low : size ≤ running.next = elim (cases_lt running.next size) [
@@ -209,9 +209,9 @@ read_all size parts running within whole running_was none = ∥∥₁_elim runni
     omega (arith, low, high))
 
 -- so its outcome is that of the file
-pub read_to_end : (size : ℕ) (parts : List Part) (running : Running) (outcome : Result HoldingsValue KbartFault) → IsRecordCheck size parts (Some running)
+pub read_to_end : (size : ℕ) (parts : List Part) (running : FileCheck) (outcome : Result HoldingsValue KbartFault) → IsRecordCheck size parts (Some running)
     → (IsSome (byte_in parts running.next) → ⊥)
-    → ((ps : List Part) (text : List ℕ) → IsRunning ps running → IsText running.next ps text → IsReadOf text outcome) → IsJudged size parts outcome
+    → ((ps : List Part) (text : List ℕ) → IsCheckOf ps running → IsText running.next ps text → IsReadOf text outcome) → IsJudged size parts outcome
 read_to_end size parts running outcome is none finish =
     let next = read_all size parts running is.within is.whole is.reads none in
     let text = joined_text size parts is.within ((none_missing (byte_in parts) size).0 is.whole) in
@@ -240,7 +240,7 @@ some_unread None n some = absurd (omega (arith, some))
 some_unread (Some x) n some = refl
 
 -- after a window there is less to read
-pub read_less : (r : Record) (running further : Running) → AreWithin r.size r.parts → (IsSome (byte_in r.parts running.next) → running.next < further.next)
+pub read_less : (r : Record) (running further : FileCheck) → AreWithin r.size r.parts → (IsSome (byte_in r.parts running.next) → running.next < further.next)
     → (byte_in r.parts running.next ≡ None → further.next ≡ running.next) → 0 < unread_of r further → unread_of r further < unread_of r running
 read_less r running further within some none more = by (cases_option (byte_in r.parts running.next))
   where
@@ -258,7 +258,7 @@ read_less r running further within some none more = by (cases_option (byte_in r.
         )
 
 -- there is something to read exactly if the next byte is stored
-pub more_unread : (r : Record) (running : Running) (more : Bool) → AreWithin r.size r.parts → IsTrue more ↔ IsSome (byte_in r.parts running.next) → IsTrue more ↔ (0 < unread_of r running)
+pub more_unread : (r : Record) (running : FileCheck) (more : Bool) → AreWithin r.size r.parts → IsTrue more ↔ IsSome (byte_in r.parts running.next) → IsTrue more ↔ (0 < unread_of r running)
 more_unread r running more within is = (
   λ t.
       let here = is.0 t in
@@ -278,8 +278,8 @@ unread_here rs ahead r within here =
     value_at (x ∷ xs) (suc i) d lt = value_at xs i d (omega (arith, lt))
 
 -- a further window of a complete file
-pub read_further : (size : ℕ) (parts : List Part) (was : Option Running) (running further : Running) → was ≡ Some running → IsRecordCheck size parts was
-    → (IsRunning parts running → IsRunning parts further) → IsSome (byte_in parts running.next) → (IsSome (byte_in parts running.next) → running.next < further.next)
+pub read_further : (size : ℕ) (parts : List Part) (was : Option FileCheck) (running further : FileCheck) → was ≡ Some running → IsRecordCheck size parts was
+    → (IsCheckOf parts running → IsCheckOf parts further) → IsSome (byte_in parts running.next) → (IsSome (byte_in parts running.next) → running.next < further.next)
     → IsRecordCheck size parts (Some further) × (to_read size (Some further) < to_read size was)
 read_further size parts was running further is check reads some more =
     let checked = subst (IsRecordCheck size parts) is check in (
@@ -288,15 +288,15 @@ read_further size parts was running further is check reads some more =
     )
 
 -- the status of a complete file that was read to its end
-pub read_end : (size : ℕ) (parts : List Part) (was : Option Running) (running : Running) (outcome : Result HoldingsValue KbartFault) (standing : Standing) → was ≡ Some running
+pub read_end : (size : ℕ) (parts : List Part) (was : Option FileCheck) (running : FileCheck) (outcome : Result HoldingsValue KbartFault) (standing : Standing) → was ≡ Some running
     → IsRecordCheck size parts was → (IsSome (byte_in parts running.next) → ⊥)
-    → ((ps : List Part) (text : List ℕ) → IsRunning ps running → IsText running.next ps text → IsReadOf text outcome)
+    → ((ps : List Part) (text : List ℕ) → IsCheckOf ps running → IsText running.next ps text → IsReadOf text outcome)
     → ((n : ℕ) (ps : List Part) → IsJudged n ps outcome → IsStandingOf n ps 0 standing) → IsStandingOf size parts (missing_below (byte_in parts) size) standing
 read_end size parts was running outcome standing is check none finish stands =
     let checked = subst (IsRecordCheck size parts) is check in
     subst (λ (m : ℕ). IsStandingOf size parts m standing) (sym checked.whole) (stands size parts (read_to_end size parts running outcome checked none finish))
 
-pub some_to_read : (size : ℕ) (running : Option Running) → 0 < to_read size running
+pub some_to_read : (size : ℕ) (running : Option FileCheck) → 0 < to_read size running
 some_to_read size None = omega arith
 some_to_read size (Some running) = omega arith
 

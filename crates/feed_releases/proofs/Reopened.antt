@@ -4,7 +4,6 @@ use Rattle.std.specs.List.{IsDistinct, All}
 use Rattle.std.proofs.lemmas.List.Sums.{sum_by-cons}
 use Rattle.std.proofs.lemmas.List.Elements.{All-nil, All-cons, All-head, All-tail, All-map, All-append}
 use Rattle.feed_names.specs.ReleaseName.{Name, name_eq}
-use Rattle.feed_model.specs.Reply.{max_held}
 use Rattle.feed_model.specs.Content.{Record, Content, names}
 use Rattle.feed_model.specs.Handles.{HasLaterActive}
 use Rattle.feed_model.specs.Sound.{IsSoundRecord, IsSound}

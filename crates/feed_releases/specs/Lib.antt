@@ -13,8 +13,9 @@ pub mod Answered
 pub mod Feeds
 pub mod Openings
 pub mod Actives
-pub mod Running
+pub mod FileCheck
 pub mod Ahead
+pub mod Leftovers
 pub mod Work
 pub mod Reopening
 pub mod ReopeningSteps

@@ -1,16 +1,16 @@
 -- Rebuilding the releases of a feed from stored records, in steps.
-use Rattle.std.specs.Prelude.{◌≡◌, ◌<◌, ◌≤◌, ◌+◌, ◌-◌, ◌++◌, ℕ, List, [], ◌∷◌, Option, Some, None, IfSome, length, sum_by}
+use Rattle.std.specs.Prelude.{◌≡◌, ◌≤◌, ◌+◌, ◌-◌, ◌++◌, ℕ, List, [], ◌∷◌, Option, Some, None, IfSome, length, sum_by}
 use Rattle.std.specs.List.{IsDistinct, All}
 use Rattle.feed_names.specs.ReleaseName.{name_eq}
 use Rattle.feed_model.specs.Reply.{max_file, max_held, missing_below}
 use Rattle.feed_model.specs.Content.{Part, Record, Content, byte_in, names}
 use Rattle.feed_model.specs.Parts.{AreWithin}
-use Rattle.feed_model.specs.Sound.{IsSound, IsSoundRecord}
+use Rattle.feed_model.specs.Sound.{IsSoundRecord}
 use Rattle.feed_keep.specs.declared.record.Record as code
 use Rattle.feed_keep.specs.Shown.{shown}
 use Rattle.feed_releases.specs.ReleaseValue.{ReleaseValue, content_of}
-use Rattle.feed_releases.specs.Running.{IsRunning}
-use Rattle.feed_releases.specs.declared.running.Running.{Running}
+use Rattle.feed_releases.specs.FileCheck.{IsCheckOf}
+use Rattle.feed_releases.specs.declared.file_check.FileCheck.{FileCheck}
 
 -- a record, and how many steps its check may still take
 pub record CheckValue : Type 0 where
@@ -18,15 +18,15 @@ pub record CheckValue : Type 0 where
   pub left : ℕ
 
 -- the last step, and before it at most one for each byte that was not read
-abbrev pub to_read : ℕ → Option Running → ℕ
+abbrev pub to_read : ℕ → Option FileCheck → ℕ
 to_read size None = 1
 to_read size (Some running) = size - running.next + 1
 
 -- the parts are inside the file, whose size is within the limit. A file that is read in steps is complete
-pub record IsRecordCheck (size : ℕ) (parts : List Part) (running : Option Running) : Type 0 where
+pub record IsRecordCheck (size : ℕ) (parts : List Part) (running : Option FileCheck) : Type 0 where
   pub within : AreWithin size parts
   pub limit : size ≤ max_file
-  pub reads : IfSome running (IsRunning parts)
+  pub reads : IfSome running (IsCheckOf parts)
   pub whole : IfSome running (λ _. missing_below (byte_in parts) size ≡ 0)
 
 -- the record of a check, if there is one

@@ -1,5 +1,5 @@
 -- A step of rebuilding the releases of a feed from stored records.
-use Rattle.std.specs.Prelude.{◌≡◌, ◌<◌, ◌≤◌, ◌+◌, ◌++◌, ℕ, List, [], Option, None, Some, IfNone, length}
+use Rattle.std.specs.Prelude.{◌≡◌, ◌<◌, ◌≤◌, ◌++◌, ℕ, List, [], Option, Some, IfNone}
 use Rattle.feed_model.specs.Reply.{missing_below}
 use Rattle.feed_model.specs.Content.{Part, byte_in}
 use Rattle.feed_model.specs.Sound.{IsSound, IsSoundRecord}
@@ -8,7 +8,7 @@ use Rattle.feed_keep.specs.Shown.{shown}
 use Rattle.feed_releases.specs.ReleaseValue.{content_of}
 use Rattle.feed_releases.specs.Reopening.{CheckValue, ReopeningValue, IsRecordCheck, to_read, records_in, left_in}
 use Rattle.feed_releases.specs.Standing.{IsStandingOf}
-use Rattle.feed_releases.specs.declared.running.Running.{Running}
+use Rattle.feed_releases.specs.declared.file_check.FileCheck.{FileCheck}
 use Rattle.feed_releases.specs.declared.release.reopen.FileStep.{FileStep}
 use Rattle.feed_releases.specs.declared.release.reopen.FileStep.TheVariants as files
 use Rattle.feed_releases.specs.declared.release.reopen.RecordStep.{RecordStep}
@@ -17,7 +17,7 @@ use Rattle.feed_releases.specs.declared.feed.reopen.ReopeningStep.{ReopeningStep
 use Rattle.feed_releases.specs.declared.feed.reopen.ReopeningStep.TheVariants as steps
 
 -- more of the file is read, or the file has this status
-abbrev pub IsFileStep : ℕ → List Part → Option Running → FileStep → Type 0
+abbrev pub IsFileStep : ℕ → List Part → Option FileCheck → FileStep → Type 0
 IsFileStep size parts was (files.Pending running) = IsRecordCheck size parts (Some running) × (to_read size (Some running) < to_read size was)
 IsFileStep size parts was (files.Done standing) = IsStandingOf size parts (missing_below (byte_in parts) size) standing
 

@@ -3,18 +3,18 @@ ghost use Rattle.std.specs.Prelude.{◌≡◌, ◌<◌, List, None, IfSome, leng
 ghost use Rattle.feed_releases.specs.ReleaseValue.{ReleaseValue};
 ghost use Rattle.feed_releases.specs.Ahead.{IsAhead, IsReadAt};
 
-use crate::running::Running;
+use crate::file_check::FileCheck;
 
 /// The check of the release at a place of the list of releases.
 #[derive(Drop)]
 pub(crate) struct Ahead {
     pub(crate) at: usize,
-    pub(crate) running: Running,
+    pub(crate) running: FileCheck,
 }
 
 impl Ahead {
     /// Returns this check of the release at a place.
-    pub(crate) fn of(at: usize, running: Option<Running>) -> Option<Ahead>
+    pub(crate) fn of(at: usize, running: Option<FileCheck>) -> Option<Ahead>
         ensures { (releases : List ReleaseValue) → at < length releases
             → IfSome running (IsReadAt releases at) → IsAhead releases result }
     {
@@ -26,7 +26,7 @@ impl Ahead {
 }
 
 /// Takes the check of the release at a place. Drops the check of any other release.
-pub(crate) fn take_running(ahead: &mut Option<Ahead>, at: usize) -> Option<Running>
+pub(crate) fn take_running(ahead: &mut Option<Ahead>, at: usize) -> Option<FileCheck>
     ensures none { ahead.new ≡ None }
     ensures reads { (releases : List ReleaseValue) → IsAhead releases ahead.old
         → IfSome result (IsReadAt releases at) }

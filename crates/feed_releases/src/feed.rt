@@ -12,6 +12,7 @@ mod reopen;
 use crate::actives::{ActiveRelease, actives_of};
 use crate::ahead::Ahead;
 use crate::event::Event;
+use crate::leftovers::{Leftover, free_portion};
 use crate::release::Release;
 use crate::releases::{active_of, find};
 use crate::statuses::{ReleaseStatus, statuses_of};
@@ -59,6 +60,8 @@ pub struct Feed<K: Keep + Drop> {
     releases: Vec<Release>,
     // The release whose file is read ahead. It changes nothing that a feed answers.
     ahead: Option<Ahead>,
+    // What is left of the releases that the last switch removed. They are freed in portions.
+    leftovers: Vec<Leftover>,
     ghost mirrors: { K.clean keeper → K.content keeper ≡ content_of releases.items },
     ghost listed: { K.clean keeper → ∥ K.listed keeper ∥₁ },
     ghost few: { length releases.items ≤ max_held },
@@ -82,6 +85,7 @@ impl<K: Keep + Drop> Feed<K> {
     ghost use Rattle.feed_keep.specs.Cause.{HasFailedSince, IsCounted};
     ghost use Rattle.feed_keep.specs.Loads.{one_more};
     ghost use Rattle.feed_releases.specs.Feeds.{CommitsNothing, keeper_of, recorded, releases_of};
+    ghost use Rattle.feed_releases.specs.Leftovers.{left_of_all};
     ghost use Rattle.feed_releases.specs.Work.{unread, work_left};
     ghost use Rattle.feed_releases.specs.Statuses.{status_of};
 
@@ -168,16 +172,30 @@ impl<K: Keep + Drop> Feed<K> {
         Ok(answers)
     }
 
-    /// Does some of the work that no answer waits for: reads ahead in the release that took a piece last, at most
-    /// 131,072 of its stored bytes. So its last piece leaves little to check. Returns whether there is more to do. Each
-    /// answer is the one without this call.
+    /// Does some of the work that no answer waits for. It frees a portion of the releases that the last switch removed.
+    /// Once they are freed, it reads ahead in the release that took a piece last, at most 131,072 of its stored bytes.
+    /// So its last piece leaves little to check. Returns whether there is more to do. Each answer is the one without
+    /// this call.
     pub fn catch_up(&mut self) -> bool
         ensures releases { releases_of self.new ≡ releases_of self.old }
         ensures keeper { keeper_of self.new ≡ keeper_of self.old }
         ensures more { IsTrue result ↔ (0 < work_left self.new) }
         ensures less { IsTrue result → work_left self.new < work_left self.old }
     {
-        self.read_ahead();
+        if self.leftovers.is_empty() {
+            self.read_ahead();
+        } else {
+            free_portion(&mut self.leftovers);
+        }
+        self.has_work()
+    }
+
+    fn has_work(&self) -> bool
+        ensures { IsTrue result ↔ (0 < work_left self.now) }
+    {
+        if !self.leftovers.is_empty() {
+            return true;
+        }
         match &self.ahead {
             Some(ahead) => self.releases[ahead.at].has_more(&ahead.running),
             None => false,
@@ -188,6 +206,7 @@ impl<K: Keep + Drop> Feed<K> {
     fn read_ahead(&mut self)
         ensures releases { releases_of self.new ≡ releases_of self.old }
         ensures keeper { keeper_of self.new ≡ keeper_of self.old }
+        ensures leftovers { left_of_all self.new.leftovers.items ≡ left_of_all self.old.leftovers.items }
         ensures less { 0 < unread self.new → unread self.new < unread self.old }
     {
         let Some(Ahead { at, running }) = self.ahead.take() else {
@@ -282,6 +301,7 @@ impl<K: Keep + Drop> Feed<K> {
             keeper,
             releases: _,
             ahead: _,
+            leftovers: _,
         } = self;
         keeper
     }

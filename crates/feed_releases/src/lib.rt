@@ -7,11 +7,12 @@ mod ahead;
 mod commit;
 mod event;
 mod feed;
+mod file_check;
 mod laws;
+mod leftovers;
 mod overlap;
 mod release;
 mod releases;
-mod running;
 mod standing;
 mod statuses;
 

@@ -3,15 +3,18 @@ ghost use Rattle.std.specs.Prelude.{◌≡◌, ◌↔◌, ◌<◌, ◌≤◌, �
 ghost use Rattle.feed_model.specs.Reply.{max_file, missing_below};
 ghost use Rattle.feed_model.specs.Content.{byte_in};
 ghost use Rattle.feed_model.specs.Change.{new_record};
+ghost use Rattle.feed_parts.specs.Shown.{shown_parts};
+ghost use Rattle.feed_releases.specs.Leftovers.{HasRows};
 ghost use Rattle.feed_releases.specs.NextRange.{IsNextOf};
-ghost use Rattle.feed_releases.specs.Running.{IsRunning, unread_of};
+ghost use Rattle.feed_releases.specs.FileCheck.{IsCheckOf, unread_of};
 ghost use Rattle.feed_releases.specs.ReleaseValue.{IsKnown, IsOverlapOf};
 
 mod growth;
 mod reopen;
 
+use crate::file_check::FileCheck;
+use crate::leftovers::Leftover;
 use crate::overlap::Overlap;
-use crate::running::Running;
 use crate::standing::Standing;
 use feed_kbart::{BadFile, Holdings};
 use feed_model::State;
@@ -116,9 +119,9 @@ impl Release {
     }
 
     /// Has a check of the file read on in the stored bytes, at most a window. Returns `None` if memory runs out.
-    pub(crate) fn read_on(&self, alloc: Global, running: Running) -> Option<Running>
-        ensures reads { IfSome result (λ further. IsRunning self.now.kept.parts running
-            → IsRunning self.now.kept.parts further) }
+    pub(crate) fn read_on(&self, alloc: Global, running: FileCheck) -> Option<FileCheck>
+        ensures reads { IfSome result (λ further. IsCheckOf self.now.kept.parts running
+            → IsCheckOf self.now.kept.parts further) }
         ensures less { IfSome result (λ further. 0 < unread_of self.now.kept further
             → unread_of self.now.kept further < unread_of self.now.kept running) }
     {
@@ -126,10 +129,27 @@ impl Release {
     }
 
     /// Returns whether a check of the file can read on in the stored bytes.
-    pub(crate) fn has_more(&self, running: &Running) -> bool
+    pub(crate) fn has_more(&self, running: &FileCheck) -> bool
         ensures { IsTrue result ↔ (0 < unread_of self.now.kept running.now) }
     {
         running.has_more(&self.kept)
+    }
+
+    /// Ends the use of the release. What is left of it can be freed in portions.
+    pub(crate) fn retire(self) -> Leftover
+        ensures parts { shown_parts result.parts.items ≡ self.kept.parts }
+        ensures rows { HasRows self.holdings result.holdings }
+    {
+        let Release {
+            name: _,
+            size: _,
+            kept,
+            standing,
+        } = self;
+        Leftover {
+            parts: kept.into_parts(),
+            holdings: standing.retire(),
+        }
     }
 
     /// Returns how a piece inside the file overlaps the stored bytes. Does not allocate.

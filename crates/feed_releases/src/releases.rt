@@ -1,11 +1,12 @@
 //! Looking up releases by name or by package in a feed's list, which has at most 256 of them.
 ghost use Rattle.std.specs.Prelude.{◌≡◌, ◌<◌, ◌≤◌, ℕ};
 ghost use Rattle.std.specs.Prelude.{false, None, IsTrue, IfSome, IfNone, MatchOption, length};
-ghost use Rattle.std.specs.Prelude.{slice_index_or, insert, not};
+ghost use Rattle.std.specs.Prelude.{slice_index_or, insert};
 ghost use Rattle.feed_model.specs.Content.{record_of};
-ghost use Rattle.feed_model.specs.Change.{insert_record, is_earlier, without_earlier};
+ghost use Rattle.feed_model.specs.Change.{insert_record, without_earlier};
 ghost use Rattle.feed_releases.specs.ReleaseValue.{ReleaseValue, content_of, IsPlaceOf, IsActiveAfter, IsActiveOf};
 
+use crate::leftovers::{Leftover, add};
 use crate::release::Release;
 use feed_keep::{is_earlier, is_listed_before};
 use feed_model::State;
@@ -68,14 +69,22 @@ pub(crate) fn place_for(releases: &[Release], name: &ReleaseName) -> usize
     releases.len()
 }
 
-/// Removes the releases of the name's package that are of earlier days. Does not allocate.
-pub(crate) fn drop_earlier(releases: &mut Vec<Release>, name: &ReleaseName)
+/// Removes the releases of the name's package that are of earlier days. What is left of them is added to the leftovers,
+/// or freed at once if there is no memory for that.
+pub(crate) fn drop_earlier(
+    releases: &mut Vec<Release>,
+    leftovers: &mut Vec<Leftover>,
+    name: &ReleaseName,
+)
     ensures dropped { content_of releases.new.items ≡ without_earlier name.now (content_of releases.old.items) }
     ensures fewer { length releases.new.items ≤ length releases.old.items }
 {
-    releases.retain(
-        |release: &Release| -> bool
-            ensures { result ≡ not (is_earlier release.now.kept.name name.entry.now) }
-        { !is_earlier(release.name(), name) },
-    );
+    let mut at = 0;
+    while at < releases.len() {
+        if is_earlier(releases[at].name(), name) {
+            add(leftovers, releases.remove(at));
+        } else {
+            at += 1;
+        }
+    }
 }

@@ -4,7 +4,7 @@ ghost use Rattle.feed_parts.specs.Shown.{shown_parts};
 ghost use Rattle.feed_keep.specs.Shown.{shown_change};
 ghost use Rattle.feed_releases.specs.Standing.{change_to, reason_of, reply_of, rows_of, state_of};
 
-use feed_kbart::{BadFile, Holdings};
+use feed_kbart::{BadFile, Holdings, RetiredHoldings};
 use feed_keep::Change;
 use feed_model::{Reply, State};
 use feed_names::ReleaseName;
@@ -22,6 +22,8 @@ pub(crate) enum Standing {
 }
 
 impl Standing {
+    ghost use Rattle.feed_releases.specs.Leftovers.{HasRows};
+
     pub(crate) fn state(&self) -> State
         ensures { result ≡ state_of self.now }
     {
@@ -55,6 +57,16 @@ impl Standing {
     {
         match self {
             Standing::Good(holdings) => Some(holdings),
+            Standing::Partial | Standing::Bad(_) => None,
+        }
+    }
+
+    /// Ends the use of the holdings of a complete and good file.
+    pub(crate) fn retire(self) -> Option<RetiredHoldings>
+        ensures { HasRows (rows_of self) result }
+    {
+        match self {
+            Standing::Good(holdings) => Some(holdings.retire()),
             Standing::Partial | Standing::Bad(_) => None,
         }
     }

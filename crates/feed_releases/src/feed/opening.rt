@@ -112,6 +112,7 @@ impl<K: Keep + Drop> Opening<K> {
                 keeper,
                 releases,
                 ahead: None,
+                leftovers: Vec::new(alloc),
             })),
             Err(cause) => Err(OpenFault { cause, keeper }),
         }

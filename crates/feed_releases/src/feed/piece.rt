@@ -72,7 +72,9 @@ impl<K: Keep + Drop> Feed<K> {
         let growth = self.releases[at].growth(self.alloc, &mut running, first, bytes)?;
         let reply = self.releases[at].grow(&mut self.keeper, growth)?;
         if let Reply::Activated = reply {
-            drop_earlier(&mut self.releases, name);
+            // At most the releases that one switch removed wait to be freed.
+            self.leftovers.clear();
+            drop_earlier(&mut self.releases, &mut self.leftovers, name);
         } else {
             self.ahead = Ahead::of(at, running);
         }

@@ -9,12 +9,12 @@ ghost use Rattle.feed_releases.specs.ReleaseValue.{IsOverlapOf};
 ghost use Rattle.feed_releases.specs.Standing.{reply_of, rows_of, record_after};
 ghost use Rattle.feed_releases.specs.Growth.{IsGrowth, change_of, parts_of};
 ghost use Rattle.feed_releases.specs.Judged.{IsJudged};
-ghost use Rattle.feed_releases.specs.Running.{IsRunning};
+ghost use Rattle.feed_releases.specs.FileCheck.{IsCheckOf};
 
 use crate::commit::commit;
+use crate::file_check::{FileCheck, begin};
 use crate::overlap::Overlap;
 use crate::release::Release;
-use crate::running::{Running, begin};
 use crate::standing::Standing;
 use feed_kbart::{Holdings, KbartFault, read_parts};
 use feed_keep::Keep;
@@ -36,17 +36,17 @@ impl Release {
     pub(crate) fn growth(
         &self,
         alloc: Global,
-        running: &mut Option<Running>,
+        running: &mut Option<FileCheck>,
         first: u64,
         bytes: &[u8],
     ) -> Result<Growth, Refusal>
         requires inside { first + length bytes.now ≤ self.now.kept.size }
         requires piece { length bytes.now ≤ max_piece }
         requires new { IsOverlapOf self.now.kept first bytes.now Overlap.New }
-        requires reads { IfSome running.old (IsRunning self.now.kept.parts) }
+        requires reads { IfSome running.old (IsCheckOf self.now.kept.parts) }
         ensures growth { IfOk result (IsGrowth self.now.kept first bytes.now) }
         ensures reads { IfOk result (λ growth. IfSome running.new
-            (IsRunning (merged self.now.kept.parts (parts_of growth)))) }
+            (IsCheckOf (merged self.now.kept.parts (parts_of growth)))) }
         ensures refused { OnErr result (result ≡ Err Refusal.Memory) }
     {
         let Ok(new) = self.kept.new_parts(alloc, first, bytes) else {
@@ -76,12 +76,12 @@ impl Release {
     fn read_whole(
         &self,
         alloc: Global,
-        running: Option<Running>,
+        running: Option<FileCheck>,
         first: u64,
         bytes: &[u8],
         new: &Segments,
     ) -> Result<Holdings, KbartFault>
-        requires reads { IfSome running (IsRunning self.now.kept.parts) }
+        requires reads { IfSome running (IsCheckOf self.now.kept.parts) }
         requires agrees { AgreesIn self.now.kept.parts first bytes.now }
         requires adds { Adds self.now.kept.size self.now.kept.parts first bytes.now new.now.parts }
         requires whole { missing_below (byte_in (merged self.now.kept.parts new.now.parts)) self.now.kept.size ≡ 0 }

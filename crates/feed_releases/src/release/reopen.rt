@@ -10,8 +10,8 @@ ghost use Rattle.feed_releases.specs.Reopening.{IsRecordCheck};
 ghost use Rattle.feed_releases.specs.ReopeningSteps.{IsFileStep, IsRecordStep};
 ghost use Rattle.feed_releases.specs.Standing.{IsStandingOf};
 
+use crate::file_check::FileCheck;
 use crate::release::Release;
-use crate::running::Running;
 use crate::standing::Standing;
 use feed_kbart::{BadFile, Holdings, KbartFault, read_parts};
 use feed_keep::Record;
@@ -31,7 +31,7 @@ pub(crate) struct RecordCheck {
     reason: Option<BadFile>,
     kept: Segments,
     // The check of a complete file that is read in steps. Without one the last step does everything.
-    running: Option<Running>,
+    running: Option<FileCheck>,
 }
 
 impl Model for RecordCheck {
@@ -81,7 +81,7 @@ impl RecordCheck {
             return None;
         }
         let running = if in_steps && kept.missing(size) == 0 {
-            Some(Running::new(alloc))
+            Some(FileCheck::new(alloc))
         } else {
             None
         };
@@ -138,7 +138,7 @@ impl RecordCheck {
 #[derive(Drop)]
 pub(crate) enum FileStep {
     /// There is more to read.
-    Pending(Running),
+    Pending(FileCheck),
     /// The file has this status.
     Done(Standing),
 }
@@ -148,7 +148,7 @@ fn read_file(
     alloc: Global,
     size: u64,
     kept: &Segments,
-    running: Option<Running>,
+    running: Option<FileCheck>,
 ) -> Result<FileStep, AllocError>
     requires { IsRecordCheck size kept.now.parts running }
     ensures { IfOk result (IsFileStep size kept.now.parts running) }

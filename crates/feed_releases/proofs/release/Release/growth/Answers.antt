@@ -5,7 +5,7 @@ use Rattle.feed_model.specs.Parts.{Adds, AreWithin}
 use Rattle.feed_model.specs.Reply.{missing_below}
 use Rattle.feed_parts.specs.Piece.{total_length}
 use Rattle.feed_parts.proofs.Counting.{missing_merged}
-use Rattle.feed_releases.specs.Running.{IsRunning}
+use Rattle.feed_releases.specs.FileCheck.{IsCheckOf}
 use Rattle.feed_releases.proofs.ReadAhead.{if_some, running_on}
 use Rattle.feed_releases.proofs.release.Release.growth.Goals as goal
 use Rattle.feed_releases.proofs.release.Release.growth.Goals.{In-Ok, then-missing-gt0, else-missing-gt0+in-Ok-read_whole, else-missing-gt0+in-Err-Bad}
@@ -34,7 +34,7 @@ returns-clause-reads c =
     let qs = c.in-Ok.new.parts in
     let brings = adds (goal.at.returns-clause-reads c).In-Ok in
     let was = rw (← c.self.view_is) at c.requires.reads in
-    let on = if_some c.args.running.now (IsRunning ps) (IsRunning (merged ps qs)) was (λ running. running_on (merged ps qs) ps c.args.first c.args.bytes.now running brings.union) in
+    let on = if_some c.args.running.now (IsCheckOf ps) (IsCheckOf (merged ps qs)) was (λ running. running_on (merged ps qs) ps c.args.first c.args.bytes.now running brings.union) in
     rw (← c.self.view_is) (elim c.if-missing-gt0.branch [
       | then-missing-gt0 w ↦ rw w.running-is (w.begin.ensures (merged ps qs) on)
       | else-missing-gt0+in-Ok-read_whole w ↦ rw w.running-is (search rules)

@@ -1,6 +1,6 @@
 use Rattle.std.proofs.Common.{◌≡◌, ◌+◌, length, rules}
 use Rattle.feed_releases.proofs.ReadAhead.{running_more}
-use Rattle.feed_releases.proofs.running.Running.take_in.Goals as goal
+use Rattle.feed_releases.proofs.file_check.FileCheck.take_in.Goals as goal
 
 pub returns-clause-reads : goal.returns-clause-reads
 returns-clause-reads c parts was run =

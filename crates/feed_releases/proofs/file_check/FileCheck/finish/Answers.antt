@@ -1,6 +1,6 @@
 use Rattle.std.proofs.Common.{ℕ, subst, sym}
 use Rattle.feed_model.specs.Content.{IsText}
-use Rattle.feed_releases.proofs.running.Running.finish.Goals as goal
+use Rattle.feed_releases.proofs.file_check.FileCheck.finish.Goals as goal
 
 pub returns : goal.returns
 returns c parts text union is =

@@ -1,10 +1,10 @@
-//! The check of a file that is not complete yet. It reads ahead as far as the bytes are stored.
+//! The check of a file in windows, as far as its bytes are stored. So it can begin before the file is complete.
 ghost use Rattle.std.specs.Prelude.{◌≡◌, ◌≤◌, ◌<◌, ◌+◌, ◌↔◌, ℕ, List, None, IfSome, IsSome, IsTrue, length};
 ghost use Rattle.feed_kbart.specs.Files.{IsReadOf};
 ghost use Rattle.feed_model.specs.Content.{IsText, Part, byte_in};
 ghost use Rattle.feed_model.specs.Parts.{AgreesIn};
 ghost use Rattle.feed_parts.specs.Segments.{HasRun};
-ghost use Rattle.feed_releases.specs.Running.{IsRunning, IsUnion, window};
+ghost use Rattle.feed_releases.specs.FileCheck.{IsCheckOf, IsUnion, window};
 
 use feed_kbart::{Holdings, KbartFault};
 use feed_list_check::ListCheck;
@@ -16,44 +16,44 @@ const WINDOW: usize = 131_072;
 
 /// A check that has received the bytes of a file up to a place, from which it reads on.
 #[derive(Drop)]
-pub(crate) struct Running {
+pub(crate) struct FileCheck {
     check: ListCheck,
     next: u64,
 }
 
-impl Running {
+impl FileCheck {
     /// Returns a check that has received no bytes.
-    pub(crate) fn new(alloc: Global) -> Running
-        ensures { (parts : List Part) → IsRunning parts result }
+    pub(crate) fn new(alloc: Global) -> FileCheck
+        ensures { (parts : List Part) → IsCheckOf parts result }
     {
-        Running {
+        FileCheck {
             check: ListCheck::new(alloc),
             next: 0,
         }
     }
 
     // Receives the bytes of the file from the place on. Returns `None` if memory runs out.
-    fn take_in(self, alloc: Global, bytes: &[u8]) -> Option<Running>
+    fn take_in(self, alloc: Global, bytes: &[u8]) -> Option<FileCheck>
         ensures place { IfSome result (λ running. running.next ≡ self.next + length bytes.now) }
-        ensures reads { IfSome result (λ running. (parts : List Part) → IsRunning parts self
-            → HasRun parts self.next bytes.now → IsRunning parts running) }
+        ensures reads { IfSome result (λ running. (parts : List Part) → IsCheckOf parts self
+            → HasRun parts self.next bytes.now → IsCheckOf parts running) }
     {
-        let Running { check, next } = self;
+        let FileCheck { check, next } = self;
         let Some(end) = next.checked_add(bytes.len() as u64) else {
             return None;
         };
         let Ok(check) = check.step(alloc, bytes) else {
             return None;
         };
-        Some(Running { check, next: end })
+        Some(FileCheck { check, next: end })
     }
 
     /// Reads on in the stored bytes, at most a window. Returns `None` if memory runs out.
-    pub(crate) fn read_on(self, alloc: Global, kept: &Segments) -> Option<Running>
+    pub(crate) fn read_on(self, alloc: Global, kept: &Segments) -> Option<FileCheck>
         ensures few { IfSome result (λ running. running.next ≤ self.next + window) }
         ensures some { IfSome result (λ running. IsSome (byte_in kept.now.parts self.next) → self.next < running.next) }
         ensures none { IfSome result (λ running. byte_in kept.now.parts self.next ≡ None → running.next ≡ self.next) }
-        ensures reads { IfSome result (λ running. IsRunning kept.now.parts self → IsRunning kept.now.parts running) }
+        ensures reads { IfSome result (λ running. IsCheckOf kept.now.parts self → IsCheckOf kept.now.parts running) }
     {
         let bytes = kept.bytes_from(self.next);
         let count = bytes.len().min(WINDOW);
@@ -77,7 +77,7 @@ impl Running {
         first: u64,
         bytes: &[u8],
     ) -> Option<Result<Holdings, KbartFault>>
-        requires runs { IsRunning kept.now.parts self }
+        requires runs { IsCheckOf kept.now.parts self }
         requires agrees { AgreesIn kept.now.parts first bytes.now }
         ensures { (parts : List Part) (text : List ℕ) → IsUnion parts kept.now.parts first bytes.now
             → IsText size parts text → IfSome result (IsReadOf text) }
@@ -97,7 +97,7 @@ impl Running {
 
     /// Returns what a file reads as that was read to its end.
     pub(crate) fn finish_whole(self, alloc: Global) -> Result<Holdings, KbartFault>
-        ensures { (parts : List Part) (text : List ℕ) → IsRunning parts self → IsText self.next parts text
+        ensures { (parts : List Part) (text : List ℕ) → IsCheckOf parts self → IsText self.next parts text
             → IsReadOf text result }
     {
         self.check.finish(alloc)
@@ -111,11 +111,11 @@ impl Running {
         kept: &Segments,
         first: u64,
         bytes: &[u8],
-    ) -> Option<Running>
-        requires runs { IsRunning kept.now.parts self }
+    ) -> Option<FileCheck>
+        requires runs { IsCheckOf kept.now.parts self }
         requires agrees { AgreesIn kept.now.parts first bytes.now }
         ensures { (parts : List Part) → IsUnion parts kept.now.parts first bytes.now
-            → IfSome result (IsRunning parts) }
+            → IfSome result (IsCheckOf parts) }
     {
         let mut running = self;
         while running.next < size {
@@ -133,11 +133,11 @@ impl Running {
 }
 
 /// Begins a check, unless one is there.
-pub(crate) fn begin(alloc: Global, running: &mut Option<Running>)
-    ensures { (parts : List Part) → IfSome running.old (IsRunning parts) → IfSome running.new (IsRunning parts) }
+pub(crate) fn begin(alloc: Global, running: &mut Option<FileCheck>)
+    ensures { (parts : List Part) → IfSome running.old (IsCheckOf parts) → IfSome running.new (IsCheckOf parts) }
 {
     if running.is_none() {
-        *running = Some(Running::new(alloc));
+        *running = Some(FileCheck::new(alloc));
     }
 }
 

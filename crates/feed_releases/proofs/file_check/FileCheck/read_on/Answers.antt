@@ -1,6 +1,6 @@
 use Rattle.std.proofs.Common.{arith, length-take}
 use Rattle.feed_releases.proofs.ReadAhead.{if_some, no_bytes, run_take, some_run}
-use Rattle.feed_releases.proofs.running.Running.read_on.Goals as goal
+use Rattle.feed_releases.proofs.file_check.FileCheck.read_on.Goals as goal
 
 pub returns-clause-few : goal.returns-clause-few
 returns-clause-few c = if_some c.take_in.result _ _ c.take_in.ensures.place
