@@ -5,8 +5,8 @@ use Rattle.feed_model.specs.declared.keep_fault.KeepFault.TheVariants.{Damaged}
 use Rattle.feed_releases.specs.Openings.{opening_keeper}
 use Rattle.feed_releases.specs.declared.feed.opening.Opening.{Opening}
 use Rattle.feed_node_service.specs.declared.node_loop.End.{End}
-use Rattle.feed_node_service.specs.declared.start.StartFault.{StartFault}
-use Rattle.feed_node_service.specs.declared.start.StartFault.TheVariants.{Ended, Keeper}
+use Rattle.feed_node_service.specs.declared.starting.StartFault.{StartFault}
+use Rattle.feed_node_service.specs.declared.starting.StartFault.TheVariants.{Ended, Keeper}
 use Rattle.feed_keep.specs.declared.keep.Keep.{Ghosts}
 use Rattle.feed_metrics.specs.Texts.{MetricsValue}
 use Rattle.feed_model.specs.History.{History}
