@@ -15,8 +15,8 @@
 //! # Commands
 //!
 //! A line has one command, its words separated by spaces; an empty line has none. An invalid command ends the program
-//! with status 2, after it has printed the number of the line and the error on standard error. A line
-//! `segments` or `fetches` has the same effect as that argument. `fetches.rt` lists the commands on fetches.
+//! with status 2, after it has printed the number of the line and the error on standard error. A line `segments` or
+//! `fetches` has the effect of that argument. `fetches.rt` lists the commands on fetches.
 //!
 //! BYTES is a text, `@FILE` for the bytes of a file, or `@FILE,FROM,COUNT` for at most COUNT of them from the place
 //! FROM on. A PART is `FIRST:BYTES`, and in an event also `FIRST/TOTAL:BYTES`. A STATE is `Staged`, `Active` or
@@ -148,7 +148,7 @@ fn run_lines(rt: &HostRuntime, words: &[&str]) -> Result<(), Fail> {
     }
 }
 
-// Runs the command of these words, and then that of each line. Before the error of a line, prints it with its number.
+// Runs the words as a command, and then each line. Before the error of a line, prints it with its number.
 fn take_lines(rt: &HostRuntime, words: &[&str]) -> Result<(), Fault> {
     let text = io::read_to_string(rt.alloc(), rt.reader())?;
     let mut subjects = Subjects::new(rt.alloc())?;
