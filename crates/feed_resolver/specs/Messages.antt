@@ -75,8 +75,8 @@ GoesToBest =
     → BeginsWith bytes head → AsksToGo head query → IsResponse site bytes body keeps actives response
     → (best : Option (List ℕ)) × IsBestLink (counted (hits_among query (sited site actives))) best × GoesTo best response
 
--- `/resolve` redirects only a browser, only if the library wants it, and to the link of the only hit: one that is available
--- and covers the whole of what is asked for
+-- `/resolve` redirects only a browser, only if the library wants it, and to the link of the only hit: one that is available,
+-- covers the whole of what is asked for, in full text, and the library has all those days
 abbrev pub RedirectsSoleHit : Type 0
 RedirectsSoleHit =
     (representation : Representation) (text : List ℕ) (query : QueryValue) (actives : Sited)

@@ -92,6 +92,10 @@ fn put_error(
 
 /// Returns the reply to a request that is not answered: the name of the error as text or as JSON, or a page of the
 /// library that says what the reader may do, with a form that has what the query has for its fields.
+///
+/// # Errors
+///
+/// Running out of memory.
 pub fn error_reply(
     alloc: Global,
     site: &SiteFile,

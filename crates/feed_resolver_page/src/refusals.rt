@@ -195,6 +195,10 @@ fn advice_on(reason: Refusal) -> Text
 /// Returns the reply to a query for which nothing is looked up: the form, if the query is empty and the reply is a
 /// page. A query without an ISSN and an ISBN whose citation names a work has a reply with this status. Any other is
 /// rejected.
+///
+/// # Errors
+///
+/// Running out of memory.
 pub fn unasked_reply(
     alloc: Global,
     site: &SiteFile,

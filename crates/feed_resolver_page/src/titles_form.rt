@@ -18,7 +18,11 @@ const BUTTON: &[u8] = b"\">\n<button type=\"submit\">";
 
 const FORM_END: &[u8] = b"</button>\n</form>\n";
 
-/// Writes the form, with a text in its field.
+/// Appends the form, with a text in its field.
+///
+/// # Errors
+///
+/// Running out of memory.
 #[tactic(auto, unfolding(crate::specs::TitlesForms::titles_form))]
 pub fn put_titles_form<'a>(
     out: &mut Vec<u8>,

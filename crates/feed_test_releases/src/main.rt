@@ -1,8 +1,9 @@
-//! A program that runs commands from its standard input on a feed over a keeper in memory, or replays a script over
-//! such keepers, for the sessions of tests/.
+//! A program that runs commands from its standard input on a feed over a keeper in memory, on the kept parts of a file
+//! or on fetches, or replays a script over such keepers, for the sessions of tests/.
 //!
 //!     feed_test_releases                          commands on a feed and its keeper
 //!     feed_test_releases segments                 commands on the kept parts of one file
+//!     feed_test_releases fetches                  commands on fetches
 //!     feed_test_releases failing KEEPER..         replays a script
 //!     feed_test_releases holding KEEPER..         the same
 //!     feed_test_releases again KEEPER..           the same, twice
@@ -14,7 +15,8 @@
 //! # Commands
 //!
 //! A line has one command, its words separated by spaces; an empty line has none. An invalid command ends the program
-//! with status 2, after it has printed the number of the line and the error on standard error.
+//! with status 2, after it has printed the number of the line and the error on standard error. A line `segments` or
+//! `fetches` has the effect of that argument. `fetches.rt` lists the commands on fetches.
 //!
 //! BYTES is a text, `@FILE` for the bytes of a file, or `@FILE,FROM,COUNT` for at most COUNT of them from the place
 //! FROM on. A PART is `FIRST:BYTES`, and in an event also `FIRST/TOTAL:BYTES`. A STATE is `Staged`, `Active` or
@@ -88,18 +90,23 @@
 #![tactic(auto)]
 
 mod feeds;
+mod fetches;
 mod keepers;
 mod names;
 mod printing;
 mod replays;
 mod segments;
+mod server;
+mod sink;
 mod words;
 
 use feed_test_support::{Fault, read_events};
 use feeds::Feeds;
+use fetches::Fetches;
 use names::show_names;
 use replays::{show_again, show_full_over, show_over};
 use segments::Kept;
+use std::alloc::Global;
 use std::process::{ExitCode, Termination};
 use std::test::Fail;
 use std::{env, io};
@@ -119,13 +126,13 @@ fn run(rt: &HostRuntime) -> Result<(), Fail> {
     }
     match words.as_slice() {
         [_, command, keepers @ ..] => run_command(rt, command.as_str(), keepers),
-        _ => run_lines(rt, Subject::Feeds(Feeds::new(rt.alloc()))),
+        _ => run_lines(rt, &[]),
     }
 }
 
 fn run_command(rt: &HostRuntime, command: &str, keepers: &[String]) -> Result<(), Fail> {
     match command {
-        "segments" => run_lines(rt, Subject::Segments(Kept::new(rt.alloc()))),
+        "segments" | "fetches" => run_lines(rt, &[command]),
         "failing" | "holding" => show_over(rt, keepers, &read_events(rt)?),
         "again" => show_again(rt, keepers, &read_events(rt)?),
         "full" => show_full_over(rt, keepers, &read_events(rt)?),
@@ -134,25 +141,20 @@ fn run_command(rt: &HostRuntime, command: &str, keepers: &[String]) -> Result<()
     }
 }
 
-// The object that commands work on.
-#[derive(Drop)]
-enum Subject {
-    Feeds(Feeds),
-    Segments(Kept),
-}
-
-fn run_lines(rt: &HostRuntime, mut subject: Subject) -> Result<(), Fail> {
-    match take_lines(rt, &mut subject) {
+fn run_lines(rt: &HostRuntime, words: &[&str]) -> Result<(), Fail> {
+    match take_lines(rt, words) {
         Ok(()) => Ok(()),
         Err(Fault(why)) => Err(Fail::new(format_args!("feed_test_releases: {why}"))),
     }
 }
 
-// Runs the command of each line. Before the error of a line, prints it with its number.
-fn take_lines(rt: &HostRuntime, subject: &mut Subject) -> Result<(), Fault> {
+// Runs the words as a command, and then each line. Before the error of a line, prints it with its number.
+fn take_lines(rt: &HostRuntime, words: &[&str]) -> Result<(), Fault> {
     let text = io::read_to_string(rt.alloc(), rt.reader())?;
+    let mut subjects = Subjects::new(rt.alloc())?;
+    subjects.run_command(rt, words)?;
     for (at, line) in text.lines().enumerate() {
-        if let Err(why) = take_line(rt, subject, line) {
+        if let Err(why) = take_line(rt, &mut subjects, line) {
             let number = at.saturating_add(1);
             eprintln!(rt; "line {number}: {line}")?;
             return Err(why);
@@ -161,10 +163,52 @@ fn take_lines(rt: &HostRuntime, subject: &mut Subject) -> Result<(), Fault> {
     Ok(())
 }
 
-fn take_line(rt: &HostRuntime, subject: &mut Subject, line: &str) -> Result<(), Fault> {
+fn take_line(rt: &HostRuntime, subjects: &mut Subjects, line: &str) -> Result<(), Fault> {
     let words = words_of(rt.alloc(), line)?;
-    match subject {
-        Subject::Feeds(feeds) => feeds.run_command(rt, words.as_slice()),
-        Subject::Segments(kept) => kept.run_command(rt, words.as_slice()),
+    subjects.run_command(rt, words.as_slice())
+}
+
+#[derive(Clone, Copy)]
+enum Subject {
+    Feeds,
+    Segments,
+    Fetches,
+}
+
+// The objects that commands work on, and which of them the commands of the next lines work on.
+#[derive(Drop)]
+struct Subjects {
+    feeds: Feeds,
+    segments: Kept,
+    fetches: Fetches,
+    chosen: Subject,
+}
+
+impl Subjects {
+    fn new(alloc: Global) -> Result<Subjects, Fault> {
+        let fetches = Fetches::new(alloc)?;
+        Ok(Subjects {
+            feeds: Feeds::new(alloc),
+            segments: Kept::new(alloc),
+            fetches,
+            chosen: Subject::Feeds,
+        })
+    }
+
+    fn run_command(&mut self, rt: &HostRuntime, words: &[&str]) -> Result<(), Fault> {
+        match words {
+            ["segments"] => self.chosen = Subject::Segments,
+            ["fetches"] => self.chosen = Subject::Fetches,
+            _ => return self.run_chosen(rt, words),
+        }
+        Ok(())
+    }
+
+    fn run_chosen(&mut self, rt: &HostRuntime, words: &[&str]) -> Result<(), Fault> {
+        match self.chosen {
+            Subject::Feeds => self.feeds.run_command(rt, words),
+            Subject::Segments => self.segments.run_command(rt, words),
+            Subject::Fetches => self.fetches.run_command(rt, words),
+        }
     }
 }

@@ -90,7 +90,8 @@ fn range_of(word: &str) -> Result<(u64, u64), Fault> {
     }
 }
 
-fn file_of(rt: &HostRuntime, path: &str) -> Result<Vec<u8>, Fault> {
+/// Returns the bytes of a file.
+pub fn file_of(rt: &HostRuntime, path: &str) -> Result<Vec<u8>, Fault> {
     match fs::read(rt, path) {
         Ok(bytes) => Ok(bytes),
         Err(_) => Err(Fault("a file is not readable")),

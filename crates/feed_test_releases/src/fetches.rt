@@ -1,6 +1,39 @@
-//! Runs the commands of the input on fetches and their feed.
+//! Commands on fetches from a server in memory.
+//!
+//! Each fetch is of the release Acme_Global_All_2024-01-01.txt, from the host `h`. FILE names a file of the folder.
+//!
+//! Commands that make a feed; at the beginning there is one that `new` makes:
+//!
+//!     new                a feed over a keeper without records
+//!     active FILE        the same, in which FILE is the active release Acme_Global_All_2024-02-01.txt
+//!     fail-commits N     the same as new, where every commit after N others fails
+//!     restart            stops the feed, and opens it again
+//!     mend               the same, over a keeper with the same records that does not fail
+//!
+//! Commands that list connections, for the next ones of the server; the last of them counts for all that follow:
+//!
+//!     serve              serves no file
+//!     serve FILE         serves the release with this file
+//!     serve-as FILE      the same, as if a request had no field Range
+//!     serve-as FILE TEXT the same, as if a request had the line `Range: TEXT`
+//!     cut FILE N         serves FILE, and ends N bytes before the end of the reply
+//!     say FILE           replies with `HTTP/1.1 ` and the bytes of FILE
+//!     fail-read FILE N   serves FILE, and fails at the Nth read
+//!     fail-write N       fails at the Nth write
+//!     refuse FAULT       refuses the connection: the fault is `Connect` or `Memory`
+//!     hang-up            forgets the connections
+//!
+//! Commands that fetch:
+//!
+//!     fetch PIECE        fetches by requests for PIECE bytes; prints what the fetch prints, its fault and its status
+//!     fetch-by-law PIECE [FILE]  the same, from a server in memory over FILE or no file
+//!     fail-print N       in the fetches that follow, the Nth write or flush of what is printed fails; 0: none fails
+//!     calls              prints how many writes and flushes the last fetch made
+//!     requests           prints the requests of the last fetch, each after a line `connection`
+//!     rows               prints the rows of the package that have the ISSN 2434-561X
 use crate::server::{Server, Turn};
 use crate::sink::Sink;
+use crate::words::{file_of, name_of, number_of};
 use feed_answer::Query;
 use feed_dial::DialFault;
 use feed_fetch::{Order, Printer, fetch_from_memory, fetch_with, header_is_fetchable};
@@ -8,18 +41,17 @@ use feed_http::{NamedFile, is_host};
 use feed_keep::{Keep, ListKeep, Record};
 use feed_limits::PIECE_LIMIT;
 use feed_model::State;
-use feed_names::ReleaseName;
 use feed_parts::Part;
 use feed_releases::Feed;
 use feed_test_support::{Failing, Fault};
 use std::alloc::Global;
 use std::cell::{Cell, RefCell};
 use std::io::Write;
-use std::{fs, io, mem};
+use std::{io, mem};
 
-const JANUARY: &[u8] = b"Acme_Global_All_2024-01-01.txt";
+const JANUARY: &str = "Acme_Global_All_2024-01-01.txt";
 
-const FEBRUARY: &[u8] = b"Acme_Global_All_2024-02-01.txt";
+const FEBRUARY: &str = "Acme_Global_All_2024-02-01.txt";
 
 const PACKAGE: &[u8] = b"Acme_Global_All";
 
@@ -363,13 +395,6 @@ fn files_of(rt: &HostRuntime, words: &[&str]) -> Result<Vec<NamedFile>, Fault> {
     Ok(files)
 }
 
-fn file_of(rt: &HostRuntime, path: &str) -> Result<Vec<u8>, Fault> {
-    match fs::read(rt, path) {
-        Ok(bytes) => Ok(bytes),
-        Err(_) => Err(Fault("a file is not readable")),
-    }
-}
-
 // Reads the file that the one word names.
 fn file_in(rt: &HostRuntime, words: &[&str]) -> Result<Vec<u8>, Fault> {
     match words {
@@ -383,19 +408,5 @@ fn number_in(words: &[&str]) -> Result<u64, Fault> {
     match words {
         [word] => number_of(word),
         _ => Err(WORDS),
-    }
-}
-
-fn number_of(word: &str) -> Result<u64, Fault> {
-    match word.parse::<u64>() {
-        Ok(number) => Ok(number),
-        Err(_) => Err(Fault("a number is wrong")),
-    }
-}
-
-fn name_of(alloc: Global, text: &[u8]) -> Result<ReleaseName, Fault> {
-    match ReleaseName::parse(alloc, text) {
-        Ok(name) => Ok(name),
-        Err(_) => Err(Fault("a name is wrong")),
     }
 }
