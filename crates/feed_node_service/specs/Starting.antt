@@ -4,9 +4,8 @@ use Rattle.feed_model.specs.Sound.{IsSound}
 use Rattle.feed_model.specs.declared.keep_fault.KeepFault.TheVariants.{Damaged}
 use Rattle.feed_releases.specs.Openings.{opening_keeper}
 use Rattle.feed_releases.specs.declared.feed.opening.Opening.{Opening}
-use Rattle.feed_node_service.specs.declared.node_loop.End.{End}
 use Rattle.feed_node_service.specs.declared.starting.StartFault.{StartFault}
-use Rattle.feed_node_service.specs.declared.starting.StartFault.TheVariants.{Ended, Keeper}
+use Rattle.feed_node_service.specs.declared.starting.StartFault.TheVariants.{Keeper}
 use Rattle.feed_keep.specs.declared.keep.Keep.{Ghosts}
 use Rattle.feed_metrics.specs.Texts.{MetricsValue}
 use Rattle.feed_model.specs.History.{History}
@@ -31,10 +30,6 @@ IsStartingText responder terms h bytes body keeps text =
 -- each history that the node had continues with some events to one that it has
 abbrev pub IsLaterStart : {K : Type 0} {k : Ghosts K} → NodeMachine Socket K StartingResponder k → NodeMachine Socket K StartingResponder k → Type 0
 IsLaterStart old new = IsLater (λ responder head. 0) IsStartingText old new
-
--- the node ends as one that answers readers does
-abbrev pub IsEnd : StartFault → Type 0
-IsEnd fault = (cause : End) × (fault ≡ Ended cause)
 
 -- a node may end so while this feed is opened: as damaged only if no feed has the content of its keeper
 abbrev pub IsStartFault : {K : Type 0} {k : Ghosts K} → Opening K k → StartFault → Type 0

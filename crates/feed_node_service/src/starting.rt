@@ -1,7 +1,7 @@
 //! Opens the feed of a node in steps, between the turns of its loop.
 ghost use Rattle.std.specs.Prelude.{IfErr, IfOk};
 ghost use Rattle.feed_releases.specs.Openings.{IsOpeningStep};
-ghost use Rattle.feed_node_service.specs.Starting.{IsEnd, IsLaterStart, IsStartFault};
+ghost use Rattle.feed_node_service.specs.Starting.{IsLaterStart, IsStartFault};
 
 use crate::access_log::AccessLog;
 use crate::node_loop::{End, NodeSetup};
@@ -56,9 +56,14 @@ pub fn start<K: Keep + Drop, O: Write>(
     let Ok(mut starting) = Starting::new(rt, server, setup, out) else {
         return Err(StartFault::Ended(End::Memory));
     };
-    let feed = starting.open(opening, &mut node, server)?;
-    starting.end(&mut node, server)?;
-    Ok(feed)
+    let feed = match starting.open(opening, &mut node, server) {
+        Ok(feed) => feed,
+        Err(fault) => return Err(fault),
+    };
+    match starting.end(&mut node, server) {
+        Ok(()) => Ok(feed),
+        Err(end) => Err(StartFault::Ended(end)),
+    }
 }
 
 // Returns a node without releases and without connections, which fetches nothing.
@@ -130,18 +135,15 @@ impl<'a, O: Write> Starting<'a, O> {
                 Ok(OpeningStep::Pending(next)) => next,
                 Err(fault) => return Err(StartFault::Keeper(fault.cause)),
             };
-            self.turn_if_due(node, server)?;
+            if let Err(end) = self.turn_if_due(node, server) {
+                return Err(StartFault::Ended(end));
+            }
         }
         Err(StartFault::Ended(End::Memory))
     }
 
-    fn turn_if_due(
-        &mut self,
-        node: &mut StartingNode<'_>,
-        server: &mut Server,
-    ) -> Result<(), StartFault>
-        ensures cause { IfErr result IsEnd }
-        ensures later { IsLaterStart node.old node.new }
+    fn turn_if_due(&mut self, node: &mut StartingNode<'_>, server: &mut Server) -> Result<(), End>
+        ensures { IsLaterStart node.old node.new }
     {
         if !self.is_due() {
             return Ok(());
@@ -170,24 +172,21 @@ impl<'a, O: Write> Starting<'a, O> {
     }
 
     // Ends the connections.
-    fn end(&mut self, node: &mut StartingNode<'_>, server: &mut Server) -> Result<(), StartFault>
-        ensures cause { IfErr result IsEnd }
-        ensures later { IsLaterStart node.old node.new }
+    fn end(&mut self, node: &mut StartingNode<'_>, server: &mut Server) -> Result<(), End>
+        ensures { IsLaterStart node.old node.new }
     {
         let outcome = server.drain(self.rt, node, &mut self.events, &mut self.log);
         self.end_turn(outcome)
     }
 
     // Prints the lines of the log, if the sockets did not fail.
-    fn end_turn(&mut self, outcome: io::Result<()>) -> Result<(), StartFault>
-        ensures { IfErr result IsEnd }
-    {
+    fn end_turn(&mut self, outcome: io::Result<()>) -> Result<(), End> {
         if let Err(fault) = outcome {
-            return Err(StartFault::Ended(End::Sockets(fault)));
+            return Err(End::Sockets(fault));
         }
         match self.log.flush() {
             Ok(()) => Ok(()),
-            Err(fault) => Err(StartFault::Ended(End::Print(fault))),
+            Err(fault) => Err(End::Print(fault)),
         }
     }
 }
