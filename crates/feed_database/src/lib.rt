@@ -8,8 +8,8 @@ use feed_command::Faults;
 use feed_node_commands::{Command, run_command};
 use std::io::Write;
 
-// A command that ends soon keeps a file of up to 128 MiB in memory while it runs, so that SQLite reads each page twice and
-// not six times. A node runs on, and leaves the memory to its lists.
+// A command that ends soon keeps a file of up to 128 MiB in memory while it runs, so that SQLite reads each page twice
+// and not six times. A node runs on, and leaves the memory to its lists.
 const CACHE_LIMIT: u64 = 134_217_728;
 
 /// Runs a command on the database file at a path, prints its output to `out`, and returns the exit status.

@@ -1,5 +1,6 @@
 -- Removing the releases of earlier days, one after another; and what is left of them.
-use Rattle.std.proofs.Common.{◌≡◌, ◌<◌, ◌≤◌, ◌+◌, ◌++◌, ◌∙◌, ◌==◌, ◌↔◌, ℕ, zero, suc, Bool, true, false, IsTrue, not, List, [], ◌∷◌, Option, Some, length, get_or, take, drop, filter, refl, sym, ap, arith}
+use Rattle.std.proofs.Common.{◌≡◌, ◌<◌, ◌≤◌, ◌+◌, ◌++◌, ◌∙◌, ◌==◌, ◌↔◌, ℕ, zero, suc, Bool, true, false, IsTrue, not, List, [], ◌∷◌, Option, Some}
+use Rattle.std.proofs.Common.{length, get_or, take, drop, filter, refl, sym, ap, arith}
 use Rattle.std.proofs.lemmas.Bool.{eqb-true}
 use Rattle.std.proofs.lemmas.List.{length-append, length-drop, length-take}
 use Rattle.std.proofs.lemmas.List.Sums.{sum_by-cons, sum_by_push}
