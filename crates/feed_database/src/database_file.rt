@@ -126,7 +126,8 @@ impl DatabaseFile<'_> {
     }
 }
 
-// Returns the size of a page that the first bytes of a file state (its file format, section 1.3.2). 1 stands for 65,536.
+// Returns the size of a page that the first bytes of a file state (its file format, section 1.3.2). There 1 stands for
+// 65,536.
 fn page_size(front: [u8; 18]) -> u64
     ensures { 0 < result }
 {
