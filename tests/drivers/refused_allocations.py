@@ -74,7 +74,7 @@ SILENT_STEPS = [b"restart"]
 # to open.
 DRIVERS = re.compile(rb"[Mm]emory|AllocError|AllocFailed|error: Write|cannot read or write|a read or a print failed"
                      rb"|input or output failed|a file is not readable|a name is wrong|not the name of a release"
-                     rb"|a query is wrong|no feed is open")
+                     rb"|a query is wrong|no feed is open|the feed does not open")
 ABOUT_MEMORY = re.compile(rb"refused Memory\n|down Memory\n|(?:Memory|Write)(?: (.*))?\n")
 
 
