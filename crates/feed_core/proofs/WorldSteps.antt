@@ -59,6 +59,9 @@ pub record IsDoneUpTo {S K : Type 0} (law : S → K → Type 0) (all rest : List
   pub order : done ++ rest ≡ all
   pub each : AreOf law done made
 
+pub done_start : {S K : Type 0} (law : S → K → Type 0) (all rest : List S) (made : List K) → rest ≡ all → made ≡ [] → IsDoneUpTo law all rest made
+done_start law all rest made same none = rw (same, none) (record { done = []; order = refl; each = tt })
+
 pub done_next : {S K : Type 0} (law : S → K → Type 0) (all rest more : List S) (made now : List K) (s : S) (k : K) → IsDoneUpTo law all rest made → rest ≡ s ∷ more → law s k
     → now ≡ made ++ k ∷ [] → IsDoneUpTo law all more now
 done_next {S} {K} law all rest more made now s k so is holds pushed = record {

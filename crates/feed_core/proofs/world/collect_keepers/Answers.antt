@@ -1,9 +1,18 @@
 use Rattle.std.proofs.Common.{length, ap, arith, ◌≡◌}
 use Rattle.feed_core.specs.Slots.{IsSlotClean, HasSlotState, slot_count}
 use Rattle.std.proofs.lemmas.List.{nil_from_length}
-use Rattle.feed_core.proofs.WorldSteps.{IsKeptOf, done_next, done_all, done_count, kept_clean, kept_all}
+use Rattle.feed_core.proofs.WorldSteps.{IsKeptOf, done_start, done_next, done_all, done_count, kept_clean, kept_all}
 use Rattle.feed_core.proofs.Counts.{each_of}
 use Rattle.feed_core.proofs.world.collect_keepers.Goals as goal
+
+pub loop-node-init : goal.loop-node-init
+loop-node-init g c = record {
+  so = done_start (IsKeptOf (IsSlotClean g.K.Keep.clean) (HasSlotState g.K.Keep.content g.K.Keep.listed) g.K.Keep.clean g.K.Keep.content g.K.Keep.listed) c.args.nodes.items
+      c.into_iter-node-iterator.result.rest.items c.args.room.items c.into_iter-node-iterator.ensures.into_iter_gives.0 c.requires.empty;
+  counts = done_start (λ s k. (g.K.Keep.failed k ≡ slot_count g.K.Keep.failed s) × (g.K.Keep.loads k ≡ slot_count g.K.Keep.loads s)) c.args.nodes.items
+      c.into_iter-node-iterator.result.rest.items c.args.room.items c.into_iter-node-iterator.ensures.into_iter_gives.0 c.requires.empty;
+  room = c.requires.room;
+}
 
 pub push_reserved-requires : goal.push_reserved-requires
 push_reserved-requires g c =
