@@ -27,13 +27,17 @@ DATA = man/kbfeed.1:share/man/man1/kbfeed.1 man/kbfeed-feed.1:share/man/man1/kbf
 	$(foreach page,$(PAGES),$(page):$(DOC)/$(page))
 INTO = $(DESTDIR)$(PREFIX)
 
-.PHONY: help build replay test sessions pages check fmt lint bench install uninstall deb
+.PHONY: help build replay test prove mutants sessions pages check fmt lint bench install uninstall deb
 
 help:
-	@echo "make build      proves the crates side by side, builds the program, and leaves it at $(BUILT)"
 	@echo "make replay     replays the scripts of samples/ and compares the transcripts, with the proved program, or with a"
 	@echo "                small one without proof if the proved one is missing or older than a source"
-	@echo "make test       what CI runs: the pages, every proof, the mutants that must be rejected, and the sessions"
+	@echo "make test       compares the pages with the sources, and runs the sessions: with the proved programs that are newer"
+	@echo "                than the sources, and else with ones that it compiles without proof"
+	@echo "make build      proves the crates side by side, builds the program, and leaves it at $(BUILT);"
+	@echo "                DRIVERS=yes also builds the drivers that the sessions run"
+	@echo "make prove      proves every crate, builds each program by both compilers, and tries the mutants that the"
+	@echo "                specification names; CI runs make prove and then make test"
 	@echo "make install    installs the program, its scripts, units, pages, completions and docs below DESTDIR and PREFIX"
 	@echo "                ($(PREFIX)); it builds a program that is missing or older than a source, and PROGRAM=FILE"
 	@echo "                installs one as it is"
@@ -43,14 +47,16 @@ help:
 	@echo
 	@echo "For daily work:"
 	@echo "make check CRATE=x       proves one crate, and only what changed since the last check"
-	@echo "make sessions [ONLY=x]   runs the sessions of tests/, or some by name, with the program that is built"
+	@echo "make sessions [ONLY=x]   runs the sessions of tests/, or some by name, with the programs of make test"
+	@echo "make mutants             tries all mutants: with CRATE=x those of a crate, with SINCE=REV those of the crates that"
+	@echo "                         differ from a revision"
 	@echo "make pages               compares the pages with the sources and the sessions"
 	@echo "make fmt                 formats the sources of every crate, as the proofs require"
 	@echo "make lint                checks widths and module docs, and runs shellcheck and a Python linter if installed"
 	@echo "make bench [ONLY=x]      measures the program that is built beside its peers, and prints ratios (bench/README.md)"
 
 build:
-	@tools/build
+	@tools/build $(if $(DRIVERS),--drivers)
 
 # If a source was only touched, the toolchain leaves the program as it is, with its old time.
 $(BUILT): $(SOURCES)
@@ -59,17 +65,20 @@ $(BUILT): $(SOURCES)
 replay:
 	@tools/replay $(REPLAY)
 
-test:
-	@began=$$(date +%s); rm -f $(OUT)/sessions; \
-	tools/check_pages && rt ci && tests/run --summary $(OUT)/sessions; status=$$?; spent=$$(($$(date +%s) - began)); \
-	echo "the gate took $$((spent / 60)) min $$((spent % 60)) s on $$(nproc) processors"; \
-	cat $(OUT)/sessions 2> /dev/null; exit $$status
+test: pages sessions
+
+prove:
+	@tools/prove
+
+mutants:
+	@tools/mutants $(if $(SINCE),--since "$(SINCE)") $(CRATE)
 
 check:
 	@[ -d "crates/$(CRATE)/src" ] || { echo "make check CRATE=NAME: a crate of crates.txt" >&2; exit 2; }
 	@cd "crates/$(CRATE)" && rt check
 
-sessions:
+# Sessions come after pages where both are asked for, so that the last line counts the sessions.
+sessions: $(if $(filter test,$(MAKECMDGOALS)),pages)
 	@tests/run $(ONLY)
 
 pages:
