@@ -1,7 +1,5 @@
 """Ends work at a signal without leaving a process or half a file."""
 import signal
-import subprocess
-import time
 
 
 class Stop:
@@ -14,12 +12,3 @@ class Stop:
 
     def note(self, number, _):
         self.number = number
-
-    def run(self, words):
-        """Runs a command that cleans up after itself, passes a signal on to it, and returns its exit status."""
-        with subprocess.Popen(words) as command:
-            while command.poll() is None:
-                if self.number:
-                    command.send_signal(self.number)
-                time.sleep(0.1)
-        return command.returncode
