@@ -1,0 +1,229 @@
+"""Dates. A date is read in the widest way that cannot be wrong, and never gets a part that its text lacks.
+
+`read` tries in this order: what the reader takes, words for an open end, numbers, a year with names of months or with
+a quarter, and the years of any other text, of which the earliest begins and the latest ends."""
+import calendar
+import re
+from typing import Iterable, NamedTuple
+
+from . import strict
+from .texts import TABLES, folded, plain, remembered, word_set, words
+
+YEAR = r"(1[4-9][0-9]{2}|20[0-9]{2}|21[0-9]{2})"
+YEARS = re.compile(rf"(?<![0-9]){YEAR}(?![0-9])")
+TWO_YEARS = re.compile(rf"{YEAR}\s*[/-]\s*([0-9]{{2}})(?![0-9])")
+TIME = re.compile(r"[tT ][0-9]{1,2}:[0-9]{2}(:[0-9]{2}(\.[0-9]+)?)?( ?[aApP][mM])?(Z|[+-][0-9]{2}:?[0-9]{2})?$")
+DAY_FIRST = re.compile(rf"(?<![0-9])([0-9]{{1,2}})([/.\- ])([0-9]{{1,2}})\2{YEAR}(?![0-9])")
+# The parts of a date, in the order of the groups.
+FORMS = [
+    ("ymd", re.compile(rf"{YEAR}([/.\- ]?)([0-9]{{2}})\2([0-9]{{2}})")),
+    ("ymd", re.compile(rf"{YEAR}([/.\- ])([0-9]{{1,2}})\2([0-9]{{1,2}})")),
+    ("ym", re.compile(rf"{YEAR}([/.\- ]?)([0-9]{{2}})")),
+    ("ym", re.compile(rf"{YEAR}([/.\-])([0-9])")),
+    ("my", re.compile(rf"([0-9]{{1,2}})[/.\- ]{YEAR}")),
+]
+CJK_PART = re.compile(r"\s*[年月년월]\s*")
+CJK_DAY = re.compile("[日일도号號]")
+OPEN = word_set("dates", "open")
+NONE = word_set("dates", "none")
+SINCE = word_set("dates", "since")
+FILLERS = word_set("dates", "fillers")
+QUARTERS = word_set("dates", "quarter")
+SEASONS = word_set("dates", "season")
+MONTHS = words("months")
+TO = sorted(TABLES["dates"]["to"], key=len, reverse=True)
+TO_APART = "|".join(re.escape(it) for it in TO if it < "\u0250")
+TO_BESIDE = "|".join(it for it in TO if it >= "\u0250")
+# What is between the two dates of a range. Words of scripts without spaces may touch others.
+RANGE = re.compile(rf"\s*(?:-+|[~〜～]|(?<![^\W\d])(?:{TO_APART})(?![^\W\d])|{TO_BESIDE})\s*", re.I)
+# The rest of a date behind its year, whose hyphens do not connect two dates.
+REST = re.compile(r"-[0-9]{1,2}-[0-9]{1,2}(?![0-9])|-(?:0?[1-9]|1[0-2])(?=\s*(?:[-~〜～]|$|\s))")
+
+NOT_READ = "a date that does not read is open"
+
+
+class Order:
+    """Whether the day or the month comes first. All date columns of a list decide it together."""
+
+    def __init__(self, fixed: str = ""):
+        self.fixed = fixed
+        self.seen: set[str] = set()
+
+    def look(self, cells: Iterable[str]) -> None:
+        """Notes the orders that the cells prove."""
+        for cell in cells:
+            if cell and not cell[:4].isdigit():
+                for found in DAY_FIRST.finditer(plain(cell)):
+                    if int(found[1]) > 12:
+                        self.seen.add("dmy")
+                    if int(found[3]) > 12:
+                        self.seen.add("mdy")
+
+    def __str__(self) -> str:
+        """`dmy`, `mdy`, or nothing if the list does not decide it."""
+        return self.fixed or (min(self.seen) if len(self.seen) == 1 else "")
+
+
+class Read(NamedTuple):
+    """What a cell says, and the rule that read it. The text is empty if that end is open, None if nothing is read."""
+    text: str | None
+    rule: str
+
+
+def date_text(year: int, month: int = 0, day: int = 0) -> str:
+    """Returns a date as far as it is real: an unknown or impossible month or day is left out."""
+    if not 1 <= month <= 12:
+        return f"{year:04}"
+    if not 1 <= day <= calendar.monthrange(year, month)[1]:
+        return f"{year:04}-{month:02}"
+    return f"{year:04}-{month:02}-{day:02}"
+
+
+@remembered(16_384)
+def read(cell: str, is_last: bool, order: str) -> Read:
+    """Reads the date of a cell, as a first or as a last one. `order` is that of day and month, empty if undecided."""
+    bare = cell.strip(" ")
+    now = re.sub(r"\.0+$", "", TIME.sub("", plain(cell)))
+    if is_last and re.search(r"(?<![0-9])9999", now):
+        return Read("", "9999 is an open end")
+    if not bare or strict.date(bare):
+        return Read(cell, "as it is")
+    if folded(now) in NONE:
+        return Read("", "no date")
+    if is_last and folded(now) in OPEN:
+        return Read("", "an open end in words")
+    now = CJK_DAY.sub("", CJK_PART.sub("-", now)).strip("-[]()?.,;* ")
+    if found := by_numbers(now, is_last, order) or by_names(now, is_last):
+        return found
+    sides = range_sides(now)
+    if sides and all(YEARS.search(it) for it in sides):
+        rule = "two years in a date" if all(YEARS.fullmatch(it) for it in sides) else "a range in one cell"
+        return read(sides[is_last], is_last, order)._replace(rule=rule)
+    return by_years(now, is_last)
+
+
+def by_numbers(now: str, is_last: bool, order: str) -> Read | None:
+    """Reads a date of numbers alone."""
+    if found := DAY_FIRST.fullmatch(now):
+        one, sign, two, year = int(found[1]), found[2], int(found[3]), int(found[4])
+        if sign == "." or one > 12 >= two or one == two:
+            order = "dmy"
+        elif two > 12 >= one:
+            order = "mdy"
+        if not order:
+            return Read(date_text(year), "day and month are not decided: the year")
+        return parts(year, two, one) if order == "dmy" else parts(year, one, two)
+    for form, pattern in FORMS:
+        if found := pattern.fullmatch(now):
+            if form == "my":
+                return parts(int(found[2]), int(found[1]))
+            year, month = int(found[1]), int(found[3])
+            if form == "ym" and (end := second_year(year, month)):
+                return Read(date_text(end if is_last else year), "two years in a date")
+            return parts(year, month, int(found[4]) if form == "ymd" else None)
+    return None
+
+
+def second_year(year: int, two: int) -> int:
+    """Returns the year that two digits behind a year mean, or 0.
+
+    `1995/96`, `1999/00`, `1995-99` and `2001/02` have one. Other numbers up to 12 are months."""
+    if two == (year + 1) % 100:
+        return year + 1
+    return year - year % 100 + two if two > 12 and two > year % 100 else 0
+
+
+def parts(year: int, month: int, day: int | None = None) -> Read:
+    """Returns the date of a year, a month and perhaps a day, any of which may be impossible."""
+    found = date_text(year, month, day or 0)
+    is_whole = len(found) == (7 if day is None else 10)
+    return Read(found, "a date in another form" if is_whole else "a month or day that is 00 or impossible is left out")
+
+
+def by_names(now: str, is_last: bool) -> Read | None:
+    """Reads a year with the name of a month or two, or with a quarter. A day counts only if nothing else is there."""
+    years = {int(it) for it in YEARS.findall(now)}
+    if len(years) != 1:
+        return None
+    year = years.pop()
+    tokens = re.findall(r"[0-9]+|[^\W\d]+", folded(now))
+    months = [int(MONTHS[it]) for it in tokens if it in MONTHS]
+    others = [it for it in tokens if it not in MONTHS and it not in FILLERS and it != str(year)]
+    if months:
+        day = int(others[0]) if len(months) == len(others) == 1 and others[0].isdigit() and len(others[0]) < 3 else 0
+        return Read(date_text(year, months[-1] if is_last else months[0], day), "the name of a month")
+    if len(others) == 2 and QUARTERS & set(others) and (digit := next((it for it in others if it in "1234"), "")):
+        return Read(date_text(year, int(digit) * 3 if is_last else int(digit) * 3 - 2), "a quarter")
+    if len(others) == 1 and others[0] in SEASONS:
+        return Read(date_text(year), "a season: its year")
+    return None
+
+
+def by_years(now: str, is_last: bool) -> Read:
+    """Reads the years of any text: the earliest begins, and the latest ends."""
+    found = [int(it) for it in YEARS.findall(now)]
+    for match in TWO_YEARS.finditer(now):
+        found += filter(None, [second_year(int(match[1]), int(match[2]))])
+    if not found:
+        return Read(None, NOT_READ)
+    rule = "two years in a date" if len(found) > 1 else "a year in a text"
+    return Read(date_text(max(found) if is_last else min(found)), rule)
+
+
+def range_sides(now: str) -> tuple[str, str] | None:
+    """Returns the two sides of a range: what is before and behind the first connection that follows a year."""
+    first = YEARS.search(now)
+    if not first:
+        return None
+    rest = REST.match(now, first.end())
+    found = RANGE.search(now, rest.end() if rest else first.end())
+    # `1995-99` is a date with two years.
+    if not found or re.fullmatch(r"[0-9]{2}", now[found.end():].strip()):
+        return None
+    return now[:found.start()].strip(), now[found.end():].strip()
+
+
+def ranges(cell: str, order: str) -> list[tuple[str, str]]:
+    """Returns the ranges of a cell that holds a coverage, as `1995-2001; 2003-present`. None of them has no year."""
+    found = []
+    for part in range_texts(plain_lines(cell)):
+        sides = range_sides(part)
+        left, right = sides or (part, "")
+        first = read(left, False, order).text
+        if not first:
+            continue
+        if sides:
+            last = read(right, True, order).text or ""
+        elif (two := TWO_YEARS.fullmatch(part.strip())) and (end := second_year(int(two[1]), int(two[2]))):
+            first, last = two[1], date_text(end)
+        else:
+            is_open = SINCE & set(folded(part).split()) or part.rstrip().endswith("+")
+            last = "" if is_open else read(left, True, order).text or ""
+        found.append((first, last))
+    return found
+
+
+def plain_lines(cell: str) -> str:
+    """Returns a cell in plain characters, with its lines apart."""
+    return CJK_DAY.sub("", CJK_PART.sub("-", ";".join(map(plain, re.split(r"[\r\n]+", cell)))))
+
+
+def range_texts(text: str) -> Iterable[str]:
+    """Yields the text of each range. A comma separates two only if what is before it is a whole one."""
+    for part in text.split(";"):
+        gathered = ""
+        for piece in part.split(","):
+            if gathered and YEARS.search(piece) and is_complete(gathered):
+                yield gathered
+                gathered = ""
+            gathered += ("," if gathered else "") + piece
+        if gathered.strip():
+            yield gathered
+
+
+def is_complete(part: str) -> bool:
+    """Returns whether a text is a year alone, or a range with both its ends."""
+    if YEARS.fullmatch(part.strip()):
+        return True
+    sides = range_sides(part)
+    return sides is not None and bool(YEARS.search(sides[1]) or folded(sides[1]) in OPEN)

@@ -1,0 +1,112 @@
+"""What was done with each record: as JSON for programs, and in ten lines for people."""
+import collections
+import json
+from typing import Any, Callable
+
+from . import form, strict
+from .faults import Internal
+from .record import Outcome
+from .values import PLACEHOLDER
+
+# The lines on standard error, unless all are asked for.
+SHORT = 10
+# The cells of a dropped record that the report has.
+SHOWN = 25
+
+
+class Report:
+    """Counts records and rows, and writes the report while the list is converted.
+
+    Nothing in it grows with the list."""
+
+    def __init__(self, write: Callable[[str], None] | None, head: dict[str, Any], warnings: list[str]):
+        self.out, self.warnings = write, warnings
+        self.records = self.converted = self.rows = 0
+        self.dropped: collections.Counter[str] = collections.Counter()
+        # For each rule how many records it changed, and the first of them.
+        self.rules: dict[str, list[int]] = {}
+        self.before: strict.Row | None = None
+        self.comma = "\n"
+        self.write("{")
+        for key, value in head.items():
+            self.write(f"{as_json(key)}: {as_json(value)},\n")
+        self.write('"records": [')
+
+    def write(self, text: str) -> None:
+        """Writes a part of the JSON, if a report is wanted."""
+        if self.out:
+            self.out(text)
+
+    def note(self, rule: str, number: int) -> None:
+        """Counts a record for a warning."""
+        self.rules.setdefault(rule, [0, number])[0] += 1
+
+    def record(self, given: form.Record, outcome: Outcome) -> None:
+        """Adds a record: the numbers of its rows, or why it has none. The header is record 1, and row 1."""
+        self.records += 1
+        number = self.records + 1
+        item: dict[str, Any] = {"record": number, "line": given.line}
+        if outcome.rows:
+            item["rows"] = [self.rows + 2 + at for at in range(len(outcome.rows))]
+            self.converted += 1
+            self.rows += len(outcome.rows)
+            if len(outcome.rows) > 1:
+                self.note("a record is several rows", number)
+        else:
+            self.dropped[outcome.dropped] += 1
+            item.update(dropped=outcome.dropped, why=outcome.why, cells=given.cells[:SHOWN])
+        if given.lines > 1:
+            self.note("a line end in a cell is a space", number)
+        if given.is_quoted:
+            self.note("quotes around cells are no part of the text", number)
+        for row, read in outcome.rows:
+            self.address(row["title_url"], number)
+            self.volumes(read, number)
+        for rule in dict.fromkeys(f"{it.label}: {it.rule}" for it in outcome.changes):
+            self.note(rule, number)
+        if self.out:
+            if outcome.changes:
+                item["changes"] = [{"record": number, "label": it.label, "from": it.old, "to": it.new, "rule": it.rule}
+                                   for it in outcome.changes]
+            self.write(self.comma + as_json(item))
+            self.comma = ",\n"
+
+    def address(self, url: str, number: int) -> None:
+        """Warns of an address that a reader cannot follow."""
+        if PLACEHOLDER.search(url):
+            self.note("the address has a placeholder: --map fills it", number)
+        elif url.strip() and not url.lower().startswith(("http://", "https://")):
+            self.note("the address is no link", number)
+
+    def volumes(self, new: strict.Row, number: int) -> None:
+        """Warns if the volumes of two rows of a title overlap, and their days do not: volumes began again."""
+        old, self.before = self.before, new
+        if (old and old[1:3] == new[1:3] and old.last_day and new.first_day and old.last_day < new.first_day
+                and old.first_volume is not None and old.last_volume is not None and new.first_volume is not None
+                and new.first_volume <= old.last_volume
+                and (new.last_volume is None or old.first_volume <= new.last_volume)):
+            self.note("the volumes of a title begin again", number)
+
+    def end(self, refused: str = "") -> None:
+        """Writes the end of the report. `refused` is why nothing else was written."""
+        if self.records != self.converted + sum(self.dropped.values()):
+            raise Internal("the counts of records do not add up")
+        self.warnings += [f"{rule}: {count} record{'s' if count > 1 else ''}, the first is {first}"
+                          for rule, (count, first) in self.rules.items()]
+        counts = {"records": self.records, "converted": self.converted, "dropped": dict(self.dropped),
+                  "rows": self.rows}
+        end = {"warnings": self.warnings, "counts": counts, **({"refused": refused} if refused else {})}
+        self.write("\n],\n" + ",\n".join(f"{as_json(key)}: {as_json(value)}" for key, value in end.items()) + "}\n")
+
+    def summary(self, is_whole: bool) -> list[str]:
+        """Returns the counts and the warnings, at most ten lines unless all are asked for."""
+        dropped = ", ".join(f"{count} {reason}" for reason, count in self.dropped.items()) or "none"
+        lines = [f"{self.records} records, {self.rows} rows, dropped: {dropped}", *self.warnings]
+        if is_whole or len(lines) <= SHORT:
+            return lines
+        return lines[:SHORT - 1] + [f"and {len(lines) - SHORT + 1} more warnings: -v prints them all"]
+
+
+def as_json(value: Any) -> str:
+    """Returns a value as JSON."""
+    return json.dumps(value, ensure_ascii=False)

@@ -1,0 +1,147 @@
+"""What the proved reader takes from a list, rule by rule (docs/KBART.md). Nothing here mends anything.
+
+A row is written only if these rules read it, so `kbfeed check` skips no row of the output. A test compares them with
+the proved reader on random lists."""
+import calendar
+import re
+from typing import NamedTuple
+
+from .texts import remembered
+
+REQUIRED = ("publication_title", "print_identifier", "online_identifier", "date_first_issue_online",
+            "num_first_vol_online", "date_last_issue_online", "num_last_vol_online", "title_url")
+OPTIONAL = ("title_id", "embargo_info", "coverage_depth", "publication_type", "access_type")
+# The 25 columns of KBART Phase II, in the standard's order.
+LABELS = ("publication_title", "print_identifier", "online_identifier", "date_first_issue_online",
+          "num_first_vol_online", "num_first_issue_online", "date_last_issue_online", "num_last_vol_online",
+          "num_last_issue_online", "title_url", "first_author", "title_id", "embargo_info", "coverage_depth", "notes",
+          "publisher_name", "publication_type", "date_monograph_published_print", "date_monograph_published_online",
+          "monograph_volume", "monograph_edition", "first_editor", "parent_publication_title_id",
+          "preceding_publication_title_id", "access_type")
+
+Day = tuple[int, int, int]
+
+
+class Row(NamedTuple):
+    """What the reader takes from a record, except texts."""
+    kind: str
+    print_identifier: str | None
+    online_identifier: str | None
+    first_day: Day | None
+    last_day: Day | None
+    first_volume: int | None
+    last_volume: int | None
+
+
+def lower(text: str) -> str:
+    """Returns a text without spaces at its ends, and in lower case if all of it is ASCII."""
+    return text.strip(" ").lower() if text.isascii() else text.strip(" ")
+
+
+def columns(header: list[str]) -> dict[str, int] | None:
+    """Returns the place of each label that the reader uses, or None if it would refuse the header."""
+    found: dict[str, int] = {}
+    for place, field in enumerate(header):
+        label = lower(field)
+        if label in REQUIRED or label in OPTIONAL:
+            if label in found:
+                return None
+            found[label] = place
+    return found if all(label in found for label in REQUIRED) else None
+
+
+ISSN = re.compile(r"([0-9]{4})-?([0-9]{3}[0-9Xx])")
+ISBN10 = re.compile(r"[0-9]{9}[0-9Xx]")
+ISBN13 = re.compile(r"97[89][0-9]{10}")
+DATE = re.compile(r"([0-9]{4})(?:-([0-9]{2})(?:-([0-9]{2}))?)?")
+VOLUME = re.compile(r"[0-9]{1,9}")
+
+
+def weighted(digits: str, most: int) -> int:
+    """Returns the sum of the digits with the weights `most`, `most` - 1 and so on. An X counts ten."""
+    return sum((10 if it in "Xx" else int(it)) * (most - at) for at, it in enumerate(digits))
+
+
+def check13(twelve: str) -> str:
+    """Returns the check digit of an ISBN-13."""
+    return str(-sum(int(it) * (1, 3)[at % 2] for at, it in enumerate(twelve)) % 10)
+
+
+@remembered(4_096)
+def issn(text: str) -> str | None:
+    """Returns an ISSN in its kept form, 2434-561X."""
+    found = ISSN.fullmatch(text.strip(" "))
+    if not found or weighted(found[1] + found[2], 8) % 11:
+        return None
+    return f"{found[1]}-{found[2].upper()}"
+
+
+@remembered(4_096)
+def isbn(text: str) -> str | None:
+    """Returns an ISBN in its kept form, of thirteen digits."""
+    digits = text.strip(" ").replace("-", "")
+    if ISBN13.fullmatch(digits):
+        return digits if check13(digits[:12]) == digits[12] else None
+    if ISBN10.fullmatch(digits) and weighted(digits, 10) % 11 == 0:
+        return "978" + digits[:9] + check13("978" + digits[:9])
+    return None
+
+
+@remembered(16_384)
+def date(text: str) -> tuple[Day, Day] | None:
+    """Returns the first and the last day of a date."""
+    found = DATE.fullmatch(text.strip(" "))
+    if not found:
+        return None
+    year, month, day = (int(it) if it else None for it in found.groups())
+    if not year or month is not None and not 1 <= month <= 12:
+        return None
+    if month is None:
+        return (year, 1, 1), (year, 12, 31)
+    days = calendar.monthrange(year, month)[1]
+    if day is None:
+        return (year, month, 1), (year, month, days)
+    return ((year, month, day), (year, month, day)) if 1 <= day <= days else None
+
+
+@remembered(4_096)
+def volume(text: str) -> int | None:
+    """Returns the number of a volume."""
+    text = text.strip(" ")
+    return int(text) if VOLUME.fullmatch(text) else None
+
+
+def row(cells: dict[str, str]) -> Row | str:
+    """Returns the row of a record, or the reason for which the reader skips it."""
+    kind = lower(cells.get("publication_type", "")) or "serial"
+    if kind not in ("serial", "monograph"):
+        return "OtherType"
+    number = issn if kind == "serial" else isbn
+    both = number(cells["print_identifier"]), number(cells["online_identifier"])
+    if both == (None, None):
+        return "NoIssn" if kind == "serial" else "NoIsbn"
+    if kind == "monograph":
+        return Row(kind, *both, None, None, None, None)
+    dates = []
+    for label in ("date_first_issue_online", "date_last_issue_online"):
+        days = date(cells[label])
+        if days is None and cells[label].strip(" "):
+            return "BadDate"
+        dates.append(days)
+    first, last = dates[0] and dates[0][0], dates[1] and dates[1][1]
+    if first and last and first > last:
+        return "Reversed"
+    one, two = volume(cells["num_first_vol_online"]), volume(cells["num_last_vol_online"])
+    if one is not None and two is not None and one > two:
+        one = two = None
+    return Row(kind, *both, first, last, one, two)
+
+
+def keeps(old: Row, new: Row | str) -> bool:
+    """Returns whether all that the reader took from the old row is in the new one.
+
+    A last day in 9999 may become an open end. Identifiers and volumes may be added."""
+    if old.last_day and old.last_day[0] == 9999:
+        old = old._replace(last_day=None)
+    return (isinstance(new, Row) and old.kind == new.kind and old[3:5] == new[3:5]
+            and all(a is None or a == b for a, b in zip(old[1:3] + old[5:], new[1:3] + new[5:])))

@@ -1,0 +1,48 @@
+"""The tables, and the forms of a text in which it is compared with their words."""
+import functools
+import pathlib
+import re
+import tomllib
+import unicodedata
+from typing import Any, Callable, TypeVar
+
+with open(pathlib.Path(__file__).parent / "tables.toml", "rb") as file:
+    TABLES: dict[str, Any] = tomllib.load(file)
+
+DASHES = {ord(it): "-" for it in "‐‑‒–—―−⁃﹘﹣－˗"}
+INVISIBLE = {ord(it): None for it in "\u00ad\u200b\u200c\u200d\u2060\ufeff\u200e\u200f"}
+SPACES = {ord(it): " " for it in "\u00a0\u1680\u2000\u2001\u2002\u2003\u2004\u2005\u2006\u2007\u2008\u2009\u200a\u202f"
+          "\u205f\u3000\t\r\n"}
+ALIKE: dict[int, str | None] = {**DASHES, **INVISIBLE, **SPACES}
+
+Function = TypeVar("Function", bound=Callable[..., Any])
+
+
+def remembered(size: int) -> Callable[[Function], Function]:
+    """Caches a function: the cells of a list repeat."""
+    return functools.lru_cache(maxsize=size)    # type: ignore[return-value]
+
+
+def plain(text: str) -> str:
+    """Returns a text with the digits, dashes and spaces of ASCII, without spaces at its ends."""
+    if text.isascii() and text.isprintable():
+        return text.strip()
+    return unicodedata.normalize("NFKC", text.translate(ALIKE)).translate(ALIKE).strip()
+
+
+@remembered(65_536)
+def folded(text: str) -> str:
+    """Returns the words of a text in lower case, without accents and signs, and with one space between them."""
+    text = re.sub(r"(?<=[a-z])(?=[A-Z])", " ", plain(text))
+    text = "".join(it for it in unicodedata.normalize("NFKD", text) if unicodedata.category(it) != "Mn")
+    return re.sub(r"[\W_]+", " ", unicodedata.normalize("NFC", text).casefold()).strip()
+
+
+def words(table: str) -> dict[str, str]:
+    """Returns a table that maps each value to the words that mean it, turned round: from folded word to value."""
+    return {folded(word): value for value, many in TABLES[table].items() for word in many}
+
+
+def word_set(table: str, key: str) -> frozenset[str]:
+    """Returns the folded words of one entry of a table."""
+    return frozenset(folded(word) for word in TABLES[table][key])

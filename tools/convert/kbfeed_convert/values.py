@@ -1,0 +1,122 @@
+"""The cells that are texts, addresses, embargoes, depth or access. A cell that reads as it is stays as it is."""
+import html
+import re
+
+from .texts import INVISIBLE, SPACES, folded, remembered, word_set, words
+
+CONTROL = {it: " " for it in [*range(32), 127]}
+# The second half of the control characters is Windows-1252 that was read as ISO 8859-1.
+C1 = {it: bytes([it]).decode("cp1252", "ignore") or " " for it in range(0x80, 0xA0)}
+UNSAFE = re.compile(r"[\x00-\x1f\x7f-\x9f\xa0\u00ad\u200b\u3000\ufeff]")
+REFERENCE = re.compile(r"&(?:#[0-9]{1,7}|#[xX][0-9a-fA-F]{1,6}|[A-Za-z][A-Za-z0-9]{1,30});")
+TAGS = re.compile(r"</?(?:i|b|em|strong|u|sup|sub|span|br|p)(?: [^<>]*)?/?>", re.I)
+# The bytes of a character in UTF-8, read as Windows-1252.
+TWICE = re.compile("[\u00c2-\u00f4][\u0080-\u00bf\u0152\u0153\u0160\u0161\u0178\u017d\u017e\u0192\u02c6\u02dc"
+                   "\u2013-\u203a\u20ac\u2122]")
+
+
+def decoded_again(text: str) -> str:
+    """Returns a text that was encoded in UTF-8 twice, as it was before, or the text if it was not."""
+    try:
+        raw = b"".join(it.encode("latin-1") if 0x80 <= ord(it) < 0xA0 else it.encode("cp1252") for it in text)
+        return raw.decode("utf-8")
+    except UnicodeError:
+        return text
+
+
+def clean(text: str) -> str:
+    """Returns a text without control characters and characters that nobody sees."""
+    if not UNSAFE.search(text):
+        return text
+    return text.translate(C1).translate({**CONTROL, **INVISIBLE, **SPACES})
+
+
+def title(cell: str) -> str:
+    """Returns a text for readers: references of HTML are decoded once, and tags of letters are removed."""
+    text = decoded_again(cell) if TWICE.search(cell) else cell
+    if "&" in text:
+        # Only with a semicolon: the standard library decodes `&copy` in `a=1&copy=2` too.
+        text = REFERENCE.sub(lambda it: html.unescape(it[0]), text)
+    if "<" in text:
+        text = TAGS.sub("", text)
+    text = clean(text)
+    return text.strip(" ") if text != cell else cell
+
+
+GOOD_ADDRESS = re.compile(r"[A-Za-z][A-Za-z0-9+.-]*://[!-~]*")
+HOST = re.compile(r"(?:[A-Za-z0-9](?:[A-Za-z0-9-]*[A-Za-z0-9])?\.)+[A-Za-z]{2,24}(?::[0-9]+)?(?:[/?#].*)?")
+DOI = re.compile(r"(?:doi:\s*)?(10\.[0-9]{4,9}/\S+)", re.I)
+# `[SITE_ID]`, `{custid}`, `<your id>`, `%%ID%%` and `$SITE_ID`, which a library has to fill.
+PLACEHOLDER = re.compile(r"\[[A-Za-z_ -]+\]|\{+[^{}]+\}+|<[A-Za-z_ -]+>|%%[A-Za-z_]+%%|\$[A-Z_]{3,}")
+
+
+def address(cell: str, replaced: dict[str, str]) -> str:
+    """Returns an address with a scheme and without spaces. `replaced` has the texts that a map replaces."""
+    text = cell
+    for old, new in replaced.items():
+        text = text.replace(old, new)
+    text = clean(text).strip(" ").replace("&amp;", "&")
+    if not text or GOOD_ADDRESS.fullmatch(text):
+        return text if text != cell.strip(" ") else cell
+    if found := DOI.fullmatch(text):
+        text = "https://doi.org/" + found[1]
+    elif text.startswith("//"):
+        text = "http:" + text
+    elif HOST.fullmatch(text):
+        text = "http://" + text
+    text = re.sub(r"^([A-Za-z]+):/+(?=[^/])", r"\1://", text)
+    return text.replace(" ", "%20")
+
+
+STATEMENTS = re.compile(r"[RP][0-9]{1,9}[DMY](?:;[RP][0-9]{1,9}[DMY])?", re.I)
+UNITS = words("units")
+NUMBERS = words("numbers")
+NO_EMBARGO = word_set("embargo", "none")
+RECENT = word_set("embargo", "recent")
+
+
+@remembered(4_096)
+def embargo(cell: str, unit: str = "") -> str:
+    """Returns an embargo in the form of the standard, or the cell if it is in neither form.
+
+    `12 months`, `1 Jahr`, `last 5 years` and `P1Y6M` are read. `unit` is that of a bare number, from the column's
+    label."""
+    if not cell or STATEMENTS.fullmatch(cell.strip(" ")):
+        return cell
+    text = folded(cell)
+    if text in NO_EMBARGO:
+        return ""
+    if found := re.fullmatch(r"([rp])([0-9]{1,4})y ?([0-9]{1,4})m", text):
+        return f"{found[1].upper()}{int(found[2]) * 12 + int(found[3])}M"
+    tokens = [NUMBERS.get(it, it) for it in re.sub(r"(\d)([^\W\d])", r"\1 \2", text).split()]
+    numbers = [int(it) for it in tokens if it.isascii() and it.isdigit()]
+    units = {UNITS[it] for it in tokens if it in UNITS} or ({unit} if unit else set())
+    if len(numbers) != 1 or len(units) != 1 or numbers[0] > 99_999:
+        return cell
+    count, one = numbers[0], units.pop()
+    if count == 0:
+        return ""
+    if one == "W":
+        count, one = count * 7, "D"
+    return f"{'R' if RECENT & set(tokens) else 'P'}{count}{one}"
+
+
+DEPTH = words("depth")
+ACCESS = words("access")
+YES_NO = words("yes_no")
+
+
+def depth(cell: str) -> str:
+    """Returns the depth of coverage in the standard's words, or the cell if no table knows it."""
+    return DEPTH.get(folded(cell), cell) if cell else cell
+
+
+def access(cell: str) -> str:
+    """Returns F or P, or the cell if no table knows it."""
+    return ACCESS.get(folded(cell), cell) if cell else cell
+
+
+def open_access(cell: str) -> str:
+    """Returns the access that a column says by yes or no, or nothing."""
+    said = {"yes": "F", "no": "P"}.get(YES_NO.get(folded(cell), "")) or access(cell)
+    return said if said in ("F", "P") else ""
