@@ -140,9 +140,9 @@ def form_warnings(shape: form.Form, columns: labels.Columns, order: dates.Order,
 
 def row_line(row: Cells) -> bytes:
     """Returns a row as a line. A separator or a line end inside a cell is a space, as no cell can be quoted."""
-    line = "\t".join(row[it] for it in strict.LABELS)
+    line = "\t".join(row.values())
     if line.count("\t") != len(strict.LABELS) - 1 or "\n" in line or "\r" in line:
-        line = "\t".join(re.sub("[\t\r\n]", " ", row[it]) for it in strict.LABELS)
+        line = "\t".join(re.sub("[\t\r\n]", " ", it) for it in row.values())
     return (line + "\n").encode("utf-8", "replace")
 
 

@@ -18,11 +18,12 @@ DOUBLED = re.compile(r'[^"]*(?:""[^"]*)*')
 
 
 class Record(NamedTuple):
-    """The cells of a record, the line where it begins, and how many lines it has."""
+    """The cells of a record, the line where it begins, how many lines it has, and their characters."""
     line: int
     cells: list[str]
     is_quoted: bool
     lines: int
+    size: int
 
 
 class Form(NamedTuple):
@@ -88,7 +89,7 @@ def records(lines: Iterator[tuple[int, str]], sign: str, width: int, guard: Guar
         if not number:
             return
         if '"' not in line:
-            yield Record(number, line.split(sign), False, 1)
+            yield Record(number, line.split(sign), False, 1, len(line))
             continue
         alone = line.split(sign)
         cells, is_open = split(line, pattern)
@@ -109,7 +110,7 @@ def records(lines: Iterator[tuple[int, str]], sign: str, width: int, guard: Guar
             cells = alone
         for _ in range(taken):
             ahead.popleft()
-        yield Record(number, cells, taken > 0 or cells != alone, 1 + taken)
+        yield Record(number, cells, taken > 0 or cells != alone, 1 + taken, len(text))
 
 
 def strict_guard(header: list[str]) -> Guard:
@@ -167,6 +168,6 @@ def body(text: TextIO, form: Form) -> Iterator[Record]:
     for record in records(lines, SEPARATORS[form.separator], max(len(form.header), 2), guard):
         if record.line == form.line:
             continue
-        if max(map(len, record.cells)) > FIELD:
+        if record.size > FIELD and max(map(len, record.cells)) > FIELD:
             raise Refused(f"line {record.line} has a cell of more than {FIELD} characters")
         yield record

@@ -48,6 +48,8 @@ def numbers(cell: str) -> tuple[Number, ...]:
     """Returns the numbers of a cell in their order, each once.
 
     A cell without one is read again as a number that lost zeros, and with letters that look like digits."""
+    if kept := strict.issn(cell):
+        return (Number("issn", kept),)
     text = written_out(plain(cell).translate(TEN))
     found = list(dict.fromkeys(scan(text)))
     if len(found) > 1:

@@ -1,5 +1,6 @@
 """A record becomes rows, or it is dropped. Every rule is asked here, in one order, and every change is noted."""
 import itertools
+import operator
 from typing import NamedTuple
 
 from . import dates, form, identifiers, kinds, strict, values, volumes
@@ -73,63 +74,76 @@ class Converter:
     def __init__(self, columns: Columns, settings: Settings, is_kbart: bool):
         self.columns, self.settings, self.is_kbart = columns, settings, is_kbart
         self.header = [it.strip() for it in columns.header]
+        self.width = len(columns.header)
         places = columns.places
         # In a list that is KBART the standard's own column counts alone.
-        self.single = [(label, places[label][0]) for label in strict.LABELS
-                       if label in places and (is_kbart or len(places[label]) == 1)]
         self.several = [label for label in strict.LABELS if len(places.get(label, ())) > 1 and not is_kbart]
-        self.absent = dict.fromkeys((label for label in strict.LABELS if label not in places), "")
+        # The place of each label, where the one behind the last column is for labels that the list lacks.
+        self.cells_of = operator.itemgetter(*(places[label][0] if label in places and label not in self.several
+                                              else self.width for label in strict.LABELS))
+        self.has_numbers_apart = bool({*NUMBERS} & {*self.several}) or "other_identifier" in places
 
     def convert(self, given: form.Record) -> Outcome:
         """Returns what becomes of a record. A row that the reader takes as it is loses nothing."""
         text = "".join(given.cells)
         if not text.strip():
             return Outcome([], "Blank", "no cell has a text", [])
-        begin = given.cells[:len(self.header)]
-        if begin[0].strip() == self.header[0] and [it.strip() for it in begin] == self.header:
+        if given.cells[0].strip() == self.header[0] and [it.strip() for it in given.cells[:self.width]] == self.header:
             return Outcome([], "Header", "the header once more", [])
         fields = self.realigned(given.cells)
         cells = self.cells(fields)
-        before = strict.row(cells) if self.is_kbart else ""
+        before = strict.row(cells)
         draft = Draft(fields, dict(cells))
         if fields is not given.cells:
             place = self.columns.places["publication_title"][0]
             change = Change("publication_title", given.cells[place], fields[place], "separators in a title")
             draft.changes.append(change)
-        self.texts(draft, values.UNSAFE.search(text) is not None)
-        sides = self.numbers(draft)
-        kind = before.kind if isinstance(before, strict.Row) else self.kind(draft, sides)
-        if not kind:
-            word = draft.cells["publication_type"].strip()
-            return Outcome([], "OtherType", f"the type {word!r} is neither a serial nor a book, and has no number", [])
-        wanted = "issn" if kind == "serial" else "isbn"
-        self.note_unread(draft)
+        self.texts(draft, not text.isprintable())
+        if isinstance(before, strict.Row) and self.is_settled(cells, before):
+            kind = before.kind
+            pairs = [(before.print_identifier or "", before.online_identifier or "")]
+        else:
+            sides = self.numbers(draft)
+            is_kept = self.is_kbart and isinstance(before, strict.Row)
+            found_kind = before.kind if is_kept and isinstance(before, strict.Row) else self.kind(draft, sides)
+            if not found_kind:
+                word = draft.cells["publication_type"].strip()
+                why = f"the type {word!r} is neither a serial nor a book, and the record has no number"
+                return Outcome([], "OtherType", why, [])
+            kind = found_kind
+            self.note_unread(draft)
+            pairs = paired(*sides.of("issn" if kind == "serial" else "isbn"))
         ranges = [(draft.cells[DATES[0]], draft.cells[DATES[1]])]
         if kind == "serial":
             ranges = self.dates(draft)
             self.volumes(draft)
         rows: list[tuple[Cells, strict.Row]] = []
-        pairs = paired(*sides.of(wanted))
         if len(pairs) * len(ranges) > MOST_ROWS:
             draft.changes.append(Change("coverage", "", "", f"only {MOST_ROWS} rows of a record are made"))
         for pair, days in itertools.islice(itertools.product(pairs, ranges), MOST_ROWS):
-            row, found = self.row(draft, wanted, pair, days, bool(rows))
+            row, found = self.row(draft, kind, pair, days, bool(rows))
             if isinstance(found, str):
-                return Outcome([], found, reason(draft.cells, wanted), draft.changes)
+                return Outcome([], found, reason(draft.cells, kind), draft.changes)
             rows.append((row, found))
-        if isinstance(before, strict.Row) and not strict.keeps(before, rows[0][1]):
+        if self.is_kbart and isinstance(before, strict.Row) and not strict.keeps(before, rows[0][1]):
             # A row that the reader takes is passed on, whatever the rules above say.
             return Outcome([(cells, before)], "", "", [])
         return Outcome(rows, "", "", draft.changes)
 
     def cells(self, fields: list[str]) -> Cells:
-        """Returns the cells of a record by the standard's labels."""
-        length = len(fields)
-        cells = {label: fields[at] if at < length else "" for label, at in self.single}
-        cells.update(self.absent)
+        """Returns the cells of a record by the standard's labels, in their order."""
+        missing = self.width + 1 - len(fields)
+        padded = fields + [""] * missing if missing > 0 else fields[:self.width] + [""]
+        cells = dict(zip(strict.LABELS, self.cells_of(padded)))
         for label in self.several:
             cells[label] = self.columns.cell(fields, label)
         return cells
+
+    def is_settled(self, cells: Cells, before: strict.Row) -> bool:
+        """Returns whether the reader's own rules decide the type and the identifiers of a row: nothing else is there."""
+        return ((self.is_kbart or cells["publication_type"].strip(" ") != "") and not self.has_numbers_apart
+                and (before.print_identifier is not None or not cells[NUMBERS[0]].strip(" "))
+                and (before.online_identifier is not None or not cells[NUMBERS[1]].strip(" ")))
 
     def realigned(self, fields: list[str]) -> list[str]:
         """Returns the cells of a record with its title in one, if separators in the title made more cells.
@@ -222,11 +236,11 @@ class Converter:
             for label, text in zip(VOLUMES, new):
                 draft.put(label, text, "a volume with words")
 
-    def row(self, draft: Draft, wanted: str, pair: tuple[str, str], days: tuple[str, str],
+    def row(self, draft: Draft, kind: str, pair: tuple[str, str], days: tuple[str, str],
             is_further: bool) -> tuple[Cells, strict.Row | str]:
         """Returns one row of a record, and what the reader takes from it."""
         row = dict(draft.cells)
-        read = strict.issn if wanted == "issn" else strict.isbn
+        read = strict.issn if kind == "serial" else strict.isbn
         for label, number in zip(NUMBERS, pair):
             if read(row[label]) != (number or None):
                 rule = "a row of its own for a further number" if is_further else "an identifier in another form"
@@ -245,16 +259,16 @@ class Converter:
         return row, found
 
 
-def reason(cells: Cells, wanted: str) -> str:
+def reason(cells: Cells, kind: str) -> str:
     """Returns in words why a record has no identifier."""
     given = [cells[it] for it in NUMBERS if cells[it].strip()]
     if any(map(identifiers.is_scientific, given)):
         return "a number in the scientific form of a spreadsheet, whose digits are lost"
     if not given:
         return "no identifier"
-    if wanted == "isbn" and any(it.kind == "issn" for cell in given for it in identifiers.numbers(cell)):
+    if kind == "monograph" and any(it.kind == "issn" for cell in given for it in identifiers.numbers(cell)):
         return "a book with an ISSN alone: it is the number of its series"
-    return f"not an {wanted.upper()}: {', '.join(given)}"[:200]
+    return f"not an {'ISSN' if kind == 'serial' else 'ISBN'}: {', '.join(given)}"[:200]
 
 
 def paired(print_: list[str], online: list[str], further: list[str]) -> list[tuple[str, str]]:

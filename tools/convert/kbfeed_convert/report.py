@@ -1,6 +1,7 @@
 """What was done with each record: as JSON for programs, and in ten lines for people."""
 import collections
 import json
+import re
 from typing import Any, Callable
 
 from . import form, strict
@@ -8,6 +9,7 @@ from .faults import Internal
 from .record import Outcome
 from .values import PLACEHOLDER
 
+PLACEHOLDER_BEGIN = re.compile(r"[\[{<%$]")
 # The lines on standard error, unless all are asked for.
 SHORT = 10
 # The cells of a dropped record that the report has.
@@ -45,16 +47,15 @@ class Report:
         """Adds a record: the numbers of its rows, or why it has none. The header is record 1, and row 1."""
         self.records += 1
         number = self.records + 1
-        item: dict[str, Any] = {"record": number, "line": given.line}
         if outcome.rows:
-            item["rows"] = [self.rows + 2 + at for at in range(len(outcome.rows))]
+            said = f'"rows": {[self.rows + 2 + at for at in range(len(outcome.rows))]}'
             self.converted += 1
             self.rows += len(outcome.rows)
             if len(outcome.rows) > 1:
                 self.note("a record is several rows", number)
         else:
             self.dropped[outcome.dropped] += 1
-            item.update(dropped=outcome.dropped, why=outcome.why, cells=given.cells[:SHOWN])
+            said = as_json({"dropped": outcome.dropped, "why": outcome.why, "cells": given.cells[:SHOWN]})[1:-1]
         if given.lines > 1:
             self.note("a line end in a cell is a space", number)
         if given.is_quoted:
@@ -62,17 +63,20 @@ class Report:
         for row, read in outcome.rows:
             self.address(row["title_url"], number)
             self.volumes(read, number)
-        for rule in dict.fromkeys(f"{it.label}: {it.rule}" for it in outcome.changes):
+        for rule in dict.fromkeys([f"{it.label}: {it.rule}" for it in outcome.changes]):
             self.note(rule, number)
         if self.out:
-            if outcome.changes:
-                item["changes"] = [{"record": number, "label": it.label, "from": it.old, "to": it.new, "rule": it.rule}
-                                   for it in outcome.changes]
-            self.write(self.comma + as_json(item))
+            changes = ", ".join([
+                f'{{"record": {number}, "label": "{it.label}", "from": {quoted(it.old)}, "to": {quoted(it.new)}, '
+                f'"rule": {quoted(it.rule)}}}' for it in outcome.changes])
+            self.out(f'{self.comma}{{"record": {number}, "line": {given.line}, {said}'
+                     + (f', "changes": [{changes}]}}' if changes else "}"))
             self.comma = ",\n"
 
     def address(self, url: str, number: int) -> None:
         """Warns of an address that a reader cannot follow."""
+        if url.startswith(("http://", "https://")) and not PLACEHOLDER_BEGIN.search(url):
+            return
         if PLACEHOLDER.search(url):
             self.note("the address has a placeholder: --map fills it", number)
         elif url.strip() and not url.lower().startswith(("http://", "https://")):
@@ -105,6 +109,10 @@ class Report:
         if is_whole or len(lines) <= SHORT:
             return lines
         return lines[:SHORT - 1] + [f"and {len(lines) - SHORT + 1} more warnings: -v prints them all"]
+
+
+# The string of JSON for a text: a list has a record for each row, and the general form takes longer.
+quoted = json.JSONEncoder(ensure_ascii=False).encode
 
 
 def as_json(value: Any) -> str:

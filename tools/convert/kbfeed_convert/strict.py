@@ -38,6 +38,13 @@ def lower(text: str) -> str:
     return text.strip(" ").lower() if text.isascii() else text.strip(" ")
 
 
+@remembered(1_024)
+def kind_of(cell: str) -> str:
+    """Returns the kind of a record by its type: `serial`, `monograph`, or nothing if the reader skips it."""
+    kind = lower(cell) or "serial"
+    return kind if kind in ("serial", "monograph") else ""
+
+
 def columns(header: list[str]) -> dict[str, int] | None:
     """Returns the place of each label that the reader uses, or None if it would refuse the header."""
     found: dict[str, int] = {}
@@ -57,11 +64,6 @@ DATE = re.compile(r"([0-9]{4})(?:-([0-9]{2})(?:-([0-9]{2}))?)?")
 VOLUME = re.compile(r"[0-9]{1,9}")
 
 
-def weighted(digits: str, most: int) -> int:
-    """Returns the sum of the digits with the weights `most`, `most` - 1 and so on. An X counts ten."""
-    return sum((10 if it in "Xx" else int(it)) * (most - at) for at, it in enumerate(digits))
-
-
 def check13(twelve: str) -> str:
     """Returns the check digit of an ISBN-13."""
     return str(-sum(int(it) * (1, 3)[at % 2] for at, it in enumerate(twelve)) % 10)
@@ -71,9 +73,14 @@ def check13(twelve: str) -> str:
 def issn(text: str) -> str | None:
     """Returns an ISSN in its kept form, 2434-561X."""
     found = ISSN.fullmatch(text.strip(" "))
-    if not found or weighted(found[1] + found[2], 8) % 11:
+    if not found:
         return None
-    return f"{found[1]}-{found[2].upper()}"
+    first, second = found.groups()
+    a, b, c, d, e, f, g = map(int, first + second[:3])
+    check = 10 if second[3] in "Xx" else int(second[3])
+    if (8 * a + 7 * b + 6 * c + 5 * d + 4 * e + 3 * f + 2 * g + check) % 11:
+        return None
+    return f"{first}-{second.upper()}"
 
 
 @remembered(4_096)
@@ -82,9 +89,11 @@ def isbn(text: str) -> str | None:
     digits = text.strip(" ").replace("-", "")
     if ISBN13.fullmatch(digits):
         return digits if check13(digits[:12]) == digits[12] else None
-    if ISBN10.fullmatch(digits) and weighted(digits, 10) % 11 == 0:
-        return "978" + digits[:9] + check13("978" + digits[:9])
-    return None
+    if not ISBN10.fullmatch(digits):
+        return None
+    check = 10 if digits[9] in "Xx" else int(digits[9])
+    is_right = (sum(int(it) * (10 - at) for at, it in enumerate(digits[:9])) + check) % 11 == 0
+    return "978" + digits[:9] + check13("978" + digits[:9]) if is_right else None
 
 
 @remembered(16_384)
@@ -113,8 +122,8 @@ def volume(text: str) -> int | None:
 
 def row(cells: dict[str, str]) -> Row | str:
     """Returns the row of a record, or the reason for which the reader skips it."""
-    kind = lower(cells.get("publication_type", "")) or "serial"
-    if kind not in ("serial", "monograph"):
+    kind = kind_of(cells.get("publication_type", ""))
+    if not kind:
         return "OtherType"
     number = issn if kind == "serial" else isbn
     both = number(cells["print_identifier"]), number(cells["online_identifier"])

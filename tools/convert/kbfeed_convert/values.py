@@ -26,13 +26,16 @@ def decoded_again(text: str) -> str:
 
 def clean(text: str) -> str:
     """Returns a text without control characters and characters that nobody sees."""
-    if not UNSAFE.search(text):
+    # Each of these characters is not printable, which is faster to ask.
+    if text.isprintable() or not UNSAFE.search(text):
         return text
     return text.translate(C1).translate({**CONTROL, **INVISIBLE, **SPACES})
 
 
 def title(cell: str) -> str:
     """Returns a text for readers: references of HTML are decoded once, and tags of letters are removed."""
+    if cell.isascii() and cell.isprintable() and "&" not in cell and "<" not in cell:
+        return cell
     text = decoded_again(cell) if TWICE.search(cell) else cell
     if "&" in text:
         # Only with a semicolon: the standard library decodes `&copy` in `a=1&copy=2` too.
@@ -52,6 +55,8 @@ PLACEHOLDER = re.compile(r"\[[A-Za-z_ -]+\]|\{+[^{}]+\}+|<[A-Za-z_ -]+>|%%[A-Za-
 
 def address(cell: str, replaced: dict[str, str]) -> str:
     """Returns an address with a scheme and without spaces. `replaced` has the texts that a map replaces."""
+    if not replaced and GOOD_ADDRESS.fullmatch(cell) and "&amp;" not in cell:
+        return cell
     text = cell
     for old, new in replaced.items():
         text = text.replace(old, new)
