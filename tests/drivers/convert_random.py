@@ -54,11 +54,12 @@ def number(r, is_book):
 
 def date(r):
     year = r.randrange(1890, 2025)
-    good = [f"{year}", f"{year}-{r.randrange(1, 13):02}", f"{year}-{r.randrange(1, 13):02}-{r.randrange(1, 29):02}", "",
-            f" {year} "]
+    month, day = r.randrange(1, 13), r.randrange(1, 29)
+    good = [f"{year}", f"{year}-{month:02}", f"{year}-{month:02}-{day:02}", "", f" {year} "]
     odd = [f"{year}-00-00", f"{year}/{r.randrange(100):02}", f"{year}-{year + 1}", "present", "9999-12-31", "9999",
            f"03/04/{year}", f"31.12.{year}", f"Spring {year}", f"{year}-13", f"c{year}", "0000", "0001-01-01",
-           f"{year}-02-30", f'"{year}"', "-", "x", f"{year}年", f"Q2 {year}", "Jan-95", f"{year}-{year + 3}; {year + 5}-"]
+           f"{year}-02-30", f'"{year}"', "-", "x", f"{year}年", f"Q2 {year}", "Jan-95",
+           f"{year}-{year + 3}; {year + 5}-"]
     return r.choice(good) if r.random() < 0.8 else r.choice(odd)
 
 

@@ -20,6 +20,8 @@ EPILOG = """The list is text of any usual encoding and separator, or a spreadshe
 The status is 0 if the list was written, 1 if it is refused, or with --strict if a record was dropped, 2 for wrong
 arguments, and 3 if a file cannot be read or written."""
 SIGNALS = (signal.SIGHUP, signal.SIGINT, signal.SIGTERM)
+# The labels whose absence is worth a warning. Identifiers need none: without them there is no row.
+EXPECTED = ("publication_title", "title_url")
 # Records dropped for these reasons hold nothing.
 NOTHING_LOST = {"Blank", "Header"}
 
@@ -133,6 +135,7 @@ def form_warnings(shape: form.Form, columns: labels.Columns, order: dates.Order,
         warnings.append(f"several columns are {label}: {how}")
     if not order.fixed and len(order.seen) > 1:
         warnings.append("some dates have the day first, and some the month: only their year counts. A map decides it")
+    warnings += [f"no column is {label}: its cells are empty" for label in EXPECTED if label not in columns.places]
     cells = {it.strip() for it in shape.header}
     warnings += [f"the map names a column that the list lacks: {it}" for it in rules.labels if it not in cells]
     return warnings
@@ -148,8 +151,7 @@ def row_line(row: Cells) -> bytes:
 
 def run(given: argparse.Namespace) -> int:
     """Converts a list, writes the files, and returns the exit status."""
-    # A name that cannot be used is refused before the work.
-    name = names.release(given.name or given.file, given.package, given.date) if given.into is not None else ""
+    name = release_name(given)
     check_paths(given, name)
     out = report_out = None
     try:
@@ -179,10 +181,20 @@ def run(given: argparse.Namespace) -> int:
                 it.remove()
 
 
+def release_name(given: argparse.Namespace) -> str:
+    """Returns the name of the release. On standard output a list needs none."""
+    try:
+        return names.release(given.name or given.file, given.package, given.date)
+    except Refused:
+        if given.into is not None:
+            raise
+        return ""
+
+
 def check_paths(given: argparse.Namespace, name: str) -> None:
     """Refuses a report that would replace the list, the map or the release."""
     if given.report and os.path.isfile(given.report):
-        others = [given.file, given.map or "", os.path.join(given.into or "", name)]
+        others = [given.file, given.map or "", os.path.join(given.into, name) if given.into is not None else ""]
         if any(it and os.path.exists(it) and os.path.samefile(given.report, it) for it in others):
             raise WrongArguments(f"--report: {given.report} is another file of this run")
 

@@ -188,7 +188,7 @@ def ranges(cell: str, order: str) -> list[tuple[str, str]]:
     found = []
     for part in range_texts(plain_lines(cell)):
         sides = range_sides(part)
-        left, right = sides or (part, "")
+        left, right = sides or (part.strip(), "")
         first = read(left, False, order).text
         if not first:
             continue

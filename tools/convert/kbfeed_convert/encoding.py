@@ -128,35 +128,50 @@ def compare(sample: bytes) -> Encoding:
     points.sort(reverse=True)
     best, _, name, text = points[0]
     second, _, runner_up, _ = next((it for it in points if it[3] != text), points[-1])
-    warning = f"not UTF-8: read as {name}"
+    warning = f"not UTF-8: read as {shown(name)}"
     if best - second < CLOSE:
-        warning += f", and {runner_up} is nearly as likely: --encoding decides"
+        warning += f", and {shown(runner_up)} is nearly as likely: --encoding decides"
     return Encoding(name, "replace", runner_up, warning)
+
+
+def shown(name: str) -> str:
+    """Returns the name of an encoding for people, and for --encoding."""
+    return f"{TABLES['encodings'][name]['title']} ({name})"
 
 
 def score(text: str, name: str, table: dict[str, Any]) -> float:
     """Returns how common the characters beyond ASCII are, from -2 to 3 for each."""
     often = set(table["often"])
-    leads = [range(first, last + 1) for first, last in table.get("leads", [])]
-    total = number = 0.0
-    for at, it in enumerate(text):
-        if it < "\x80" or it == "\ufffd":
-            continue
-        number += 1
-        around = text[at - 1:at] + text[at + 1:at + 2]
-        if leads:
-            try:
-                lead = it.encode(name)[0]
-            except UnicodeEncodeError:
-                lead = 0
-            is_common = any(lead in one for one in leads) and not "\uff61" <= it <= "\uff9f"
-            total += 3 if it in often else 1 if is_common else -2
-        elif it in "’‘“”–—…«»©®°·§\xa0":
-            total += 1
-        elif it not in often:
-            total -= 2
-        elif table.get("runs"):
-            total += 1.5 if not (it.isupper() and text[at - 1:at].islower()) else -2
-        else:
-            total += 2 if any(one.isascii() and (one.isalpha() or it.isupper()) for one in around) else -1
-    return total / number if number else 0.0
+    leads = {it for first, last in table.get("leads", []) for it in range(first, last + 1)}
+    has_runs = bool(table.get("runs"))
+    points = [ideograph_points(it, name, often, leads) if leads else letter_points(text, at, often, has_runs)
+              for at, it in enumerate(text) if it >= "\x80" and it != "\ufffd"]
+    return sum(points) / len(points) if points else 0.0
+
+
+def ideograph_points(it: str, name: str, often: set[str], leads: set[int]) -> float:
+    """Returns how common a character of two bytes is: often in titles, or among the first ones of its encoding."""
+    if it in often:
+        return 3
+    try:
+        lead = it.encode(name)[0]
+    except UnicodeEncodeError:
+        lead = 0
+    return 1 if lead in leads and not "\uff61" <= it <= "\uff9f" else -2
+
+
+def letter_points(text: str, at: int, often: set[str], has_runs: bool) -> float:
+    """Returns how common a letter of one byte is where it is.
+
+    Accents are beside letters of ASCII, and the letters of an alphabet of its own (`has_runs`) are not. A capital
+    letter does not follow a small one."""
+    it, before, after = text[at], text[at - 1:at], text[at + 1:at + 2]
+    if it in "’‘“”–—…«»©®°·§\xa0":
+        return 1
+    if it not in often or it.islower() and after.isupper() or it.isupper() and before.islower():
+        return -2
+    near = [one.isascii() for one in (before, after) if one.isalpha()]
+    if not near:
+        # A word of one letter, as `è`.
+        return 0 if has_runs else 1
+    return 2 if any(near) != has_runs else -2 if has_runs else -1

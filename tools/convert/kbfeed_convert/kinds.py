@@ -14,7 +14,7 @@ def read(cell: str, has_issn: bool, has_isbn: bool, default: str) -> tuple[str |
     kind = KINDS.get(folded(cell))
     if kind == "neither" and not has_issn and not has_isbn:
         return None, "a type that is neither serial nor book"
-    rule = "a type of other words"
+    rule = "a type in other words"
     if kind in (None, "neither"):
         if default and not cell.strip():
             kind, rule = default, "the type that --type gives"

@@ -120,8 +120,10 @@ class Converter:
         rows: list[tuple[Cells, strict.Row]] = []
         if len(pairs) * len(ranges) > MOST_ROWS:
             draft.changes.append(Change("coverage", "", "", f"only {MOST_ROWS} rows of a record are made"))
-        for pair, days in itertools.islice(itertools.product(pairs, ranges), MOST_ROWS):
-            row, found = self.row(draft, kind, pair, days, bool(rows))
+        for pair, (at, days) in itertools.islice(itertools.product(pairs, enumerate(ranges)), MOST_ROWS):
+            # Of a coverage with gaps, the volumes at its two ends are known.
+            ends = at == 0, at == len(ranges) - 1
+            row, found = self.row(draft, kind, pair, days, ends, bool(rows))
             if isinstance(found, str):
                 return Outcome([], found, reason(draft.cells, kind), draft.changes)
             rows.append((row, found))
@@ -140,7 +142,7 @@ class Converter:
         return cells
 
     def is_settled(self, cells: Cells, before: strict.Row) -> bool:
-        """Returns whether the reader's own rules decide the type and the identifiers of a row: nothing else is there."""
+        """Returns whether the reader's own rules decide the type and the identifiers of a row."""
         return ((self.is_kbart or cells["publication_type"].strip(" ") != "") and not self.has_numbers_apart
                 and (before.print_identifier is not None or not cells[NUMBERS[0]].strip(" "))
                 and (before.online_identifier is not None or not cells[NUMBERS[1]].strip(" ")))
@@ -236,9 +238,11 @@ class Converter:
             for label, text in zip(VOLUMES, new):
                 draft.put(label, text, "a volume with words")
 
-    def row(self, draft: Draft, kind: str, pair: tuple[str, str], days: tuple[str, str],
+    def row(self, draft: Draft, kind: str, pair: tuple[str, str], days: tuple[str, str], ends: tuple[bool, bool],
             is_further: bool) -> tuple[Cells, strict.Row | str]:
-        """Returns one row of a record, and what the reader takes from it."""
+        """Returns one row of a record, and what the reader takes from it.
+
+        `ends` says whether the row has the first and the last range of the record."""
         row = dict(draft.cells)
         read = strict.issn if kind == "serial" else strict.isbn
         for label, number in zip(NUMBERS, pair):
@@ -247,6 +251,9 @@ class Converter:
                 draft.changes.append(Change(label, row[label], number, rule))
                 row[label] = number
         row[DATES[0]], row[DATES[1]] = days
+        for label, is_end in zip(VOLUMES, ends):
+            if not is_end:
+                row[label] = ""
         if is_further and days != (draft.cells[DATES[0]], draft.cells[DATES[1]]):
             shown = " to ".join((days[0], days[1] or "the present"))
             draft.changes.append(Change("coverage", "", shown, "a row of its own for a further range"))

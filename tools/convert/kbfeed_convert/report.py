@@ -95,7 +95,7 @@ class Report:
         """Writes the end of the report. `refused` is why nothing else was written."""
         if self.records != self.converted + sum(self.dropped.values()):
             raise Internal("the counts of records do not add up")
-        self.warnings += [f"{rule}: {count} record{'s' if count > 1 else ''}, the first is {first}"
+        self.warnings += [f"{rule}: {counted(count, 'record')}, the first is {first}"
                           for rule, (count, first) in self.rules.items()]
         counts = {"records": self.records, "converted": self.converted, "dropped": dict(self.dropped),
                   "rows": self.rows}
@@ -105,10 +105,16 @@ class Report:
     def summary(self, is_whole: bool) -> list[str]:
         """Returns the counts and the warnings, at most ten lines unless all are asked for."""
         dropped = ", ".join(f"{count} {reason}" for reason, count in self.dropped.items()) or "none"
-        lines = [f"{self.records} records, {self.rows} rows, dropped: {dropped}", *self.warnings]
+        counts = f"{counted(self.records, 'record')}, {counted(self.rows, 'row')}, dropped: {dropped}"
+        lines = [counts, *self.warnings]
         if is_whole or len(lines) <= SHORT:
             return lines
         return lines[:SHORT - 1] + [f"and {len(lines) - SHORT + 1} more warnings: -v prints them all"]
+
+
+def counted(number: int, noun: str) -> str:
+    """Returns a number and a noun, as `1 row` and `2 rows`."""
+    return f"{number} {noun}{'s' if number != 1 else ''}"
 
 
 # The string of JSON for a text: a list has a record for each row, and the general form takes longer.

@@ -44,7 +44,7 @@ def as_fault(error: Exception) -> Exception:
     is_system = isinstance(error, OSError) and error.errno not in (None, errno.EINVAL)
     if is_system or isinstance(error, (Refused, MemoryError)):
         return error
-    return Refused(f"a spreadsheet that cannot be read: {type(error).__name__}")
+    return Refused("a spreadsheet that is damaged")
 
 
 def written(sheet: Any) -> BinaryIO:

@@ -111,6 +111,6 @@ def refuse(head: bytes) -> None:
     if begin.startswith(PAGES):
         raise Refused("not a list: a page of HTML, perhaps a form or an error")
     if begin.startswith((b"<?xml", b"<rss", b"<feed")):
-        raise Refused("not a list: XML")
+        raise Refused("not a list: XML, perhaps an error of a server")
     if begin.startswith((b'{"', b"[{", b"{\n", b"{\r", b"[\n", b"[\r")):
-        raise Refused("not a list: JSON")
+        raise Refused("not a list: JSON, perhaps an error of a server")

@@ -1,0 +1,13 @@
+# Completion of kbfeed-convert for fish.
+complete -c kbfeed-convert -s h -l help -d 'Prints help'
+complete -c kbfeed-convert -x -l into -a '(__fish_complete_directories)' -d 'Writes the list to a folder, and prints its name'
+complete -c kbfeed-convert -x -l name -d 'The file name to take the package and the day from'
+complete -c kbfeed-convert -x -l package -d 'The package of the release, always the same'
+complete -c kbfeed-convert -x -l date -d 'The day of the release'
+complete -c kbfeed-convert -x -l type -a 'serial monograph' -d 'The type of records without one'
+complete -c kbfeed-convert -x -l encoding -a 'utf-8 utf-16 cp1252 cp949 cp932 gb18030 big5' -d 'The encoding of a text'
+complete -c kbfeed-convert -x -l sheet -d 'The sheet of a spreadsheet'
+complete -c kbfeed-convert -r -F -l map -d 'What is particular to a vendor'
+complete -c kbfeed-convert -r -F -l report -d 'Writes what was done with each record'
+complete -c kbfeed-convert -l strict -d 'Exits with 1 if a record is dropped'
+complete -c kbfeed-convert -s v -l verbose -d 'Prints all warnings'
