@@ -45,7 +45,7 @@ def record(r):
         publication_title=title, print_identifier=number, online_identifier=issn(r) if r.random() < 0.8 else "",
         date_first_issue_online=first, num_first_vol_online=f"Vol. {volume}" if 0.2 < odd < 0.4 else str(volume),
         date_last_issue_online=last, num_last_vol_online=str(volume + 3) if last else "",
-        title_url=f"https://www.publisher.example/journals/{r.randrange(10 ** 6)}", title_id=f"id{r.randrange(10 ** 6)}",
+        title_url=f"https://www.publisher.example/journals/{r.randrange(10 ** 6)}", title_id=f"id{volume * year}",
         embargo_info="12 months" if 0.3 < odd < 0.5 else "", coverage_depth="fulltext", publisher_name="Example Press",
         publication_type="journal" if odd > 0.9 else "serial", access_type="P")
     return "\t".join(cells.values()) + "\r\n"

@@ -10,6 +10,7 @@ complete_all() { comppostfuncs=(insert_all); _main_complete }
 zle -C complete_all complete-word complete_all
 bindkey '^I' complete_all
 kbfeed() { print -r -- kbfeed $@ >> $ZDOTDIR/lines }
+kbfeed-convert() { print -r -- kbfeed-convert $@ >> $ZDOTDIR/lines }
 END
 export ZDOTDIR=$settings COMPLETIONS=$1 TERM=dumb
 touch $settings/lines

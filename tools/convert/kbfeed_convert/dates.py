@@ -137,7 +137,7 @@ def parts(year: int, month: int, day: int | None = None) -> Read:
     """Returns the date of a year, a month and perhaps a day, any of which may be impossible."""
     found = date_text(year, month, day or 0)
     is_whole = len(found) == (7 if day is None else 10)
-    return Read(found, "a date in another form" if is_whole else "a month or day that is 00 or impossible is left out")
+    return Read(found, "a date in another form" if is_whole else "an impossible month or day is left out")
 
 
 def by_names(now: str, is_last: bool) -> Read | None:

@@ -28,7 +28,9 @@ class Change(NamedTuple):
 
 
 class Outcome(NamedTuple):
-    """The rows of a record, or the reason for which it is dropped, also in words."""
+    """The rows of a record, or the reason for which it is dropped, also in words.
+
+    The changes of a dropped record are the cells that did not read."""
     rows: list[tuple[Cells, strict.Row]]
     dropped: str
     why: str
@@ -125,7 +127,7 @@ class Converter:
             ends = at == 0, at == len(ranges) - 1
             row, found = self.row(draft, kind, pair, days, ends, bool(rows))
             if isinstance(found, str):
-                return Outcome([], found, reason(draft.cells, kind), draft.changes)
+                return Outcome([], found, reason(draft.cells, kind), [it for it in draft.changes if it.old == it.new])
             rows.append((row, found))
         if self.is_kbart and isinstance(before, strict.Row) and not strict.keeps(before, rows[0][1]):
             # A row that the reader takes is passed on, whatever the rules above say.

@@ -9,6 +9,8 @@ from .faults import Internal
 from .record import Outcome
 from .values import PLACEHOLDER
 
+# The rules that guess, lose or add something.
+DOUBTFUL = re.compile("not read|not decided|placeholder|no link|rows|begin again|is open|are open|decide the type")
 PLACEHOLDER_BEGIN = re.compile(r"[\[{<%$]")
 # The lines on standard error, unless all are asked for.
 SHORT = 10
@@ -95,8 +97,9 @@ class Report:
         """Writes the end of the report. `refused` is why nothing else was written."""
         if self.records != self.converted + sum(self.dropped.values()):
             raise Internal("the counts of records do not add up")
-        self.warnings += [f"{rule}: {counted(count, 'record')}, the first is {first}"
-                          for rule, (count, first) in self.rules.items()]
+        # Doubtful ones first: only ten lines are printed.
+        rules = sorted(self.rules.items(), key=lambda it: not DOUBTFUL.search(it[0]))
+        self.warnings += [f"{rule}: {counted(count, 'record')}, the first is {first}" for rule, (count, first) in rules]
         counts = {"records": self.records, "converted": self.converted, "dropped": dict(self.dropped),
                   "rows": self.rows}
         end = {"warnings": self.warnings, "counts": counts, **({"refused": refused} if refused else {})}
