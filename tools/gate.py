@@ -14,7 +14,7 @@ import time
 
 # The seconds between two lines about what is running, and between two looks at it.
 REPORT, LOOK = 30, 0.5
-# What the gate prints of a mutant, and what that means.
+# The gate's lines about a mutant, and their meanings.
 MUTANT = re.compile(r"rt: must-fail (\w+)/([\w.-]+)\.edit: (refused|NOT REFUSED|NOT TRIED|BAD EDIT)(.*)")
 BAD_NAME = re.compile(r"rt: crates/(\w+)/must-fail/(\S+): (BAD EDIT)(.*)")
 REJECTED, PASSES, UNTRIED = "rejected", "NOT REJECTED", "NOT TRIED"
