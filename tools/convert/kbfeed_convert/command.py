@@ -6,6 +6,7 @@ import os
 import re
 import signal
 import sys
+import traceback
 from types import FrameType
 from typing import BinaryIO
 
@@ -165,7 +166,7 @@ def run(given: argparse.Namespace) -> int:
         if report.rows:
             if path:
                 out.place()
-                print(name, flush=True)
+                print_name(name)
             else:
                 out.copy(standard_output(), "standard output")
         if report_out:
@@ -189,6 +190,17 @@ def release_name(given: argparse.Namespace) -> str:
         if given.into is not None:
             raise
         return ""
+
+
+def print_name(name: str) -> None:
+    """Prints the name of the release. An error has the name of the device."""
+    try:
+        print(name, flush=True)
+    except BrokenPipeError:
+        raise
+    except OSError as error:
+        error.filename = "standard output"
+        raise
 
 
 def check_paths(given: argparse.Namespace, name: str) -> None:
@@ -231,6 +243,10 @@ def main() -> int:
         status, text = 3, f"{fault.filename}: {fault.strerror}" if fault.filename else str(fault.strerror or fault)
     except MemoryError:
         status, text = 3, "there was no memory"
+    except Exception as fault:
+        place = traceback.extract_tb(fault.__traceback__)[-1]
+        where = f"{os.path.basename(place.filename)}:{place.lineno}"
+        status, text = 3, f"an error of this program: {type(fault).__name__}: {fault} ({where})"
     except Stopped as fault:
         signal.signal(fault.number, signal.SIG_DFL)
         os.kill(os.getpid(), fault.number)

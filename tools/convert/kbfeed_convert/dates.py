@@ -39,6 +39,8 @@ RANGE = re.compile(rf"\s*(?:-+|[~〜～]|(?<![^\W\d])(?:{TO_APART})(?![^\W\d])|{
 # The rest of a date behind its year, whose hyphens do not connect two dates.
 REST = re.compile(r"-[0-9]{1,2}-[0-9]{1,2}(?![0-9])|-(?:0?[1-9]|1[0-2])(?=\s*(?:[-~〜～]|$|\s))")
 
+# The characters of the longest text of a range: it is looked at once for each comma in it.
+LONGEST = 200
 NOT_READ = "a date that does not read is open"
 
 
@@ -98,7 +100,9 @@ def read(cell: str, is_last: bool, order: str) -> Read:
     sides = range_sides(now)
     if sides and all(YEARS.search(it) for it in sides):
         rule = "two years in a date" if all(YEARS.fullmatch(it) for it in sides) else "a range in one cell"
-        return read(sides[is_last], is_last, order)._replace(rule=rule)
+        side = sides[is_last].strip("-[]()?.,;* ")
+        found = by_numbers(side, is_last, order) or by_names(side, is_last) or by_years(side, is_last)
+        return found._replace(rule=rule)
     return by_years(now, is_last)
 
 
@@ -150,7 +154,7 @@ def by_names(now: str, is_last: bool) -> Read | None:
     months = [int(MONTHS[it]) for it in tokens if it in MONTHS]
     others = [it for it in tokens if it not in MONTHS and it not in FILLERS and it != str(year)]
     if months:
-        day = int(others[0]) if len(months) == len(others) == 1 and others[0].isdigit() and len(others[0]) < 3 else 0
+        day = int(others[0]) if len(months) == len(others) == 1 and re.fullmatch("[0-9]{1,2}", others[0]) else 0
         return Read(date_text(year, months[-1] if is_last else months[0], day), "the name of a month")
     if len(others) == 2 and QUARTERS & set(others) and (digit := next((it for it in others if it in "1234"), "")):
         return Read(date_text(year, int(digit) * 3 if is_last else int(digit) * 3 - 2), "a quarter")
@@ -213,7 +217,7 @@ def range_texts(text: str) -> Iterable[str]:
     for part in text.split(";"):
         gathered = ""
         for piece in part.split(","):
-            if gathered and YEARS.search(piece) and is_complete(gathered):
+            if len(gathered) > LONGEST or gathered and YEARS.search(piece) and is_complete(gathered):
                 yield gathered
                 gathered = ""
             gathered += ("," if gathered else "") + piece

@@ -94,8 +94,12 @@ class Converter:
             return Outcome([], "Header", "the header once more", [])
         fields = self.realigned(given.cells)
         cells = self.cells(fields)
-        before = strict.row(cells)
         draft = Draft(fields, dict(cells))
+        if self.settings.constants:
+            for label, value in self.settings.constants.items():
+                draft.put(label, value, "a constant of the map")
+            cells = dict(draft.cells)
+        before = strict.row(cells)
         if fields is not given.cells:
             place = self.columns.places["publication_title"][0]
             change = Change("publication_title", given.cells[place], fields[place], "separators in a title")
@@ -110,7 +114,7 @@ class Converter:
             found_kind = before.kind if is_kept and isinstance(before, strict.Row) else self.kind(draft, sides)
             if not found_kind:
                 word = draft.cells["publication_type"].strip()
-                why = f"the type {word!r} is neither a serial nor a book, and the record has no number"
+                why = f"the type {word[:100]!r} is neither a serial nor a book, and the record has no number"
                 return Outcome([], "OtherType", why, [])
             kind = found_kind
             self.note_unread(draft)
@@ -167,8 +171,6 @@ class Converter:
         if is_unsafe:
             for label in TEXTS:
                 put(label, values.clean(cells[label]), "characters that nobody sees")
-        for label, value in self.settings.constants.items():
-            put(label, value, "a constant of the map")
         put("publication_title", values.title(cells["publication_title"]), "characters and references of a title")
         put("title_url", values.address(cells["title_url"], self.settings.replaced), "an address")
         if cells["embargo_info"]:

@@ -15,19 +15,29 @@ SPACES = {ord(it): " " for it in "\u00a0\u1680\u2000\u2001\u2002\u2003\u2004\u20
           "\u205f\u3000\t\r\n"}
 ALIKE: dict[int, str | None] = {**DASHES, **INVISIBLE, **SPACES}
 
+# The characters of the longest cell that a cache keeps.
+LONG = 200
 Function = TypeVar("Function", bound=Callable[..., Any])
 
 
 def remembered(size: int) -> Callable[[Function], Function]:
-    """Caches a function: the cells of a list repeat."""
-    return functools.lru_cache(maxsize=size)    # type: ignore[return-value]
+    """Caches a function of a cell, as the cells of a list repeat. Long cells are not kept: memory must not grow."""
+    def wrap(function: Function) -> Function:
+        cached: Callable[..., Any] = functools.lru_cache(maxsize=size)(function)
+
+        def call(cell: str, *others: Any) -> Any:
+            return cached(cell, *others) if len(cell) <= LONG else function(cell, *others)
+        return call     # type: ignore[return-value]
+    return wrap
 
 
 def plain(text: str) -> str:
-    """Returns a text with the digits, dashes and spaces of ASCII, without spaces at its ends."""
-    if text.isascii() and text.isprintable():
-        return text.strip()
-    return unicodedata.normalize("NFKC", text.translate(ALIKE)).translate(ALIKE).strip()
+    """Returns a text with the digits, dashes and spaces of ASCII, and without more than one space at a place.
+
+    Patterns with `\\s*` would take long for many spaces."""
+    if not text.isascii() or not text.isprintable():
+        text = unicodedata.normalize("NFKC", text.translate(ALIKE)).translate(ALIKE)
+    return re.sub(" {2,}", " ", text).strip() if "  " in text else text.strip()
 
 
 @remembered(65_536)

@@ -50,7 +50,7 @@ GOOD_ADDRESS = re.compile(r"[A-Za-z][A-Za-z0-9+.-]*://[!-~]*")
 HOST = re.compile(r"(?:[A-Za-z0-9](?:[A-Za-z0-9-]*[A-Za-z0-9])?\.)+[A-Za-z]{2,24}(?::[0-9]+)?(?:[/?#].*)?")
 DOI = re.compile(r"(?:doi:\s*)?(10\.[0-9]{4,9}/\S+)", re.I)
 # `[SITE_ID]`, `{custid}`, `<your id>`, `%%ID%%` and `$SITE_ID`, which a library has to fill.
-PLACEHOLDER = re.compile(r"\[[A-Za-z_ -]+\]|\{+[^{}]+\}+|<[A-Za-z_ -]+>|%%[A-Za-z_]+%%|\$[A-Z_]{3,}")
+PLACEHOLDER = re.compile(r"\[[A-Za-z_ -]+\]|\{[^{}]+\}|<[A-Za-z_ -]+>|%%[A-Za-z_]+%%|\$[A-Z_]{3,}")
 
 
 def address(cell: str, replaced: dict[str, str]) -> str:
@@ -94,7 +94,7 @@ def embargo(cell: str, unit: str = "") -> str:
     if found := re.fullmatch(r"([rp])([0-9]{1,4})y ?([0-9]{1,4})m", text):
         return f"{found[1].upper()}{int(found[2]) * 12 + int(found[3])}M"
     tokens = [NUMBERS.get(it, it) for it in re.sub(r"(\d)([^\W\d])", r"\1 \2", text).split()]
-    numbers = [int(it) for it in tokens if it.isascii() and it.isdigit()]
+    numbers = [int(it[:9]) for it in tokens if it.isascii() and it.isdigit()]
     units = {UNITS[it] for it in tokens if it in UNITS} or ({unit} if unit else set())
     if len(numbers) != 1 or len(units) != 1 or numbers[0] > 99_999:
         return cell
