@@ -81,7 +81,7 @@ def date_text(year: int, month: int = 0, day: int = 0) -> str:
     return f"{year:04}-{month:02}-{day:02}"
 
 
-@remembered(16_384)
+@remembered
 def read(cell: str, is_last: bool, order: str) -> Read:
     """Reads the date of a cell, as a first or as a last one. `order` is that of day and month, empty if undecided."""
     bare = cell.strip(" ")

@@ -43,7 +43,7 @@ def written_out(text: str) -> str:
     return text
 
 
-@remembered(4_096)
+@remembered
 def numbers(cell: str) -> tuple[Number, ...]:
     """Returns the numbers of a cell in their order, each once.
 

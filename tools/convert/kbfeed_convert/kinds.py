@@ -5,7 +5,7 @@ from .texts import folded, remembered, words
 KINDS = words("types")
 
 
-@remembered(1_024)
+@remembered
 def read(cell: str, has_issn: bool, has_isbn: bool, default: str) -> tuple[str | None, str]:
     """Returns the kind of a record and the rule that decided it. The kind is None if the record is neither.
 

@@ -19,7 +19,7 @@ def has_word(group: str, text: str, tokens: frozenset[str]) -> bool:
     return any(word in tokens if word.isascii() else word in text for word in WORDS[group])
 
 
-@remembered(4_096)
+@remembered
 def label(cell: str) -> str | None:
     """Returns the label that a cell of a header means."""
     name = strict.lower(cell.strip("\ufeff").strip('"'))

@@ -6,6 +6,7 @@ from typing import NamedTuple
 from . import dates, form, identifiers, kinds, strict, values, volumes
 from .identifiers import Number
 from .labels import Columns
+from .texts import forget
 
 Cells = dict[str, str]
 DATES = "date_first_issue_online", "date_last_issue_online"
@@ -15,6 +16,8 @@ EMBARGOES = ("embargo_days", "D"), ("embargo_months", "M"), ("embargo_years", "Y
 OWN_RULE = {*DATES, *VOLUMES, *NUMBERS, "publication_title", "title_url", "publication_type", "embargo_info",
             "coverage_depth", "access_type"}
 TEXTS = [it for it in strict.LABELS if it not in OWN_RULE]
+# The characters of a record whose cells no cache may keep.
+LONG = 2_000
 # More rows of one record are not made: a cell of numbers beside a cell of ranges multiply.
 MOST_ROWS = 1_000
 
@@ -86,6 +89,13 @@ class Converter:
         self.has_numbers_apart = bool({*NUMBERS} & {*self.several}) or "other_identifier" in places
 
     def convert(self, given: form.Record) -> Outcome:
+        """Returns what becomes of a record, and keeps memory small."""
+        outcome = self.converted(given)
+        if given.size > LONG:
+            forget()
+        return outcome
+
+    def converted(self, given: form.Record) -> Outcome:
         """Returns what becomes of a record. A row that the reader takes as it is loses nothing."""
         text = "".join(given.cells)
         if not text.strip():
@@ -105,24 +115,18 @@ class Converter:
             change = Change("publication_title", given.cells[place], fields[place], "separators in a title")
             draft.changes.append(change)
         self.texts(draft, not text.isprintable())
-        if isinstance(before, strict.Row) and self.is_settled(cells, before):
-            kind = before.kind
-            pairs = [(before.print_identifier or "", before.online_identifier or "")]
-        else:
-            sides = self.numbers(draft)
-            is_kept = self.is_kbart and isinstance(before, strict.Row)
-            found_kind = before.kind if is_kept and isinstance(before, strict.Row) else self.kind(draft, sides)
-            if not found_kind:
-                word = draft.cells["publication_type"].strip()
-                why = f"the type {word[:100]!r} is neither a serial nor a book, and the record has no number"
-                return Outcome([], "OtherType", why, [])
-            kind = found_kind
-            self.note_unread(draft)
-            pairs = paired(*sides.of("issn" if kind == "serial" else "isbn"))
+        kind, pairs = self.decided(draft, before)
+        if not kind:
+            word = draft.cells["publication_type"].strip()[:100]
+            why = f"the type {word!r} is neither a serial nor a book, and the record has no number"
+            return Outcome([], "OtherType", why, [])
         ranges = [(draft.cells[DATES[0]], draft.cells[DATES[1]])]
         if kind == "serial":
             ranges = self.dates(draft)
             self.volumes(draft)
+        if isinstance(before, strict.Row) and not draft.changes and len(ranges) == 1 and pairs == [before_pair(before)]:
+            # Most records of a good list.
+            return Outcome([(draft.cells, before)], "", "", [])
         rows: list[tuple[Cells, strict.Row]] = []
         if len(pairs) * len(ranges) > MOST_ROWS:
             draft.changes.append(Change("coverage", "", "", f"only {MOST_ROWS} rows of a record are made"))
@@ -146,6 +150,16 @@ class Converter:
         for label in self.several:
             cells[label] = self.columns.cell(fields, label)
         return cells
+
+    def decided(self, draft: Draft, before: strict.Row | str) -> tuple[str | None, list[tuple[str, str]]]:
+        """Returns whether a record is a serial or a book, None if it is neither, and the identifiers of its rows."""
+        if isinstance(before, strict.Row) and self.is_settled(draft.cells, before):
+            return before.kind, [before_pair(before)]
+        sides = self.numbers(draft)
+        kind = before.kind if self.is_kbart and isinstance(before, strict.Row) else self.kind(draft, sides)
+        if kind:
+            self.note_unread(draft)
+        return kind, paired(*sides.of("issn" if kind == "serial" else "isbn"))
 
     def is_settled(self, cells: Cells, before: strict.Row) -> bool:
         """Returns whether the reader's own rules decide the type and the identifiers of a row."""
@@ -280,6 +294,11 @@ def reason(cells: Cells, kind: str) -> str:
     if kind == "monograph" and any(it.kind == "issn" for cell in given for it in identifiers.numbers(cell)):
         return "a book with an ISSN alone: it is the number of its series"
     return f"not an {'ISSN' if kind == 'serial' else 'ISBN'}: {', '.join(given)}"[:200]
+
+
+def before_pair(row: strict.Row) -> tuple[str, str]:
+    """Returns the identifiers that the reader took from a row."""
+    return row.print_identifier or "", row.online_identifier or ""
 
 
 def paired(print_: list[str], online: list[str], further: list[str]) -> list[tuple[str, str]]:

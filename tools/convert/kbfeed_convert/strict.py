@@ -38,7 +38,7 @@ def lower(text: str) -> str:
     return text.strip(" ").lower() if text.isascii() else text.strip(" ")
 
 
-@remembered(1_024)
+@remembered
 def kind_of(cell: str) -> str:
     """Returns the kind of a record by its type: `serial`, `monograph`, or nothing if the reader skips it."""
     kind = lower(cell) or "serial"
@@ -69,7 +69,7 @@ def check13(twelve: str) -> str:
     return str(-sum(int(it) * (1, 3)[at % 2] for at, it in enumerate(twelve)) % 10)
 
 
-@remembered(4_096)
+@remembered
 def issn(text: str) -> str | None:
     """Returns an ISSN in its kept form, 2434-561X."""
     found = ISSN.fullmatch(text.strip(" "))
@@ -83,7 +83,7 @@ def issn(text: str) -> str | None:
     return f"{first}-{second.upper()}"
 
 
-@remembered(4_096)
+@remembered
 def isbn(text: str) -> str | None:
     """Returns an ISBN in its kept form, of thirteen digits."""
     digits = text.strip(" ").replace("-", "")
@@ -96,7 +96,7 @@ def isbn(text: str) -> str | None:
     return "978" + digits[:9] + check13("978" + digits[:9]) if is_right else None
 
 
-@remembered(16_384)
+@remembered
 def date(text: str) -> tuple[Day, Day] | None:
     """Returns the first and the last day of a date."""
     found = DATE.fullmatch(text.strip(" "))
@@ -113,7 +113,7 @@ def date(text: str) -> tuple[Day, Day] | None:
     return ((year, month, day), (year, month, day)) if 1 <= day <= days else None
 
 
-@remembered(4_096)
+@remembered
 def volume(text: str) -> int | None:
     """Returns the number of a volume."""
     text = text.strip(" ")

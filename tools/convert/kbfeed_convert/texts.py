@@ -15,20 +15,23 @@ SPACES = {ord(it): " " for it in "\u00a0\u1680\u2000\u2001\u2002\u2003\u2004\u20
           "\u205f\u3000\t\r\n"}
 ALIKE: dict[int, str | None] = {**DASHES, **INVISIBLE, **SPACES}
 
-# The characters of the longest cell that a cache keeps.
-LONG = 200
+# The cells that a cache keeps, and how to empty each cache.
+SIZE = 8_192
+CACHES: list[Callable[[], None]] = []
 Function = TypeVar("Function", bound=Callable[..., Any])
 
 
-def remembered(size: int) -> Callable[[Function], Function]:
-    """Caches a function of a cell, as the cells of a list repeat. Long cells are not kept: memory must not grow."""
-    def wrap(function: Function) -> Function:
-        cached: Callable[..., Any] = functools.lru_cache(maxsize=size)(function)
+def remembered(function: Function) -> Function:
+    """Caches a function of a cell, as the cells of a list repeat."""
+    cached: Any = functools.lru_cache(maxsize=SIZE)(function)
+    CACHES.append(cached.cache_clear)
+    return cached       # type: ignore[no-any-return]
 
-        def call(cell: str, *others: Any) -> Any:
-            return cached(cell, *others) if len(cell) <= LONG else function(cell, *others)
-        return call     # type: ignore[return-value]
-    return wrap
+
+def forget() -> None:
+    """Empties all caches. After a record with long cells, memory must not grow with the list."""
+    for clear in CACHES:
+        clear()
 
 
 def plain(text: str) -> str:
@@ -40,7 +43,7 @@ def plain(text: str) -> str:
     return re.sub(" {2,}", " ", text).strip() if "  " in text else text.strip()
 
 
-@remembered(65_536)
+@remembered
 def folded(text: str) -> str:
     """Returns the words of a text in lower case, without accents and signs, and with one space between them."""
     text = re.sub(r"(?<=[a-z])(?=[A-Z])", " ", plain(text))

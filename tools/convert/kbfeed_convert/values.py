@@ -80,7 +80,7 @@ NO_EMBARGO = word_set("embargo", "none")
 RECENT = word_set("embargo", "recent")
 
 
-@remembered(4_096)
+@remembered
 def embargo(cell: str, unit: str = "") -> str:
     """Returns an embargo in the form of the standard, or the cell if it is in neither form.
 

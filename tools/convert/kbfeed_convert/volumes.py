@@ -11,7 +11,7 @@ BEHIND = r"\s*(?:\.0+|st|nd|rd|th|巻|卷|권|집)?\s*(?:[,;:(].*)?"
 VOLUME = re.compile(rf"{BEFORE}?([0-9]{{1,9}})(?:\s*[-/]\s*{BEFORE}?([0-9]{{1,9}}))?{BEHIND}", re.I)
 
 
-@remembered(4_096)
+@remembered
 def read(cell: str, is_last: bool) -> str:
     """Returns the number of a volume, of two the first or the last one, or the cell if it has none."""
     if not cell or strict.volume(cell) is not None:
