@@ -58,7 +58,7 @@ help:
 	@echo "                         differ from a revision"
 	@echo "make pages               compares the pages with the sources and the sessions"
 	@echo "make fmt                 formats the sources of every crate, as the proofs require"
-	@echo "make lint                checks widths and module docs, and runs shellcheck and a Python linter if installed"
+	@echo "make lint                checks widths and module docs, and runs shellcheck and Python linters if installed"
 	@echo "make bench [ONLY=x]      measures the program that is built beside its peers, and prints ratios (bench/README.md)"
 
 build:

@@ -9,7 +9,7 @@ import sys
 
 sys.dont_write_bytecode = True
 sys.path.insert(0, str(pathlib.Path(__file__).resolve().parent.parent.parent / "tools" / "convert"))
-from kbfeed_convert import dates, identifiers, kinds, labels, names, values, volumes
+from kbfeed_convert import dates, identifiers, kinds, labels, names, record, values, volumes
 from kbfeed_convert.faults import Refused
 from kbfeed_convert.texts import folded
 
@@ -22,6 +22,11 @@ def date(cell, is_last, order):
 def ranges(cell):
     found = dates.ranges(cell.replace("\\n", "\n"), "")
     return ", ".join(f"{first} to {last or '-'}" for first, last in found) or "not read"
+
+
+def pair(cell):
+    print_, online = ([it for it in side.split(",") if it] for side in cell.split(";"))
+    return " ".join("/".join(it) for it in record.paired(print_, online, []))
 
 
 def name(cell):
@@ -51,6 +56,7 @@ RULES = {
     "access": values.access,
     "type": lambda cell: kinds.KINDS.get(folded(cell), "unknown"),
     "label": lambda cell: labels.label(cell) or "unknown",
+    "pair": pair,
     "name": name,
 }
 

@@ -2,12 +2,15 @@
 
 Some labels are our own: `other_identifier` (an ISSN-L, a further ISBN), `coverage` and `volumes` (ranges in one cell),
 `embargo_days`, `embargo_months` and `embargo_years` (bare numbers), and `open_access` (yes or no)."""
+import difflib
 import re
 
 from . import strict
 from .texts import TABLES, folded, remembered, word_set, words
 
 OWN = ("other_identifier", "coverage", "volumes", "embargo_days", "embargo_months", "embargo_years", "open_access")
+# How near a misspelt label has to be to one of the standard.
+NEAR = 0.9
 SYNONYMS = {key.replace(" ", ""): label for key, label in words("labels").items()}
 WORDS = {name: [folded(it) for it in many] for name, many in TABLES["words"].items()}
 # A list with such a label has free titles alone.
@@ -35,7 +38,9 @@ def label(cell: str) -> str | None:
         if (all(any(has_word(it, text, tokens) for it in group.split("|")) for group in rule["all"])
                 and not any(has_word(it, text, tokens) for it in rule.get("none", []))):
             return str(rule["label"])
-    return None
+    # A label of the standard with a letter too many, too few or wrong.
+    near = difflib.get_close_matches(name, strict.LABELS, 1, NEAR) if "_" in name and len(name) < 50 else []
+    return near[0] if near else None
 
 
 def known(cells: list[str], renamed: dict[str, str]) -> int:

@@ -307,9 +307,14 @@ def paired(print_: list[str], online: list[str], further: list[str]) -> list[tup
     A second number takes the other column if that is empty, or else a row of its own."""
     if not print_ and not online:
         print_ = further
-    # A column for both kinds may repeat the number of another one.
-    online = list(dict.fromkeys(online))
-    print_ = list(dict.fromkeys(it for it in print_ if it not in online)) or print_[:1]
+    # A number that both columns have takes the column that is empty without it.
+    both = list(dict.fromkeys(it for it in print_ if it in online))
+    if len(both) == 1 and not {*print_, *online} - {*both}:
+        return [(both[0], both[0])]
+    print_ = list(dict.fromkeys(it for it in print_ if it not in both))
+    online = list(dict.fromkeys(it for it in online if it not in both))
+    for number in both:
+        (print_ if not print_ or online else online).append(number)
     if len(print_) > 1 and not online:
         online = [print_.pop(1)]
     elif len(online) > 1 and not print_:
