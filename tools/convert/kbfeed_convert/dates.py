@@ -22,6 +22,8 @@ FORMS = [
     ("ym", re.compile(rf"{YEAR}([/.\-])([0-9])")),
     ("my", re.compile(rf"([0-9]{{1,2}})[/.\- ]{YEAR}")),
 ]
+# Spaces inside a date of numbers, as in `1995. 3. 1.`.
+APART = re.compile(r"(?<=[0-9])([./-]) (?=[0-9])")
 CJK_PART = re.compile(r"\s*[年月년월]\s*")
 CJK_DAY = re.compile("[日일도号號]")
 OPEN = word_set("dates", "open")
@@ -85,7 +87,7 @@ def date_text(year: int, month: int = 0, day: int = 0) -> str:
 def read(cell: str, is_last: bool, order: str) -> Read:
     """Reads the date of a cell, as a first or as a last one. `order` is that of day and month, empty if undecided."""
     bare = cell.strip(" ")
-    now = re.sub(r"\.0+$", "", TIME.sub("", plain(cell)))
+    now = APART.sub(r"\1", re.sub(r"\.0+$", "", TIME.sub("", plain(cell))))
     if is_last and re.search(r"(?<![0-9])9999", now):
         return Read("", "9999 is an open end")
     if not bare or strict.date(bare):

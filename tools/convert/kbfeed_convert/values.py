@@ -48,6 +48,8 @@ def title(cell: str) -> str:
 
 GOOD_ADDRESS = re.compile(r"[A-Za-z][A-Za-z0-9+.-]*://[!-~]*")
 HOST = re.compile(r"(?:[A-Za-z0-9](?:[A-Za-z0-9-]*[A-Za-z0-9])?\.)+[A-Za-z]{2,24}(?::[0-9]+)?(?:[/?#].*)?")
+# A link in HTML, and one as a formula of a spreadsheet.
+LINKED = re.compile(r"""\s*(?:<a [^<>]*?href|=HYPERLINK\()\s*=?\s*["']([^"'<>]+)["']""", re.I)
 DOI = re.compile(r"(?:doi:\s*)?(10\.[0-9]{4,9}/\S+)", re.I)
 # `[SITE_ID]`, `{custid}`, `<your id>`, `%%ID%%` and `$SITE_ID`, which a library has to fill.
 PLACEHOLDER = re.compile(r"\[[A-Za-z_ -]+\]|\{[^{}]+\}|<[A-Za-z_ -]+>|%%[A-Za-z_]+%%|\$[A-Z_]{3,}")
@@ -60,6 +62,8 @@ def address(cell: str, replaced: dict[str, str]) -> str:
     text = cell
     for old, new in replaced.items():
         text = text.replace(old, new)
+    if found := LINKED.match(text):
+        text = found[1]
     text = clean(text).strip(" ").replace("&amp;", "&")
     if not text or GOOD_ADDRESS.fullmatch(text):
         return text if text != cell.strip(" ") else cell
