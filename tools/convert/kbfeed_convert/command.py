@@ -8,7 +8,7 @@ import signal
 import sys
 import traceback
 from types import FrameType
-from typing import BinaryIO
+from typing import IO
 
 from . import dates, encoding, form, labels, mapping, names, source, strict
 from .faults import BYTES, Internal, Refused, Stopped, WrongArguments
@@ -21,6 +21,8 @@ EPILOG = """The list is text of any usual encoding and separator, or a spreadshe
 The status is 0 if the list was written, 1 if it is refused, or with --strict if a record was dropped, 2 for wrong
 arguments, and 3 if a file cannot be read or written."""
 SIGNALS = (signal.SIGHUP, signal.SIGINT, signal.SIGTERM)
+# The records by which the column of titles is guessed.
+SAMPLE = 50
 # The labels whose absence is worth a warning. Identifiers need none: without them there is no row.
 EXPECTED = ("publication_title", "title_url")
 # Records dropped for these reasons hold nothing.
@@ -45,7 +47,7 @@ def arguments(given: list[str] | None = None) -> argparse.Namespace:
     return parser.parse_args(given)
 
 
-def text_encoding(given: argparse.Namespace, file: BinaryIO, sheet: str) -> encoding.Encoding:
+def text_encoding(given: argparse.Namespace, file: IO[bytes], sheet: str) -> encoding.Encoding:
     """Returns the encoding of a text: the given one, or the detected one."""
     if sheet:
         if given.encoding:
@@ -77,14 +79,15 @@ def convert(given: argparse.Namespace, name: str, out: Output, report_out: Repor
     shape = form.find(text, rules.labels)
     shape = shape._replace(is_kbart=shape.is_kbart and found.is_utf8() and not rules.is_read())
     columns = labels.Columns(shape.header, rules.labels)
+    guessed = guessed_title(text, shape, columns)
     order = date_order(text, shape, columns, rules.order)
     warnings = [found.warning] if found.warning else []
-    warnings += [*name_warnings(given, name), *form_warnings(shape, columns, order, rules)]
+    warnings += [*guessed, *name_warnings(given, name), *form_warnings(shape, columns, order, rules)]
     head = {
         "file": os.path.basename(given.file), "name": name, "sheet": sheet, "encoding": found.name,
         "runner_up": found.runner_up, "separator": shape.separator, "header_line": shape.line, "date_order": str(order),
         "columns": [{"header": cell, "label": label} for cell, label in zip(columns.header, columns.names)],
-        "unused": columns.unused}
+        "unused": columns.unused()}
     report = Report(report_out.write_text if report_out else None, head, warnings)
     settings = Settings(given.type, rules.constants, rules.replaced, str(order))
     converter = Converter(columns, settings, shape.is_kbart)
@@ -103,6 +106,15 @@ def convert(given: argparse.Namespace, name: str, out: Output, report_out: Repor
         report.record(record, outcome)
     report.end("" if report.rows else "no record is a row")
     return report
+
+
+def guessed_title(text: io.TextIOWrapper, shape: form.Form, columns: labels.Columns) -> list[str]:
+    """Guesses the column of titles by its first records if no label says it, and returns a warning then."""
+    if "publication_title" in columns.places:
+        return []
+    text.seek(0)
+    header = columns.guess_title([it.cells for _, it in zip(range(SAMPLE), form.body(text, shape))])
+    return [f"no label says which column has the titles: it is guessed to be {header!r}"] if header else []
 
 
 def date_order(text: io.TextIOWrapper, shape: form.Form, columns: labels.Columns, fixed: str) -> dates.Order:

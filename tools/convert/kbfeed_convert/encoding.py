@@ -4,7 +4,7 @@ A mark decides. Otherwise the zero bytes of UTF-16 and UTF-32 do, then UTF-8 if 
 encodings of `tables.toml` are compared by how common their characters are."""
 import codecs
 import re
-from typing import Any, BinaryIO, Iterator, NamedTuple
+from typing import IO, Any, Iterator, NamedTuple
 
 from .texts import TABLES
 
@@ -43,7 +43,7 @@ def stray(error: UnicodeError) -> tuple[str, int]:
 codecs.register_error("kbfeed-stray", stray)
 
 
-def detect(file: BinaryIO) -> Encoding:
+def detect(file: IO[bytes]) -> Encoding:
     """Returns the encoding of a file. The file is at its beginning then."""
     head = file.read(HEAD)
     file.seek(0)
@@ -71,7 +71,7 @@ def wide(head: bytes) -> str:
     return best if best != "utf-8" and ascii_share(best) > 0.1 else ""
 
 
-def lines(file: BinaryIO) -> Iterator[bytes]:
+def lines(file: IO[bytes]) -> Iterator[bytes]:
     """Yields the lines of a file, and parts of lines that are longer than a chunk."""
     rest = b""
     while chunk := file.read(CHUNK):
@@ -83,7 +83,7 @@ def lines(file: BinaryIO) -> Iterator[bytes]:
     yield rest
 
 
-def by_lines(file: BinaryIO, name: str) -> Encoding:
+def by_lines(file: IO[bytes], name: str) -> Encoding:
     """Returns UTF-8 if the file is valid, or at least four of five lines that are not ASCII. Else compares others."""
     decoder = codecs.getincrementaldecoder("utf-8")()
     try:

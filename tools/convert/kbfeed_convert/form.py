@@ -2,6 +2,7 @@
 
 A quote counts only where it surrounds a cell."""
 import collections
+import itertools
 import re
 from typing import Callable, Iterator, NamedTuple, TextIO
 
@@ -143,7 +144,28 @@ def find(text: TextIO, renamed: dict[str, str]) -> Form:
     if not good:
         raise Refused(f"no header: no line has {LEAST} known labels. The nearest are {nearest(counted, first)}")
     line = min(form.line for _, form in good)
-    return within_limit(max((it for it in good if it[1].line == line), key=lambda it: it[0])[1])
+    best = max((it for it in good if it[1].line == line), key=lambda it: it[0])[1]
+    return within_limit(with_second_line(best, first, renamed))
+
+
+def with_second_line(form: Form, first: list[tuple[int, str]], renamed: dict[str, str]) -> Form:
+    """Returns a form whose header is joined with the line below, if that is its second line.
+
+    It is one if it makes more labels, as `From` and `To` below `Coverage`, and all its cells are parts of labels. A
+    cell of the first line is the group of the empty ones behind it."""
+    found = records(iter(first), SEPARATORS[form.separator], COLUMNS)
+    second = next((it for it in found if it.line > form.line), None)
+    if not second or len(second.cells) > COLUMNS:
+        return form
+    below, joined, group = second.cells, [], ""
+    for upper, lower in itertools.zip_longest(form.header, below, fillvalue=""):
+        group = upper.strip() or group
+        joined.append(f"{group} {lower.strip()}" if lower.strip() else upper)
+    parts = [whole for whole, lower in zip(joined, below) if lower.strip()]
+    is_more = len(parts) > 1 and labels.known(joined, renamed) > labels.known(form.header, renamed)
+    if is_more and all(labels.label(it) for it in parts) and not any(re.search("[0-9]{3}", it) for it in below):
+        return form._replace(header=joined, line=second.line)
+    return form
 
 
 def nearest(counted: list[tuple[int, Form]], first: list[tuple[int, str]]) -> str:

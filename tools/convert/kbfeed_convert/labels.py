@@ -74,8 +74,22 @@ class Columns:
                 del places[1:]
             if len(places) > 1:
                 self.twice.append(name)
-        self.unused = [cell for cell, name in zip(header, self.names) if not name and cell.strip()]
         self.is_free = any(folded(cell) in FREE for cell in header)
+
+    def unused(self) -> list[str]:
+        """Returns the headers of the columns that have no label."""
+        return [cell for cell, name in zip(self.header, self.names) if not name and cell.strip()]
+
+    def guess_title(self, records: list[list[str]]) -> str:
+        """Takes the column without a label that has the most letters for the titles, and returns its header."""
+        letters = {place: sum(it.isalpha() for cells in records for it in cells[place:place + 1] for it in it[:80])
+                   for place, name in enumerate(self.names) if not name and self.header[place].strip()}
+        place = max(letters, key=lambda it: letters[it], default=-1)
+        if place < 0 or letters[place] < 3 * len(records):
+            return ""
+        self.names[place] = "publication_title"
+        self.places["publication_title"] = [place]
+        return self.header[place]
 
     def cell(self, cells: list[str], name: str) -> str:
         """Returns the first value of a label in a record."""

@@ -4,7 +4,7 @@ import errno
 import io
 import re
 import tempfile
-from typing import Any, BinaryIO, Callable
+from typing import IO, Any, Callable
 
 from .faults import BYTES, COLUMNS, Refused
 
@@ -13,7 +13,7 @@ SEARCHED = 60
 Finder = Callable[[list[list[str]]], bool]
 
 
-def as_text(file: BinaryIO, wanted: str, has_header: Finder) -> tuple[BinaryIO, str]:
+def as_text(file: IO[bytes], wanted: str, has_header: Finder) -> tuple[IO[bytes], str]:
     """Returns the text of a sheet and the sheet's name: of the wanted one, or of the first with a header."""
     try:
         import openpyxl     # type: ignore[import]
@@ -47,7 +47,7 @@ def as_fault(error: Exception) -> Exception:
     return Refused("a spreadsheet that is damaged")
 
 
-def written(sheet: Any) -> BinaryIO:
+def written(sheet: Any) -> IO[bytes]:
     """Returns a temporary file with the rows of a sheet."""
     raw = tempfile.TemporaryFile()
     out = io.TextIOWrapper(raw, encoding="utf-8", errors="replace", newline="\n")
@@ -62,7 +62,7 @@ def written(sheet: Any) -> BinaryIO:
     out.flush()
     out.detach()
     raw.seek(0)
-    return raw      # type: ignore[return-value]
+    return raw
 
 
 def quoted(text: str) -> str:

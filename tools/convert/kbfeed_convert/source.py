@@ -6,7 +6,7 @@ import sys
 import tempfile
 import zipfile
 import zlib
-from typing import IO, BinaryIO
+from typing import IO, Protocol
 
 from . import sheet
 from .faults import BYTES, Refused
@@ -22,7 +22,14 @@ PACKED = {"word/document.xml": "a Word document", "ppt/presentation.xml": "a pre
           "content.xml": "an OpenDocument file (.ods): save it as .xlsx or as text"}
 
 
-def spooled(file: IO[bytes], what: str) -> BinaryIO:
+class Readable(Protocol):
+    """What can be read."""
+
+    def read(self, size: int, /) -> bytes:
+        """Returns at most so many bytes, none at the end."""
+
+
+def spooled(file: Readable, what: str) -> IO[bytes]:
     """Returns a temporary copy, which can be read twice."""
     copy = tempfile.TemporaryFile()
     left = BYTES
@@ -32,10 +39,10 @@ def spooled(file: IO[bytes], what: str) -> BinaryIO:
             raise Refused(f"{what} has more than {BYTES} bytes")
         copy.write(chunk)
     copy.seek(0)
-    return copy     # type: ignore[return-value]
+    return copy
 
 
-def open_list(path: str, sheet_name: str, has_header: sheet.Finder) -> tuple[BinaryIO, str]:
+def open_list(path: str, sheet_name: str, has_header: sheet.Finder) -> tuple[IO[bytes], str]:
     """Returns the bytes of a list's text, and the name of the sheet if it was a spreadsheet."""
     file = opened(path)
     for _ in range(3):
@@ -54,7 +61,7 @@ def open_list(path: str, sheet_name: str, has_header: sheet.Finder) -> tuple[Bin
     raise Refused("packed more than twice")
 
 
-def opened(path: str) -> BinaryIO:
+def opened(path: str) -> IO[bytes]:
     """Returns a file that can be read twice. Standard input and pipes are copied."""
     if path == "-":
         return spooled(sys.stdin.buffer, "standard input")
@@ -67,15 +74,15 @@ def opened(path: str) -> BinaryIO:
     return file
 
 
-def unpacked_gzip(file: BinaryIO) -> BinaryIO:
+def unpacked_gzip(file: IO[bytes]) -> IO[bytes]:
     """Returns the file inside gzip."""
     try:
-        return spooled(gzip.GzipFile(fileobj=file), "the unpacked file")     # type: ignore[arg-type]
+        return spooled(gzip.GzipFile(fileobj=file), "the unpacked file")
     except (EOFError, struct.error, zlib.error, gzip.BadGzipFile) as error:
         raise Refused(f"gzip that cannot be unpacked: {error}") from error
 
 
-def unpacked_zip(file: BinaryIO) -> BinaryIO | None:
+def unpacked_zip(file: IO[bytes]) -> IO[bytes] | None:
     """Returns the one file inside a ZIP file, or None if it is a spreadsheet."""
     try:
         with zipfile.ZipFile(file) as packed:
