@@ -90,7 +90,7 @@ def convert(given: argparse.Namespace, name: str, out: Output, report_out: Repor
         "unused": columns.unused()}
     report = Report(report_out.write_text if report_out else None, head, warnings)
     settings = Settings(given.type, rules.constants, rules.replaced, str(order))
-    converter = Converter(columns, settings, shape.is_kbart)
+    converter = Converter(columns, settings, shape)
     text.seek(0)
     line = ("\t".join(strict.LABELS) + "\n").encode()
     out.write(line)

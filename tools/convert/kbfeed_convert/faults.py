@@ -4,7 +4,7 @@
 BYTES = 256 * 1024 * 1024
 # The most characters of a cell, and of a line.
 FIELD = 131_072
-LINE = 16 * 1024 * 1024
+LINE = 8 * 1024 * 1024
 # The most columns of a header.
 COLUMNS = 1_000
 

@@ -6,7 +6,7 @@ from typing import NamedTuple
 from . import dates, form, identifiers, kinds, strict, values, volumes
 from .identifiers import Number
 from .labels import Columns
-from .texts import forget
+from .texts import folded, forget
 
 Cells = dict[str, str]
 DATES = "date_first_issue_online", "date_last_issue_online"
@@ -76,13 +76,14 @@ class Sides(NamedTuple):
 class Converter:
     """Converts the records of one list."""
 
-    def __init__(self, columns: Columns, settings: Settings, is_kbart: bool):
-        self.columns, self.settings, self.is_kbart = columns, settings, is_kbart
+    def __init__(self, columns: Columns, settings: Settings, shape: form.Form):
+        self.columns, self.settings, self.is_kbart = columns, settings, shape.is_kbart
+        self.sign = form.SEPARATORS[shape.separator]
         self.header = [it.strip() for it in columns.header]
         self.width = len(columns.header)
         places = columns.places
         # In a list that is KBART the standard's own column counts alone.
-        self.several = [label for label in strict.LABELS if len(places.get(label, ())) > 1 and not is_kbart]
+        self.several = [label for label in strict.LABELS if len(places.get(label, ())) > 1 and not self.is_kbart]
         # The place of each label, where the one behind the last column is for labels that the list lacks.
         self.cells_of = operator.itemgetter(*(places[label][0] if label in places and label not in self.several
                                               else self.width for label in strict.LABELS))
@@ -175,7 +176,7 @@ class Converter:
         place = self.columns.places.get("publication_title", [-1])[0]
         if more <= 0 or place < 0 or self.is_kbart:
             return fields
-        joined = fields[:place] + [",".join(fields[place:place + more + 1])] + fields[place + more + 1:]
+        joined = fields[:place] + [self.sign.join(fields[place:place + more + 1])] + fields[place + more + 1:]
         found = [any(identifiers.numbers(self.columns.cell(it, label)) for label in NUMBERS) for it in (fields, joined)]
         return joined if found == [False, True] else fields
 
@@ -183,7 +184,7 @@ class Converter:
         """Mends the cells that are neither numbers nor dates."""
         cells, put, columns = draft.cells, draft.put, self.columns
         if is_unsafe:
-            for label in TEXTS:
+            for label in (*TEXTS, "embargo_info", "coverage_depth", "access_type"):
                 put(label, values.clean(cells[label]), "characters that nobody sees")
         put("publication_title", values.title(cells["publication_title"]), "characters and references of a title")
         put("title_url", values.address(cells["title_url"], self.settings.replaced), "an address")
@@ -224,7 +225,7 @@ class Converter:
         """Notes the identifiers that do not read."""
         for label in NUMBERS:
             cell = draft.cells[label]
-            if cell.strip(" ") and not identifiers.numbers(cell):
+            if cell.strip(" ") and not identifiers.numbers(cell) and folded(cell) not in dates.NONE:
                 rule = "not read: its digits are lost in a spreadsheet" if identifiers.is_scientific(cell) \
                     else "not read: no number whose check character fits"
                 draft.changes.append(Change(label, cell, cell, rule))
