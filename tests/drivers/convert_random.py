@@ -10,7 +10,8 @@ A list is made of cells that the proved reader takes, and of cells that tempt th
 - the counts of the report add up, and `kbfeed check` skips no row of the output;
 - cut, damaged, re-encoded and random bytes are refused, or converted to a list for which the last point holds.
 
-Prints the numbers of lists, and exits with 1 at the first list that breaks one of these."""
+Prints how many rows were kept, and exits with 1 at the first list that breaks one of these. How many lists are refused
+is printed on standard error: it changes with the rules."""
 import argparse
 import contextlib
 import io
@@ -205,7 +206,8 @@ def main():
                 with contextlib.suppress(Refused):
                     converted(path, folder / f"out{at}")
                     near += 1
-    print(f"{given.count} lists: {rows} rows kept, {refused} refused; {near} of {given.count * 5} variants converted")
+    print(f"{refused} lists refused, {near} of {given.count * 5} variants converted", file=sys.stderr)
+    print(f"{given.count} lists and {given.count * 5} variants: {rows} rows kept")
 
 
 if __name__ == "__main__":
