@@ -47,6 +47,7 @@ RULES = {
     "volume last": lambda cell: volumes.read(cell, True),
     "volumes": lambda cell: " to ".join(it or "-" for it in volumes.both(cell)),
     "embargo": values.embargo,
+    "embargo in": values.embargo_in,
     "embargo days": lambda cell: values.embargo(cell, "D"),
     "embargo months": lambda cell: values.embargo(cell, "M"),
     "embargo years": lambda cell: values.embargo(cell, "Y"),

@@ -193,6 +193,11 @@ class Converter:
         for label, unit in EMBARGOES:
             if label in columns.places and not cells["embargo_info"]:
                 put("embargo_info", values.embargo(columns.cell(draft.fields, label), unit), "an embargo in words")
+        # A date that reads says nothing else.
+        if not cells["embargo_info"] and len(cells[DATES[1]]) > len("2001-12-31"):
+            put("embargo_info", values.embargo_in(cells[DATES[1]]), "an embargo in a coverage")
+        if not cells["embargo_info"] and "coverage" in columns.places:
+            put("embargo_info", values.embargo_in(columns.cell(draft.fields, "coverage")), "an embargo in a coverage")
         put("coverage_depth", values.depth(cells["coverage_depth"]), "the depth in words")
         put("access_type", values.access(cells["access_type"]), "the access in words")
         if not cells["access_type"] and "open_access" in columns.places:

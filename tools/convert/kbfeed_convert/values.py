@@ -110,6 +110,23 @@ def embargo(cell: str, unit: str = "") -> str:
     return f"{'R' if RECENT & set(tokens) else 'P'}{count}{one}"
 
 
+# An embargo in the text of a coverage: `1995 to 1 year ago`, `1995- (12 month embargo)`, `embargo: 1 year`.
+BEHIND = "|".join(sorted(word_set("embargo", "behind"), key=len, reverse=True))
+BEFORE = "|".join(sorted(word_set("embargo", "before"), key=len, reverse=True))
+NUMBER_FIRST = re.compile(rf"\b([0-9]{{1,4}}) ?([^\W\d]+)(?: s)? (?:{BEHIND})\b")
+NUMBER_LAST = re.compile(rf"\b(?:{BEFORE})(?: \w{{1,6}}){{0,2}} ([0-9]{{1,4}}) ?([^\W\d]+)\b")
+
+
+@remembered
+def embargo_in(coverage: str) -> str:
+    """Returns the embargo that the text of a coverage says, or nothing."""
+    text = folded(coverage)
+    for found in (NUMBER_FIRST.search(text), NUMBER_LAST.search(text)):
+        if found and found[2] in UNITS and int(found[1]):
+            return embargo(f"{found[1]} {found[2]}")
+    return ""
+
+
 DEPTH = words("depth")
 ACCESS = words("access")
 YES_NO = words("yes_no")
