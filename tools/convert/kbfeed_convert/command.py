@@ -82,7 +82,8 @@ def convert(given: argparse.Namespace, name: str, out: Output, report_out: Repor
     guessed = guessed_title(text, shape, columns)
     order = date_order(text, shape, columns, rules.order)
     warnings = [found.warning] if found.warning else []
-    warnings += [*guessed, *name_warnings(given, name), *form_warnings(shape, columns, order, rules)]
+    shown = "" if sheet else f", with {shape.separator} between cells"
+    warnings += [*guessed, *name_warnings(given, name), *form_warnings(shape, shown, columns, order, rules)]
     head = {
         "file": os.path.basename(given.file), "name": name, "sheet": sheet, "encoding": found.name,
         "runner_up": found.runner_up, "separator": shape.separator, "header_line": shape.line, "date_order": str(order),
@@ -136,11 +137,12 @@ def name_warnings(given: argparse.Namespace, name: str) -> list[str]:
     return [f"the package is {package}, made from the file's name: --package keeps it the same"]
 
 
-def form_warnings(shape: form.Form, columns: labels.Columns, order: dates.Order, rules: mapping.Map) -> list[str]:
-    """Returns the warnings about the form of the list."""
+def form_warnings(shape: form.Form, shown: str, columns: labels.Columns, order: dates.Order,
+                  rules: mapping.Map) -> list[str]:
+    """Returns the warnings about the form of the list. `shown` says what separates its cells."""
     warnings = []
     if not strict.columns(shape.header):
-        warnings.append(f"not KBART: the columns are read by their labels, with {shape.separator} between cells")
+        warnings.append(f"not KBART: the columns are read by their labels{shown}")
     elif shape.separator != "tab":
         warnings.append(f"{shape.separator} in place of tab")
     for label in columns.twice:
