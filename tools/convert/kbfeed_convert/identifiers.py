@@ -16,7 +16,7 @@ class Number(NamedTuple):
 # At each place in this order: an ISBN of 13 digits, an ISSN, an ISBN of 10. Hyphens and spaces may be between them.
 CANDIDATE = re.compile(
     r"(?<![0-9])(?:(?P<long>97[89](?:[- ]{0,3}[0-9]){10})"
-    r"|(?P<issn>[0-9](?:-?[0-9]){3} {0,3}-? {0,3}(?:[0-9]-?){3}[0-9Xx])"
+    r"|(?P<issn>[0-9](?:-?[0-9]){3} {0,3}-? {0,3}(?:[0-9]-?){3} ?[0-9Xx])"
     r"|(?P<short>[0-9](?:[- ]?[0-9]){8}[- ]?[0-9Xx]))(?![0-9Xx])")
 # Letters of other scripts that look like an X, and letters that look like a digit.
 TEN = str.maketrans(dict.fromkeys("ХхΧχ×", "X"))

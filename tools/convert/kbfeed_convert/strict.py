@@ -150,7 +150,8 @@ def keeps(old: Row, new: Row | str) -> bool:
     """Returns whether all that the reader took from the old row is in the new one.
 
     A last day in 9999 may become an open end. Identifiers and volumes may be added."""
-    if old.last_day and old.last_day[0] == 9999:
-        old = old._replace(last_day=None)
-    return (isinstance(new, Row) and old.kind == new.kind and old[3:5] == new[3:5]
-            and all(a is None or a == b for a, b in zip(old[1:3] + old[5:], new[1:3] + new[5:])))
+    if not isinstance(new, Row) or old.kind != new.kind or old.first_day != new.first_day:
+        return False
+    if old.last_day != new.last_day and (new.last_day or not old.last_day or old.last_day[0] != 9999):
+        return False
+    return all(a is None or a == b for a, b in zip(old[1:3] + old[5:], new[1:3] + new[5:]))

@@ -16,7 +16,8 @@ def read(cell: str, is_last: bool) -> str:
     """Returns the number of a volume, of two the first or the last one, or the cell if it has none."""
     if not cell or strict.volume(cell) is not None:
         return cell
-    found = VOLUME.fullmatch(plain(cell))
+    # `5-` is a first volume and no last one.
+    found = VOLUME.fullmatch(plain(cell) if is_last else plain(cell).rstrip("- "))
     if not found:
         return cell
     return is_last and found[2] or found[1]
