@@ -21,13 +21,16 @@ MONTH = re.compile(rf"(?<![0-9]){YEAR}[-_. ]?([01][0-9])(?![0-9])")
 NAMED_MONTH = re.compile(rf"(?<![^\W\d_])([^\W\d_]{{3,10}})[-_. ]?{YEAR}(?![0-9])|"
                          rf"(?<![0-9]){YEAR}[-_. ]?([^\W\d_]{{3,10}})(?![^\W\d_])")
 MONTHS = words("months")
+# The name of a release, as kbfeed itself reads it.
+RELEASE = re.compile(r"([A-Za-z0-9_-][A-Za-z0-9._-]{0,99})_([0-9]{4}-[0-9]{2}-[0-9]{2})\.txt")
 
 
 def dated(stem: str) -> tuple[str, str]:
     """Returns the package and the day in a file's name. A month is its first day, and a year alone is no date."""
-    for found in reversed(list(DAY.finditer(stem))):
-        if strict.date(day := f"{found[1]}-{found[3]}-{found[4]}"):
-            return around(stem, found), day
+    days = [it for it in DAY.finditer(stem) if strict.date(f"{it[1]}-{it[3]}-{it[4]}")]
+    if days:
+        # Of a period the last day counts, and what is before the first one.
+        return around(stem, days[0]), f"{days[-1][1]}-{days[-1][3]}-{days[-1][4]}"
     for found in DAY_FIRST.finditer(stem):
         low, high = sorted((int(found[1]), int(found[2])))
         if (low <= 12 < high or low == high) and strict.date(day := f"{found[3]}-{low:02}-{high:02}"):
@@ -57,11 +60,13 @@ def package(text: str) -> str:
 def release(path: str, given_package: str, given_day: str) -> str:
     """Returns the name of the release of a file. The arguments win over the file's name."""
     base = "" if path == "-" else os.path.basename(path)
-    stem, day = dated(COPY.sub("", ENDINGS.sub("", base)))
+    found = RELEASE.fullmatch(base)
+    is_release = found is not None and strict.date(found[2]) is not None
+    stem, day = found.groups() if found and is_release else dated(COPY.sub("", ENDINGS.sub("", base)))
     if given_package and package(given_package) != given_package:
         raise WrongArguments("--package: at most 100 letters, digits, '-', '_' and '.' are accepted, as in "
                              f"{package(given_package) or 'Acme_All'}")
-    name, day = given_package or package(COPY.sub("", stem)), given_day or day
+    name, day = given_package or (stem if is_release else package(COPY.sub("", stem))), given_day or day
     if given_day and (not strict.date(given_day) or len(given_day) != 10):
         raise WrongArguments(f"--date: {given_day} is not a day, as 2024-01-31")
     if not re.search("[A-Za-z0-9]", name):
