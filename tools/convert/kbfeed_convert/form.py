@@ -129,7 +129,13 @@ def strict_guard(header: list[str]) -> Guard:
 
 def find(text: TextIO, renamed: dict[str, str]) -> Form:
     """Finds the header: the first line with three labels, with the separator that gives it the most."""
-    first = [it for _, it in zip(range(SEARCHED), numbered_lines(text))]
+    first: list[tuple[int, str]] = []
+    size = 0
+    for number, line in numbered_lines(text):
+        first.append((number, line))
+        size += len(line)
+        if len(first) == SEARCHED or size > LINE:
+            break
     if not first:
         raise Refused("empty: it has no records")
     header = first[0][1].lstrip("\ufeff").split("\t")
@@ -140,11 +146,13 @@ def find(text: TextIO, renamed: dict[str, str]) -> Form:
         for record in records(iter(first), sign, COLUMNS):
             cells = record.cells[:COLUMNS + 1]
             counted.append((labels.known(cells, renamed), Form(name, record.line, cells, False)))
+            if counted[-1][0] >= LEAST:
+                break
     good = [it for it in counted if it[0] >= LEAST]
     if not good:
         raise Refused(f"no header: no line has {LEAST} known labels. The nearest are {nearest(counted, first)}")
-    line = min(form.line for _, form in good)
-    best = max((it for it in good if it[1].line == line), key=lambda it: it[0])[1]
+    header_line = min(form.line for _, form in good)
+    best = max((it for it in good if it[1].line == header_line), key=lambda it: it[0])[1]
     return within_limit(with_second_line(best, first, renamed))
 
 

@@ -9,6 +9,8 @@ from . import strict
 from .texts import TABLES, folded, remembered, word_set, words
 
 OWN = ("other_identifier", "coverage", "volumes", "embargo_days", "embargo_months", "embargo_years", "open_access")
+# The characters of the longest label.
+LONGEST = 200
 # How near a misspelt label has to be to one of the standard.
 NEAR = 0.9
 SYNONYMS = {key.replace(" ", ""): label for key, label in words("labels").items()}
@@ -28,6 +30,8 @@ def label(cell: str) -> str | None:
     name = strict.lower(cell.strip("\ufeff").strip('"'))
     if name in strict.LABELS:
         return name
+    if len(cell) > LONGEST:
+        return None
     text = folded(cell)
     if text.replace(" ", "_") in strict.LABELS:
         return text.replace(" ", "_")
@@ -39,7 +43,7 @@ def label(cell: str) -> str | None:
                 and not any(has_word(it, text, tokens) for it in rule.get("none", []))):
             return str(rule["label"])
     # A label of the standard with a letter too many, too few or wrong.
-    near = difflib.get_close_matches(name, strict.LABELS, 1, NEAR) if "_" in name and len(name) < 50 else []
+    near = difflib.get_close_matches(name, strict.LABELS, 1, NEAR) if "_" in name else []
     return near[0] if near else None
 
 
