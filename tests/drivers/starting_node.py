@@ -80,6 +80,16 @@ def print_states(port):
     print("counted:", *[f"{target} {count}" for target, count in counted if target != "health"])
 
 
+def wait_for_log(file):
+    """Waits until the log has its first line and one for each request of a reader, at most ten seconds."""
+    readers = [method for method, target in REQUESTS if not target.startswith(("/health", "/metrics"))]
+    for _ in range(200):
+        with open(file, "rb") as log:
+            if log.read().count(b"\n") > len(readers) + readers.count("GET"):
+                return
+        time.sleep(0.05)
+
+
 def main():
     port = free_port()
     with open("access", "wb") as access:
@@ -87,6 +97,7 @@ def main():
     try:
         print_replies(port)
         print_states(port)
+        wait_for_log("access")
     finally:
         node.kill()
         node.wait()
