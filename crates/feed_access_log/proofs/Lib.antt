@@ -1,4 +1,3 @@
 pub mod EscapedTexts
 pub mod LineParts
-pub mod CutLines
 pub mod LastParts

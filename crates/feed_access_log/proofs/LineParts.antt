@@ -168,9 +168,17 @@ line_parts e is = parted (before_request e) (escaped e.line ∷ reply_part e ∷
     )
 
 -- the pieces of a line make the line
-pub pieces_line : (client : List ℕ) (seconds : ℕ) (front version : List ℕ) (status sent : ℕ) (referrer agent : List ℕ) (millis n : ℕ) → n ≡ status
-    → joined (escaped client ∷ codes " - - [" ∷ time_text seconds ∷ codes " +0000] \"" ∷ escaped front ∷ escaped version ∷ codes "\" " ∷ decimal n ∷ codes " "
-    ∷ decimal sent ∷ codes " \"" ∷ or_dash referrer ∷ codes "\" \"" ∷ or_dash agent ∷ codes "\" " ∷ decimal millis ∷ codes "\n" ∷ [])
-    ≡ line_text (record { client = client; seconds = seconds; line = front ++ version; status = status; sent = sent; referrer = referrer; user_agent = agent; millis = millis })
+pub pieces_line : (client : List ℕ) (seconds : ℕ) (method gap target version : List ℕ) (status sent : ℕ) (referrer agent : List ℕ) (millis n : ℕ) → n ≡ status
+    → joined (escaped client ∷ codes " - - [" ∷ time_text seconds ∷ codes " +0000] \"" ∷ escaped method ∷ escaped gap ∷ escaped target ∷ escaped gap ∷ escaped version
+    ∷ codes "\" " ∷ decimal n ∷ codes " " ∷ decimal sent ∷ codes " \"" ∷ or_dash referrer ∷ codes "\" \"" ∷ or_dash agent ∷ codes "\" " ∷ decimal millis ∷ codes "\n" ∷ [])
+    ≡ line_text
+    (record { client = client; seconds = seconds; line = method ++ (gap ++ (target ++ (gap ++ version))); status = status; sent = sent; referrer = referrer; user_agent = agent; millis = millis })
 unfolding line_text
-pieces_line client seconds front version status sent referrer agent millis n same = rw (same, flat_map-append escape_byte front version) (simp (append_assoc) refl)
+pieces_line client seconds method gap target version status sent referrer agent millis n same =
+    rw (
+      same,
+      flat_map-append escape_byte method (gap ++ (target ++ (gap ++ version))),
+      flat_map-append escape_byte gap (target ++ (gap ++ version)),
+      flat_map-append escape_byte target (gap ++ version),
+      flat_map-append escape_byte gap version,
+    ) (simp (append_assoc) refl)

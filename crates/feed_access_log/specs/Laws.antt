@@ -1,9 +1,8 @@
 -- Laws of the lines of a log.
-use Rattle.std.specs.Prelude.{◌≡◌, ◌==◌, ◌⊎◌, ℕ, List, ◌∷◌, ◌++◌, Some, true, false, All, codes}
+use Rattle.std.specs.Prelude.{◌≡◌, ◌==◌, ℕ, List, Some, true, All}
 use Rattle.std.specs.List.{slice_split}
 use Rattle.feed_access_log.specs.Escapes.{escaped, is_visible, unescaped}
 use Rattle.feed_access_log.specs.Lines.{EntryValue, IsByte, IsEntry, line_text, parts_of}
-use Rattle.feed_access_log.specs.Queries.{without_query}
 
 -- an escaped text has visible ASCII and spaces alone, and no quote
 abbrev pub EscapedIsVisible : Type 0
@@ -16,9 +15,3 @@ EscapedReadsBack = (text : List ℕ) → All IsByte text → unescaped (escaped 
 -- a reader that splits a line at its quotes gets the seven parts
 abbrev pub LineSplits : Type 0
 LineSplits = (e : EntryValue) → IsEntry e → slice_split (λ b. b == 34) (line_text e) ≡ parts_of e
-
--- the line without its query is the part before the `?` and the version, whatever the query was
-abbrev pub QueryLeavesNoTrace : Type 0
-QueryLeavesNoTrace = (path query version : List ℕ) → All (λ b. (b == 63) ≡ false) path
-    → (version ≡ codes " HTTP/1.1") ⊎ (version ≡ codes " HTTP/1.0")
-    → without_query (path ++ 63 ∷ (query ++ version)) ≡ path ++ version

@@ -27,15 +27,15 @@ pub struct Entry<'a> {
 }
 
 impl<'a> Model for Entry<'a> {
-    ghost use Rattle.std.specs.Prelude.{◌++◌};
     ghost use Rattle.feed_access_log.specs.Lines.{EntryValue};
+    ghost use Rattle.feed_access_log.specs.Queries.{shown_text};
 
     ghost Value = { EntryValue };
 
     ghost view = { λ e. record {
       client = e.client.now;
       seconds = e.seconds;
-      line = e.line.front.now ++ e.line.version.now;
+      line = shown_text e.line;
       status = e.status;
       sent = e.sent;
       referrer = e.referrer.now;
@@ -60,7 +60,10 @@ pub fn put_line(out: &mut Vec<u8>, entry: &Entry<'_>) -> Result<(), AllocError>
             Piece::Plain(b" - - ["),
             Piece::Time(entry.seconds),
             Piece::Plain(b" +0000] \""),
-            Piece::Escaped(entry.line.front),
+            Piece::Escaped(entry.line.method),
+            Piece::Escaped(entry.line.gap),
+            Piece::Escaped(entry.line.target),
+            Piece::Escaped(entry.line.gap),
             Piece::Escaped(entry.line.version),
             Piece::Plain(b"\" "),
             Piece::Number(u64::from(entry.status)),

@@ -1,5 +1,5 @@
 //! Laws of the lines of a log, each stated as the contract of a function with an empty body.
-ghost use Rattle.feed_access_log.specs.Laws.{EscapedIsVisible, EscapedReadsBack, LineSplits, QueryLeavesNoTrace};
+ghost use Rattle.feed_access_log.specs.Laws.{EscapedIsVisible, EscapedReadsBack, LineSplits};
 
 /// An escaped text has visible ASCII and spaces alone, and no quote: no control byte and no end of a line.
 pub fn escaped_is_visible()
@@ -15,9 +15,4 @@ pub fn escaped_reads_back()
 /// and the sixth the user agent.
 pub fn line_splits()
     ensures { LineSplits }
-{}
-
-/// The line without its query is the same whatever the query was: the part before it and the version after it.
-pub fn query_leaves_no_trace()
-    ensures { QueryLeavesNoTrace }
 {}

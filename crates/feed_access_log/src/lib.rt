@@ -12,5 +12,5 @@ mod time;
 
 pub use entry::{Entry, put_line};
 pub use forwarded::last_element;
-pub use laws::{escaped_is_visible, escaped_reads_back, line_splits, query_leaves_no_trace};
-pub use request_line::{RequestLine, without_query_part};
+pub use laws::{escaped_is_visible, escaped_reads_back, line_splits};
+pub use request_line::{RequestLine, first_line, without_query_part};

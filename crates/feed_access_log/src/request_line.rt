@@ -1,14 +1,16 @@
-//! The first line of a request, with its query or without it.
-ghost use Rattle.std.specs.Prelude.{◌≡◌, ◌==◌, ◌||◌, ◌++◌, not};
+//! The first line of a request, and how the log shows it.
+ghost use Rattle.std.specs.Prelude.{◌≡◌, ◌==◌, ◌||◌, ◌++◌, ◌∷◌, not};
 ghost use Rattle.std.specs.List.{position};
-ghost use Rattle.feed_access_log.specs.Queries.{first_line, from_place, is_line_end, is_version, to_place, version_in};
-ghost use Rattle.feed_access_log.specs.Queries.{shown_line, without_query, page_of};
+ghost use Rattle.feed_access_log.specs.Queries.{first_line, from_place, is_line_end, to_place, page_of, shown_text};
 
-/// The first line of a request as it is logged: all of it, or the part before its query and the version after it.
+/// The first line of a request as it is logged: three parts with a gap between each and the next.
 #[derive(Clone, Copy)]
 pub struct RequestLine<'a> {
-    pub front: &'a [u8],
+    pub method: &'a [u8],
+    pub target: &'a [u8],
     pub version: &'a [u8],
+    /// A space, or nothing if the line is the first part alone.
+    pub gap: &'static [u8],
 }
 
 fn is_line_end(byte: u8) -> bool
@@ -50,65 +52,35 @@ fn from_line(bytes: &[u8]) -> &[u8]
     }
 }
 
-// Returns the first line that is not empty.
-fn first_line(bytes: &[u8]) -> &[u8]
+/// Returns the first line that is not empty.
+pub fn first_line(bytes: &[u8]) -> &[u8]
     ensures { result.now ≡ first_line bytes.now }
 {
     before_line_end(from_line(bytes))
 }
 
-fn is_version(text: &[u8]) -> bool
-    ensures { result ≡ is_version text.now }
-{
-    text == b" HTTP/1.1".as_slice() || text == b" HTTP/1.0".as_slice()
-}
-
-// Returns the version at the end of a line, with the space before it, or nothing.
-fn version_in(line: &[u8]) -> &[u8]
-    ensures { result.now ≡ version_in line.now }
-{
-    let last = &line[line.len().saturating_sub(9)..];
-    if is_version(last) { last } else { b"" }
-}
-
-fn whole_line(line: &[u8]) -> RequestLine<'_>
-    ensures { result.front.now ++ result.version.now ≡ line.now }
-{
-    RequestLine {
-        front: line,
-        version: b"",
-    }
-}
-
-// Returns the place of the query with its `?`.
-fn query_in(line: &[u8]) -> Option<usize>
-    ensures { result ≡ position (λ b. b == 63) line.now }
-{
-    line.iter().position(|byte| *byte == 63)
-}
-
-fn without_query(line: &[u8]) -> RequestLine<'_>
-    ensures { result.front.now ++ result.version.now ≡ without_query line.now }
-{
-    match query_in(line) {
-        Some(place) => RequestLine {
-            front: &line[..place],
-            version: version_in(&line[place..]),
-        },
-        None => whole_line(line),
-    }
-}
-
 impl<'a> RequestLine<'a> {
-    /// Returns the first line of a request that is not empty, as the log shows it.
-    pub fn new(request: &'a [u8], has_query: bool) -> RequestLine<'a>
-        ensures { result.front.now ++ result.version.now ≡ shown_line has_query request.now }
+    /// Returns a line of one part.
+    pub fn whole(line: &'a [u8]) -> RequestLine<'a>
+        ensures { shown_text result ≡ line.now }
     {
-        let line = first_line(request);
-        if has_query {
-            whole_line(line)
-        } else {
-            without_query(line)
+        RequestLine {
+            method: line,
+            target: b"",
+            version: b"",
+            gap: b"",
+        }
+    }
+
+    /// Returns the line of a method, a target and a version.
+    pub fn of_parts(method: &'a [u8], target: &'a [u8], version: &'a [u8]) -> RequestLine<'a>
+        ensures { shown_text result ≡ method.now ++ 32 ∷ (target.now ++ 32 ∷ version.now) }
+    {
+        RequestLine {
+            method,
+            target,
+            version,
+            gap: b" ",
         }
     }
 }

@@ -8,7 +8,7 @@ use Rattle.feed_http_heads.specs.Fields.{values_named, only}
 use Rattle.feed_resolver_request.specs.FoundRequests.{BeginsWith, HasNoHead}
 use Rattle.feed_access_log.specs.Forwarded.{last_of, last_element}
 use Rattle.feed_access_log.specs.Lines.{EntryValue, line_text}
-use Rattle.feed_access_log.specs.Queries.{shown_line, page_of}
+use Rattle.feed_access_log.specs.Queries.{page_of}
 use Rattle.feed_metrics.specs.Counts.{Added, HasCounted, place_of, class_of, request_place}
 use Rattle.feed_metrics.specs.Histograms.{HasObserved}
 use Rattle.feed_metrics.specs.Texts.{MetricsValue}
@@ -18,6 +18,7 @@ use Rattle.feed_metrics.specs.declared.request_kind.Target.TheVariants as target
 use Rattle.feed_monitoring.specs.declared.log_line.Exchange.{Exchange}
 use Rattle.feed_monitoring.specs.declared.log_line.LogPolicy.{LogPolicy}
 use Rattle.feed_monitoring.specs.Reports.{report_of}
+use Rattle.feed_monitoring.specs.ShownLines.{shown_line}
 use Rattle.feed_monitoring.specs.Targets.{target_of}
 
 -- ---- counters

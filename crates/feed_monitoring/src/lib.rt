@@ -5,14 +5,18 @@
 mod client;
 mod exchange;
 mod last_value;
+mod laws;
 mod log_line;
 mod report;
 mod report_reply;
 mod report_text;
+mod route;
+mod shown_line;
 mod starting;
 mod target;
 
 pub use exchange::{put_exchange, record_exchange};
+pub use laws::lines_are_plain;
 pub use log_line::{Exchange, LogPolicy};
 pub use report::{Report, asks_for_report, gets_report};
 pub use report_reply::respond_about_node;

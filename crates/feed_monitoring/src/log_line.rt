@@ -6,7 +6,8 @@ ghost use Rattle.feed_access_log.specs.Lines.{line_text};
 ghost use Rattle.feed_monitoring.specs.Exchanges.{sole_or_empty, shown_referrer, entry_of};
 
 use crate::client::client_of;
-use feed_access_log::{Entry, RequestLine, put_line, without_query_part};
+use crate::shown_line::shown_line;
+use feed_access_log::{Entry, put_line, without_query_part};
 use feed_http_heads::Fields;
 use std::alloc::AllocError;
 use std::marker::Model;
@@ -74,7 +75,7 @@ pub(crate) fn put_entry(
     let entry = Entry {
         client: client_of(policy.is_proxy, fields, exchange.peer),
         seconds: exchange.seconds,
-        line: RequestLine::new(exchange.request, policy.has_queries),
+        line: shown_line(policy.has_queries, exchange.request),
         status: exchange.status,
         sent: exchange.body_sent,
         referrer: shown_referrer(policy.has_queries, sole_or_empty(fields, b"referer")),

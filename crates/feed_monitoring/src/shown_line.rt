@@ -1,0 +1,84 @@
+//! The first line of a request, as the log of a node shows it: whole, or without what a reader asks.
+ghost use Rattle.std.specs.Prelude.{◌≡◌};
+ghost use Rattle.feed_access_log.specs.Queries.{shown_text};
+ghost use Rattle.feed_monitoring.specs.ShownLines.{behind_method, is_known_method, is_version, line_of_parts};
+ghost use Rattle.feed_monitoring.specs.ShownLines.{plain_line, shown_line, shown_method, shown_target};
+
+use crate::route::is_route;
+use feed_access_log::{RequestLine, first_line};
+use feed_http_heads::origin_form;
+use feed_range::split_once;
+use feed_resolver_request::{is_unsupported_method, path_in};
+
+fn is_known_method(method: &[u8]) -> bool
+    ensures { result ≡ is_known_method method.now }
+{
+    method == b"GET".as_slice() || method == b"HEAD".as_slice() || is_unsupported_method(method)
+}
+
+// Returns the method, or a dash in place of one that RFC 9110 does not name: the end of a form that was sent before may
+// be part of it.
+fn shown_method(method: &[u8]) -> &[u8]
+    ensures { result.now ≡ shown_method method.now }
+{
+    if is_known_method(method) {
+        method
+    } else {
+        b"-"
+    }
+}
+
+// Returns the path of a target, or a dash if it is not one of the node's.
+fn shown_target(target: &[u8]) -> &[u8]
+    ensures { result.now ≡ shown_target target.now }
+{
+    let path = path_in(origin_form(target));
+    if is_route(path) { path } else { b"-" }
+}
+
+fn is_version(text: &[u8]) -> bool
+    ensures { result ≡ is_version text.now }
+{
+    text == b"HTTP/1.1".as_slice() || text == b"HTTP/1.0".as_slice()
+}
+
+fn line_of_parts<'a>(method: &'a [u8], target: &'a [u8], version: &'a [u8]) -> RequestLine<'a>
+    ensures { shown_text result ≡ line_of_parts method.now target.now version.now }
+{
+    if is_version(version) {
+        RequestLine::of_parts(shown_method(method), shown_target(target), version)
+    } else {
+        RequestLine::whole(b"-")
+    }
+}
+
+fn behind_method<'a>(method: &'a [u8], rest: &'a [u8]) -> RequestLine<'a>
+    ensures { shown_text result ≡ behind_method method.now rest.now }
+{
+    match split_once(rest, b' ') {
+        Some((target, version)) => line_of_parts(method, target, version),
+        None => RequestLine::whole(b"-"),
+    }
+}
+
+// Returns a line without what a reader asks, or a dash if it is not a request line.
+fn plain_line(line: &[u8]) -> RequestLine<'_>
+    ensures { shown_text result ≡ plain_line line.now }
+{
+    match split_once(line, b' ') {
+        Some((method, rest)) => behind_method(method, rest),
+        None => RequestLine::whole(b"-"),
+    }
+}
+
+/// Returns the first line of a request that is not empty, as the log shows it.
+pub(crate) fn shown_line(has_queries: bool, request: &[u8]) -> RequestLine<'_>
+    ensures { shown_text result ≡ shown_line has_queries request.now }
+{
+    let line = first_line(request);
+    if has_queries {
+        RequestLine::whole(line)
+    } else {
+        plain_line(line)
+    }
+}
