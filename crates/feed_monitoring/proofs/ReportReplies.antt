@@ -1,13 +1,13 @@
 -- The reply to a request for a report, made of its parts.
-use Rattle.std.proofs.Common.{◌≡◌, ℕ, List, length, Bool, Ok, ap, subst, ◌∙◌}
-use Rattle.std.specs.Prelude.{IfOk}
+use Rattle.std.proofs.Common.{◌≡◌, ℕ, List, length, Bool, true, false, Ok, inl, inr, refl, ap, subst, ◌∙◌}
+use Rattle.std.specs.Prelude.{◌&&◌, is_some, IfOk}
 use Rattle.std.specs.declared.result.Result.{Result}
 use Rattle.std.specs.declared.result.Result.TheVariants.{Err}
 use Rattle.httparse.specs.Grammar.{RequestHead}
 use Rattle.feed_http_heads.specs.Requests.{is_head}
 use Rattle.feed_metrics.specs.Texts.{MetricsValue}
 use Rattle.feed_metrics.specs.declared.text.Gauges.{Gauges}
-use Rattle.feed_monitoring.specs.Reports.{kind_to, body_of, is_ready, IsReportTo}
+use Rattle.feed_monitoring.specs.Reports.{AsksForNoReport, GetsNoReport, kind_to, body_of, is_ready, may_report, IsReportTo}
 use Rattle.feed_monitoring.specs.ReportTexts.{status_of, sent_body, report_text, IsReportMessage}
 use Rattle.feed_monitoring.specs.declared.report.Report.{Report}
 use Rattle.feed_monitoring.specs.declared.report_text.ReportKind.{ReportKind}
@@ -33,3 +33,13 @@ report_to metrics gauges head keeps asked reply kind alone body k a b text statu
       (subst (λ (t : List ℕ). IsReportMessage kind keeps (is_head head) t reply.bytes.items) b
       (subst (λ (o : Bool). IsReportMessage kind keeps o body reply.bytes.items) a message));
 }
+
+-- bytes that ask for no report get none
+both_false : (b : Bool) → (b && false) ≡ false
+both_false true = refl
+both_false false = refl
+
+pub gets_none : (is_local is_open : Bool) (bytes : List ℕ) → AsksForNoReport bytes → GetsNoReport is_local is_open bytes
+gets_none is_local is_open bytes (inl none) = inl none
+gets_none is_local is_open bytes (inr (head, begins, none)) =
+    inr (head, begins, ap (λ asked. may_report is_local is_open head && is_some asked) none ∙ both_false (may_report is_local is_open head))

@@ -1,6 +1,6 @@
 -- The amounts that a request and its reply add to the counters, and the line of the request in the log.
-use Rattle.std.specs.Prelude.{◌≡◌, ◌⊎◌, ◌==◌, ◌&&◌, ◌||◌, ◌/◌, not, ℕ, Bool, nat_lt, nat_le, if◌then◌else◌}
-use Rattle.std.specs.Prelude.{List, [], ◌∷◌, ◌++◌, length, codes, is_some, unwrap_or}
+use Rattle.std.specs.Prelude.{◌≡◌, ◌⊎◌, ◌==◌, ◌&&◌, ◌||◌, ◌/◌, ℕ, Bool, nat_lt, nat_le, if◌then◌else◌}
+use Rattle.std.specs.Prelude.{List, [], ◌∷◌, ◌++◌, length, codes, unwrap_or}
 use Rattle.std.specs.Char.{is_ascii_hexdigit}
 use Rattle.std.specs.List.{list_all}
 use Rattle.httparse.specs.Grammar.{Field, RequestHead}
@@ -17,7 +17,7 @@ use Rattle.feed_metrics.specs.declared.request_kind.Target.{Target}
 use Rattle.feed_metrics.specs.declared.request_kind.Target.TheVariants as target
 use Rattle.feed_monitoring.specs.declared.log_line.Exchange.{Exchange}
 use Rattle.feed_monitoring.specs.declared.log_line.LogPolicy.{LogPolicy}
-use Rattle.feed_monitoring.specs.Reports.{report_of}
+use Rattle.feed_monitoring.specs.Reports.{gets_report}
 use Rattle.feed_monitoring.specs.ShownLines.{shown_line}
 use Rattle.feed_monitoring.specs.Targets.{target_of}
 
@@ -99,9 +99,9 @@ IsLogged policy e old new =
     (HasNoHead e.request.now × (new ≡ old ++ line_text (entry_of policy e [])))
     ⊎ ((head : RequestHead) × BeginsWith e.request.now head × (new ≡ old ++ line_text (entry_of policy e head.fields)))
 
--- the log hides the request: it asks for a report
+-- the log hides the request: it gets a report
 abbrev pub is_hidden : LogPolicy → RequestHead → Bool
-is_hidden policy head = not policy.has_reports && is_some (report_of head)
+is_hidden policy head = gets_report policy.is_local policy.has_open_reports head
 
 -- the line of a request with this head: none for one that the log hides
 abbrev pub line_of : LogPolicy → Exchange → RequestHead → List ℕ

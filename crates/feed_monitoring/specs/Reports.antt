@@ -1,7 +1,8 @@
 -- The report that a request asks of a node, and the reply.
-use Rattle.std.specs.Prelude.{◌≡◌, ◌⊎◌, ◌||◌, ℕ, Bool, true, false, if◌then◌else◌, List, [], length, nat_lt, codes, Option, Some, None, is_some}
+use Rattle.std.specs.Prelude.{◌≡◌, ◌⊎◌, ◌||◌, ◌&&◌, not, ℕ, Bool, true, false, if◌then◌else◌, List, [], length, nat_lt, codes, Option, Some, None, is_some}
 use Rattle.std.specs.Str.{bytes_eq}
 use Rattle.httparse.specs.Grammar.{RequestHead}
+use Rattle.feed_http_heads.specs.Fields.{has_any, values_named}
 use Rattle.feed_http_heads.specs.Requests.{lacks_host, is_get, is_head}
 use Rattle.feed_http_heads.specs.Targets.{origin_form}
 use Rattle.feed_metrics.specs.Texts.{MetricsValue, metrics_text}
@@ -28,21 +29,35 @@ report_at path =
 abbrev pub report_of : RequestHead → Option Report
 report_of head = if lacks_host head then None else report_at (path_in (origin_form head.target))
 
--- the bytes are a request for a report
-abbrev pub AsksForReport : List ℕ → Type 0
-AsksForReport bytes = (head : RequestHead) × BeginsWith bytes head × (is_some (report_of head) ≡ true)
-
--- they are not
+-- the bytes are no request for a report
 abbrev pub AsksForNoReport : List ℕ → Type 0
 AsksForNoReport bytes = HasNoHead bytes ⊎ ((head : RequestHead) × BeginsWith bytes head × (report_of head ≡ None))
 
--- whether a client may have a report: if it is on the same machine, or reports are open to all
-abbrev pub may_report : Bool → Bool → Bool
-may_report is_local is_open = is_local || is_open
+-- a proxy passed the request on, and says so (RFC 7239, section 4; RFC 9110, section 7.6.3)
+abbrev pub is_forwarded : RequestHead → Bool
+is_forwarded head =
+    has_any (values_named (codes "x-forwarded-for") head.fields) || has_any (values_named (codes "forwarded") head.fields)
+    || has_any (values_named (codes "via") head.fields)
 
--- the client may not have a report, or the bytes do not ask for one
+-- whether the client is on the same machine: the request came from there, and no proxy says that it passed it on
+abbrev pub is_near : Bool → RequestHead → Bool
+is_near is_local head = is_local && not (is_forwarded head)
+
+-- whether a client may have a report: if it is on the same machine, or reports are open to all
+abbrev pub may_report : Bool → Bool → RequestHead → Bool
+may_report is_local is_open head = is_near is_local head || is_open
+
+-- whether a request with this head gets a report
+abbrev pub gets_report : Bool → Bool → RequestHead → Bool
+gets_report is_local is_open head = may_report is_local is_open head && is_some (report_of head)
+
+-- the bytes are a request that gets a report
+abbrev pub GetsReport : Bool → Bool → List ℕ → Type 0
+GetsReport is_local is_open bytes = (head : RequestHead) × BeginsWith bytes head × (gets_report is_local is_open head ≡ true)
+
+-- they are not
 abbrev pub GetsNoReport : Bool → Bool → List ℕ → Type 0
-GetsNoReport is_local is_open bytes = (may_report is_local is_open ≡ false) ⊎ AsksForNoReport bytes
+GetsNoReport is_local is_open bytes = HasNoHead bytes ⊎ ((head : RequestHead) × BeginsWith bytes head × (gets_report is_local is_open head ≡ false))
 
 -- what the reply says, if the method is allowed and the node has an active release, or not
 abbrev pub kind_of : Bool → Bool → Report → ReportKind

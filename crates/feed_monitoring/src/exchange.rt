@@ -9,7 +9,7 @@ ghost use Rattle.feed_monitoring.specs.Exchanges.{is_hidden, line_of, IsLogged, 
 ghost use Rattle.feed_monitoring.specs.Targets.{target_of};
 
 use crate::log_line::{Exchange, LogPolicy, put_entry};
-use crate::report::report_of;
+use crate::report::request_gets_report;
 use crate::target::target_of;
 use feed_http_heads::{FIELD_LIMIT, Fields, Request};
 use feed_metrics::{Counter, Metrics, StatusClass, Target};
@@ -63,7 +63,7 @@ fn is_hidden(policy: LogPolicy, request: &Request<'_>) -> bool
     requires { IsInBuffer request.now }
     ensures { (head : RequestHead) → HasHead request.now head → result ≡ is_hidden policy head }
 {
-    !policy.has_reports && report_of(request).is_some()
+    request_gets_report(policy.is_local, policy.has_open_reports, request)
 }
 
 fn put_shown(
@@ -104,8 +104,7 @@ fn record_request(
     put_shown(out, policy, exchange, request)
 }
 
-/// Counts a request that was replied to, and appends its line. If the policy hides requests for reports, they have no
-/// line.
+/// Counts a request that was replied to, and appends its line. A request that gets a report has no line.
 ///
 /// # Errors
 ///

@@ -19,8 +19,10 @@ pub struct LogPolicy {
     pub is_proxy: bool,
     /// Whether the log shows queries.
     pub has_queries: bool,
-    /// Whether the log shows requests for reports.
-    pub has_reports: bool,
+    /// Whether the peer is on the same machine.
+    pub is_local: bool,
+    /// Whether all clients may have reports, and not only those on the same machine.
+    pub has_open_reports: bool,
 }
 
 /// A request and its reply.

@@ -1,9 +1,9 @@
 //! The report that a request asks of a node.
-ghost use Rattle.std.specs.Prelude.{◌≡◌, MatchBool, true};
+ghost use Rattle.std.specs.Prelude.{◌≡◌, MatchBool};
 ghost use Rattle.httparse.specs.Grammar.{RequestHead};
 ghost use Rattle.feed_http_heads.specs.Requests.{IsInBuffer, HasHead};
-ghost use Rattle.feed_monitoring.specs.Reports.{may_report, report_at, report_of};
-ghost use Rattle.feed_monitoring.specs.Reports.{AsksForReport, AsksForNoReport, GetsNoReport};
+ghost use Rattle.feed_monitoring.specs.Reports.{gets_report, is_forwarded, is_near, may_report, report_at, report_of};
+ghost use Rattle.feed_monitoring.specs.Reports.{GetsReport, GetsNoReport};
 
 use feed_http_heads::{FIELD_LIMIT, Request, origin_form};
 use feed_resolver_request::{find_request, path_in};
@@ -46,28 +46,50 @@ pub(crate) fn report_of(request: &Request<'_>) -> Option<Report>
     report_at(path_in(origin_form(request.target())))
 }
 
-/// Returns whether the bytes of a request ask for a report.
-pub fn asks_for_report(bytes: &[u8]) -> bool
-    ensures { MatchBool result (AsksForReport bytes.now) (AsksForNoReport bytes.now) }
+// Returns whether a proxy passed the request on, and says so: by X-Forwarded-For, Forwarded (RFC 7239, section 4) or
+// Via (RFC 9110, section 7.6.3).
+fn is_forwarded(request: &Request<'_>) -> bool
+    requires { IsInBuffer request.now }
+    ensures { (head : RequestHead) → HasHead request.now head → result ≡ is_forwarded head }
 {
-    let mut headers = [EMPTY_HEADER_SPAN; FIELD_LIMIT];
-    match find_request(bytes, &mut headers) {
-        Some(request) => report_of(&request).is_some(),
-        None => false,
-    }
+    let fields = request.fields();
+    fields.has_field(b"x-forwarded-for")
+        || fields.has_field(b"forwarded")
+        || fields.has_field(b"via")
+}
+
+// Returns whether the client of a request from the same machine, or from another one, is on the same machine.
+fn is_near(is_local: bool, request: &Request<'_>) -> bool
+    requires { IsInBuffer request.now }
+    ensures { (head : RequestHead) → HasHead request.now head → result ≡ is_near is_local head }
+{
+    is_local && !is_forwarded(request)
 }
 
 // Returns whether a client may have reports: one on the same machine, and each one if reports are open to all.
-fn may_report(is_local: bool, is_open: bool) -> bool
-    ensures { result ≡ may_report is_local is_open }
+fn may_report(is_local: bool, is_open: bool, request: &Request<'_>) -> bool
+    requires { IsInBuffer request.now }
+    ensures { (head : RequestHead) → HasHead request.now head → result ≡ may_report is_local is_open head }
 {
-    is_local || is_open
+    is_near(is_local, request) || is_open
 }
 
-/// Returns whether a request gets a report: its client may have it, and the request asks for one.
-pub fn gets_report(is_local: bool, is_open: bool, bytes: &[u8]) -> bool
-    ensures allowed { MatchBool result (may_report is_local is_open ≡ true) (GetsNoReport is_local is_open bytes.now) }
-    ensures asked { result ≡ true → AsksForReport bytes.now }
+/// Returns whether a request gets a report: its client may have it, and the request asks for one. `is_local` is whether
+/// it came from the same machine, and `is_open` whether reports are open to all.
+pub(crate) fn request_gets_report(is_local: bool, is_open: bool, request: &Request<'_>) -> bool
+    requires { IsInBuffer request.now }
+    ensures { (head : RequestHead) → HasHead request.now head → result ≡ gets_report is_local is_open head }
 {
-    may_report(is_local, is_open) && asks_for_report(bytes)
+    may_report(is_local, is_open, request) && report_of(request).is_some()
+}
+
+/// Returns whether the bytes are a request that gets a report, as it came from the same machine or another one.
+pub fn gets_report(is_local: bool, is_open: bool, bytes: &[u8]) -> bool
+    ensures { MatchBool result (GetsReport is_local is_open bytes.now) (GetsNoReport is_local is_open bytes.now) }
+{
+    let mut headers = [EMPTY_HEADER_SPAN; FIELD_LIMIT];
+    match find_request(bytes, &mut headers) {
+        Some(request) => request_gets_report(is_local, is_open, &request),
+        None => false,
+    }
 }

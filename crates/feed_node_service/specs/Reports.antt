@@ -1,5 +1,5 @@
 -- The replies of a node about itself.
-use Rattle.std.specs.Prelude.{◌≡◌, ◌*◌, ℕ, ℤ, pos, unsigned_abs, int_lt, if◌then◌else◌, Bool, true, List, map, Option, Some, None}
+use Rattle.std.specs.Prelude.{◌≡◌, ◌*◌, ℕ, ℤ, pos, unsigned_abs, int_lt, if◌then◌else◌, Bool, List, map, Option, Some, None}
 use Rattle.feed_metrics.specs.Texts.{MetricsValue}
 use Rattle.feed_metrics.specs.declared.text.Gauges.{Gauges}
 use Rattle.feed_metrics.specs.declared.text.ReleaseTime.{ReleaseTime}
@@ -28,14 +28,14 @@ time_of time = (time.package.now, time.seconds)
 abbrev pub active_time : ActiveValue → List ℕ × ℕ
 active_time active = (active.name.stem, seconds_of active.name.day)
 
--- whether the client may have a report: if it is on the same machine, or the settings allow it to all
-abbrev pub may_report : FeedResponder → Bool → Bool
-may_report responder is_local = reports.may_report is_local responder.has_open_reports
+-- the bytes are a request that gets a report: its client is on the same machine, or the settings allow it to all
+abbrev pub HasReport : FeedResponder → Bool → List ℕ → Type 0
+HasReport responder is_local bytes = reports.GetsReport is_local responder.has_open_reports bytes
 
--- the bytes are a request for a report that the client may have, and this is the reply to it: by some counters, and by
--- gauges that have the packages and the days of the releases that a feed with this history reports
+-- they are such a request, and this is the reply to it: by some counters, and by gauges that have the packages and the days
+-- of the releases that a feed with this history reports
 pub record IsReportFor (responder : FeedResponder) (is_local : Bool) (h : History) (bytes : List ℕ) (keeps : Bool) (reply : ReportReply) : Type 0 where
-  pub allowed : may_report responder is_local ≡ true
+  pub allowed : HasReport responder is_local bytes
   pub metrics : MetricsValue
   pub gauges : Gauges
   pub actives : List ActiveValue
@@ -43,11 +43,11 @@ pub record IsReportFor (responder : FeedResponder) (is_local : Bool) (h : Histor
   pub releases : map time_of gauges.releases.now ≡ map active_time actives
   pub is : IsReportAnswer metrics gauges bytes keeps reply
 
--- the client may not have a report, or the bytes do not ask for one
+-- they are not such a request
 abbrev pub HasNoReport : FeedResponder → Bool → List ℕ → Type 0
 HasNoReport responder is_local bytes = reports.GetsNoReport is_local responder.has_open_reports bytes
 
--- the reply, exactly if the client may have it and the bytes are such a request
+-- the reply, exactly if the bytes are such a request
 abbrev pub IsReportIn : FeedResponder → Bool → History → List ℕ → Bool → Option ReportReply → Type 0
 IsReportIn responder is_local h bytes keeps None = HasNoReport responder is_local bytes
 IsReportIn responder is_local h bytes keeps (Some reply) = IsReportFor responder is_local h bytes keeps reply

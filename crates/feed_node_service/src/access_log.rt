@@ -56,7 +56,8 @@ impl<'o, O: Write> AccessLog<'o, O> {
         LogPolicy {
             is_proxy: is_near && self.settings.is_forwarded,
             has_queries: self.settings.has_queries,
-            has_reports: !is_near && !self.settings.has_open_reports,
+            is_local: is_near,
+            has_open_reports: self.settings.has_open_reports,
         }
     }
 

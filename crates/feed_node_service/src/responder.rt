@@ -1,12 +1,12 @@
 //! The replies of a node to its requests.
-ghost use Rattle.std.specs.Prelude.{◌≡◌, IfOk, IfSome, MatchBool, true};
+ghost use Rattle.std.specs.Prelude.{◌≡◌, IfOk, IfSome, MatchBool};
 ghost use Rattle.feed_model.specs.History.{History};
 ghost use Rattle.feed_model.specs.Content.{IsContent};
 ghost use Rattle.feed_releases.specs.Feeds.{recorded};
 ghost use Rattle.feed_resolver.specs.NodeReplies.{SaysOfConnection};
 ghost use Rattle.feed_http_heads.specs.Options.{SaysWhetherItKeeps};
 ghost use Rattle.feed_node_machine.specs.Occasions.{terms_of};
-ghost use Rattle.feed_node_service.specs.Reports.{may_report, HasNoReport, IsReportIn};
+ghost use Rattle.feed_node_service.specs.Reports.{HasReport, HasNoReport, IsReportIn};
 ghost use Rattle.feed_node_service.specs.Responders.{IsReplyBy, IsTurnReply, response_in};
 
 use crate::node_state::NodeState;
@@ -69,12 +69,13 @@ impl<'a> FeedResponder<'a> {
 
     // Returns whether the request asks for a reply about the node and the client may have it.
     fn is_report(&self, is_local: bool, bytes: &[u8]) -> bool
-        ensures { MatchBool result (may_report self.now is_local ≡ true) (HasNoReport self.now is_local bytes.now) }
+        ensures { MatchBool result (HasReport self.now is_local bytes.now) (HasNoReport self.now is_local bytes.now) }
     {
         gets_report(is_local, self.has_open_reports, bytes)
     }
 
     // Returns the reply about the node, if the request asks for one and the client may have it.
+    #[tactic(auto, using(crate::proofs::Reported::report_in))]
     fn report<K: Keep + Drop>(
         &self,
         alloc: Global,

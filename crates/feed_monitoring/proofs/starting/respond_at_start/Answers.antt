@@ -1,17 +1,18 @@
-use Rattle.std.proofs.Common.{◌≡◌, ℕ, Bool, true, List, [], Option, Some, None, inr, refl}
+use Rattle.std.proofs.Common.{◌≡◌, ℕ, Bool, List, [], Option, Some, None, refl}
 use Rattle.feed_metrics.specs.Texts.{MetricsValue}
 use Rattle.feed_metrics.specs.declared.text.Gauges.{Gauges}
-use Rattle.feed_monitoring.specs.Reports.{may_report, IsReportReply}
+use Rattle.feed_monitoring.specs.Reports.{GetsReport, IsReportReply}
 use Rattle.feed_monitoring.specs.Starting.{IsStartingReply}
 use Rattle.feed_monitoring.specs.declared.report_text.ReportReply.{ReportReply}
+use Rattle.feed_monitoring.proofs.ReportReplies.{gets_none}
 use Rattle.feed_monitoring.proofs.starting.respond_at_start.Goals as goal
 
 starting : (is_local is_open : Bool) (metrics : MetricsValue) (gauges : Gauges) (bytes : List ℕ) (keeps : Bool) (found : Option ReportReply)
-    → may_report is_local is_open ≡ true → gauges.releases.now ≡ [] → IsReportReply metrics gauges bytes keeps found
+    → GetsReport is_local is_open bytes → gauges.releases.now ≡ [] → IsReportReply metrics gauges bytes keeps found
     → IsStartingReply is_local is_open metrics bytes keeps found
-starting is_local is_open metrics gauges bytes keeps None allowed none is = inr is
+starting is_local is_open metrics gauges bytes keeps None allowed none is = gets_none is_local is_open bytes is
 starting is_local is_open metrics gauges bytes keeps (Some reply) allowed none is = record { allowed = allowed; gauges = gauges; none = none; is = is }
 
 pub returns-clause-value : goal.returns-clause-value
 returns-clause-value c =
-    starting c.args.is_local c.args.is_open c.args.metrics.now _ c.args.bytes.now c.args.keeps c.in_ok-found.found c.if-not-gets_report.ensures.allowed refl c.in_ok-found.ensures.value
+    starting c.args.is_local c.args.is_open c.args.metrics.now _ c.args.bytes.now c.args.keeps c.in_ok-found.found c.if-not-gets_report.ensures refl c.in_ok-found.ensures.value
