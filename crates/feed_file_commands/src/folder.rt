@@ -9,8 +9,9 @@ use std::fs::File;
 use std::io::{ErrorKind, Read, Seek, SeekFrom};
 use std::{fs, io, str};
 
-/// The plain files of a folder whose names are release names. Symbolic links are followed. A call of `size` opens the
-/// file, and `read` reads that file, even if another one has taken its name since.
+/// The plain files of a folder whose names are release names. Symbolic links are followed. A link that leads to no file
+/// or back to itself is not on the shelf. A call of `size` opens the file, and `read` reads that file, even if another
+/// one has taken its name since.
 #[derive(Drop)]
 pub struct Folder<'a> {
     rt: &'a HostRuntime,
@@ -120,7 +121,9 @@ impl Shelf for Folder<'_> {
         match self.open(name) {
             Ok(size) => Ok(size),
             Err(error) => match error.kind() {
-                ErrorKind::NotFound | ErrorKind::NotADirectory => Ok(None),
+                ErrorKind::NotFound | ErrorKind::NotADirectory | ErrorKind::FilesystemLoop => {
+                    Ok(None)
+                }
                 _ => Err(self.fault_of(&error)),
             },
         }
