@@ -6,8 +6,8 @@ starting_node.py DB [OPTION ..]
 Runs `kbfeed node DB` on a free port, with its log in the file access. Sends a request on each of several connections
 before the node has checked its lists, and prints the status, `Retry-After` and `Connection` of each reply, and the
 length of its body, if that is short. Then asks for `/health/ready` until that is 200, and prints the statuses that it
-had, each once. At last it prints how the same targets are answered then, and which requests of readers the metrics have
-with a status of 5xx."""
+had, each once. At last it prints how the same targets are answered then, which requests of readers the metrics have
+with a status of 5xx, and which fields of a 404 the first 503 lacked or had with another value, but for its length."""
 import re
 import socket
 import subprocess
@@ -58,14 +58,22 @@ def asked(port, method, target):
 
 def print_replies(port):
     """Sends all requests, then receives the replies and prints them."""
+    first = None
     connections = [connected(port) for _ in REQUESTS]
     for conn, request in zip(connections, REQUESTS):
         send(conn, *request)
     for conn, (method, target) in zip(connections, REQUESTS):
         status, fields, body = received(conn)
+        first = first or fields
         said = [f"{name} {fields[name]}" for name in ("Retry-After", "Connection") if name in fields]
         print(method, target, status, *said, body.strip() if len(body) < 100 else "..", sep=" | ")
         conn.close()
+    return first
+
+
+def print_lacking(port, first):
+    usual = asked(port, "GET", "/none")[1]
+    print("lacking:", *[name for name in usual if first.get(name) != usual[name] and name != "Content-Length"])
 
 
 def print_states(port):
@@ -95,8 +103,9 @@ def main():
     with open("access", "wb") as access:
         node = subprocess.Popen(["kbfeed", "node", sys.argv[1], f"127.0.0.1:{port}", *sys.argv[2:]], stdout=access)
     try:
-        print_replies(port)
+        first = print_replies(port)
         print_states(port)
+        print_lacking(port, first)
         wait_for_log("access")
     finally:
         node.kill()

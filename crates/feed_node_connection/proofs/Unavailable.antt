@@ -18,7 +18,8 @@ is_field name value some token passes = record { name = (some, AllPass-from_list
 abbrev fields : List Field
 fields =
     field (codes "Content-Type") (codes "text/plain; charset=utf-8") ∷ field (codes "Content-Length") (codes "12") ∷ field (codes "Retry-After") (codes "1") ∷
-    field (codes "Connection") (codes "close") ∷ []
+    field (codes "Cache-Control") (codes "no-cache") ∷ field (codes "Vary") (codes "Accept") ∷ field (codes "X-Content-Type-Options") (codes "nosniff") ∷
+    field (codes "Referrer-Policy") (codes "no-referrer") ∷ field (codes "Access-Control-Allow-Origin") (codes "*") ∷ field (codes "Connection") (codes "close") ∷ []
 
 abbrev head : ResponseHead
 head = record { blank = []; minor = 1; digits = codes "503"; reason = Some (codes "Service Unavailable"); line_end = crlf; fields = fields; last = crlf }
@@ -33,7 +34,25 @@ valid = record {
     is_field (codes "Content-Type") (codes "text/plain; charset=utf-8") (omega arith) refl refl,
     (
       is_field (codes "Content-Length") (codes "12") (omega arith) refl refl,
-      (is_field (codes "Retry-After") (codes "1") (omega arith) refl refl, (is_field (codes "Connection") (codes "close") (omega arith) refl refl, tt)),
+      (
+        is_field (codes "Retry-After") (codes "1") (omega arith) refl refl,
+        (
+          is_field (codes "Cache-Control") (codes "no-cache") (omega arith) refl refl,
+          (
+            is_field (codes "Vary") (codes "Accept") (omega arith) refl refl,
+            (
+              is_field (codes "X-Content-Type-Options") (codes "nosniff") (omega arith) refl refl,
+              (
+                is_field (codes "Referrer-Policy") (codes "no-referrer") (omega arith) refl refl,
+                (
+                  is_field (codes "Access-Control-Allow-Origin") (codes "*") (omega arith) refl refl,
+                  (is_field (codes "Connection") (codes "close") (omega arith) refl refl, tt),
+                ),
+              ),
+            ),
+          ),
+        ),
+      ),
     ),
   );
 }

@@ -16,7 +16,9 @@ use Rattle.feed_node_connection.specs.declared.head_state.AfterReply.TheVariants
 abbrev pub unavailable : List ℕ
 unavailable =
     codes "HTTP/1.1 503 Service Unavailable\r\nContent-Type: text/plain; charset=utf-8\r\n"
-    ++ codes "Content-Length: 12\r\nRetry-After: 1\r\nConnection: close\r\n\r\nUnavailable\n"
+    ++ codes "Content-Length: 12\r\nRetry-After: 1\r\nCache-Control: no-cache\r\nVary: Accept\r\n"
+    ++ codes "X-Content-Type-Options: nosniff\r\nReferrer-Policy: no-referrer\r\nAccess-Control-Allow-Origin: *\r\n"
+    ++ codes "Connection: close\r\n\r\nUnavailable\n"
 
 -- the length of the body that a responder wants after a head; and a relation between the bytes of a head, a body,
 -- whether the connection persists after the request, and its reply, which is `None` if the responder makes none

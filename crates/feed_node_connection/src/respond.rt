@@ -9,7 +9,9 @@ use std::alloc::{AllocError, Global};
 /// The reply if the responder makes none (RFC 9110, section 15.6.4).
 pub const UNAVAILABLE: &[u8] =
     b"HTTP/1.1 503 Service Unavailable\r\nContent-Type: text/plain; charset=utf-8\r\n\
-    Content-Length: 12\r\nRetry-After: 1\r\nConnection: close\r\n\r\nUnavailable\n";
+    Content-Length: 12\r\nRetry-After: 1\r\nCache-Control: no-cache\r\nVary: Accept\r\n\
+    X-Content-Type-Options: nosniff\r\nReferrer-Policy: no-referrer\r\nAccess-Control-Allow-Origin: *\r\n\
+    Connection: close\r\n\r\nUnavailable\n";
 
 /// The interim reply to a client that waits before it sends the body of a request (RFC 9110, section 15.2.1).
 pub const CONTINUE: &[u8] = b"HTTP/1.1 100 Continue\r\n\r\n";

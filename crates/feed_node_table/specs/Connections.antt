@@ -43,7 +43,7 @@ AreWithin replies longest =
 
 -- the bytes of the reply of a connection to which the responder makes none, which is longer than the interim one
 abbrev pub short_len : ℕ
-short_len = 144
+short_len = 278
 
 -- a connection gets this part of a share: without room, one that still has to send a part of its reply makes no other
 abbrev pub IsGiven : Bool → Connection → Share → Share → Type 0
