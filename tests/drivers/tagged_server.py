@@ -5,7 +5,8 @@ tagged_server.py
 
 Prints the port that it listens at, and then a line for each request: the number of its connection, the method, the
 target, and the fields X-Forwarded-For and If-None-Match, if it has them. Every reply is 200 and the same page, with
-`Cache-Control: no-cache` and `Vary: Accept`, or 304 if the request has its ETag. It ends after ten minutes."""
+`Cache-Control: no-cache` and `Vary: Accept`, or 304 if the request has its ETag, or 400 if it is one of HTTP/1.1
+without a host. It ends after ten minutes."""
 import http.server
 import os
 import threading
@@ -23,6 +24,8 @@ class Handler(http.server.BaseHTTPRequestHandler):
         self.number = len(self.connections)
 
     def reply(self):
+        if self.request_version == "HTTP/1.1" and not self.headers["Host"]:
+            return self.send_error(400)
         self.rfile.read(int(self.headers.get("Content-Length", 0)))
         names = ["X-Forwarded-For", "If-None-Match"]
         fields = [f"{name}: {self.headers[name]}" for name in names if self.headers[name]]
