@@ -24,7 +24,7 @@ _kbfeed() {
 
   case $command in
     '') options='-h --help -V --version -v --verbose' ;;
-    check) options='-h --help -v --verbose --name --strict --summary --explain --json' ;;
+    check) options='-h --help -v --verbose --name --strict --summary --explain --json --all' ;;
     diff) options='-h --help -v --verbose --db --summary --json --max-removed --max-changed' ;;
     openurl) options='-h --help -v --verbose --json' ;;
     serve) options='-h --help -v --verbose --count --timeout' ;;

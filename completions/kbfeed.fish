@@ -61,6 +61,7 @@ complete -c kbfeed -n $check -l strict -d 'Exits with 1 if a record is skipped'
 complete -c kbfeed -n $check -l summary -d 'Prints one line for each file'
 complete -c kbfeed -n $check -l explain -d 'Prints the line, the title and the reason of each skipped record'
 complete -c kbfeed -n $check -l json -d 'Prints a JSON object for each file'
+complete -c kbfeed -n $check -l all -d 'Lists all skipped records in JSON, and not only the first 10,000'
 
 set -l diff '__kbfeed_at "diff/*"'
 complete -c kbfeed -n $diff -r -F -l db -d 'The database of a node, whose active release is the old list'

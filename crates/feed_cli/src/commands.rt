@@ -127,7 +127,7 @@ const CLIENT_TIMEOUT: Argument = Argument {
     help: "How long a client may take, 1 to 3600",
 };
 
-static CHECK: [Argument; 6] = [
+static CHECK: [Argument; 7] = [
     Argument {
         id: "FILE",
         kind: Kind::Positionals,
@@ -164,6 +164,11 @@ static CHECK: [Argument; 6] = [
         id: "json",
         kind: Kind::Flag { excludes: &[] },
         help: "Prints a JSON object for each file",
+    },
+    Argument {
+        id: "all",
+        kind: Kind::Flag { excludes: &[] },
+        help: "Lists all skipped records in JSON, and not only the first 10,000",
     },
 ];
 

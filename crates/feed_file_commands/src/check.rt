@@ -19,6 +19,8 @@ pub struct Check<'a> {
     pub form: Form,
     /// Whether a file with a record that is skipped is refused.
     pub is_strict: bool,
+    /// Whether JSON lists all records that are skipped.
+    pub lists_all: bool,
 }
 
 /// Checks the files at these paths, or standard input for the path `-`, one after another, and prints what each holds.
@@ -84,6 +86,7 @@ fn check_file<R: Read + Drop, O: Write, F: Write + Drop>(
         name: &name,
         form: check.form,
         text: &[],
+        lists_all: check.lists_all,
     };
     if let Err(error) = report.print_release(out) {
         return faults.check_print(Err(error), FAILED);

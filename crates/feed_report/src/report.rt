@@ -37,7 +37,8 @@ pub enum Form {
     /// As `Lines`, and below each record its line in the file, its title and the fields that are the reason, and in the
     /// end the warnings; below a bad file each required label that it lacks.
     Explained,
-    /// One JSON object on a line for each list, with the contents of `Explained`.
+    /// One JSON object on a line for each list, with the contents of `Explained`. Of the records that are skipped it
+    /// lists the first 10,000 and counts the others, unless the report lists all.
     Json,
 }
 
@@ -48,6 +49,9 @@ impl Form {
     }
 }
 
+// How many skipped records JSON lists.
+const LISTED: usize = 10_000;
+
 /// The list that a report is on: its name, the form, and its text if the form quotes it.
 #[derive(Clone, Copy)]
 pub struct Report<'a> {
@@ -55,6 +59,8 @@ pub struct Report<'a> {
     pub name: &'a ReleaseName,
     pub form: Form,
     pub text: &'a [u8],
+    /// Whether JSON lists all skipped records, and not only the first 10,000.
+    pub lists_all: bool,
 }
 
 impl Report<'_> {
@@ -113,10 +119,23 @@ impl Report<'_> {
         self.print_json_name(out)?;
         let rows = Counts::of(count).rows;
         write!(out, "\"rows\":{rows},\"aside\":[")?;
-        self.print_skipped(out, count.aside())?;
+        let listed = self.listed(count.aside());
+        self.print_skipped(out, listed)?;
         out.write_all(b"]")?;
+        let more = count.aside().len().saturating_sub(listed.len());
+        if more > 0 {
+            write!(out, ",\"more\":{more}")?;
+        }
         Warnings::of(self.text, count.rows()).print_json(out)?;
         out.write_all(b"}\n")
+    }
+
+    // Returns the skipped records that JSON lists.
+    fn listed<'s>(&self, skipped: &'s [Aside]) -> &'s [Aside] {
+        if self.lists_all {
+            return skipped;
+        }
+        &skipped[..skipped.len().min(LISTED)]
     }
 
     // Prints the beginning of an object. A release's name has no character that JSON escapes.

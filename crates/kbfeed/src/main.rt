@@ -79,6 +79,7 @@ fn run_request<O: Write, F: Write + Drop>(
                 name,
                 form: options.form,
                 is_strict: options.is_strict,
+                lists_all: options.lists_all,
             };
             return check_files(rt, &files, check, out, faults);
         }
