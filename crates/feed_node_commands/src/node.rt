@@ -2,7 +2,7 @@
 use crate::command::Upstream;
 use crate::site::read_site;
 use crate::token::read_token;
-use feed_command::{DONE, FAILED, Faults, MISUSED, REFUSED, open_file};
+use feed_command::{DONE, FAILED, Faults, MISUSED, REFUSED, open_plain_file};
 use feed_database_commands::{Database, begin_feed, close_keeper, open_feed, report_keeper};
 use feed_file_commands::note_port;
 use feed_http::is_host;
@@ -108,7 +108,7 @@ fn token_of<F: Write + Drop>(
     path: &str,
     faults: &mut Faults<F>,
 ) -> Result<Vec<u8>, u8> {
-    let mut file = open_file(rt, path, faults)?;
+    let mut file = open_plain_file(rt, path, faults)?;
     match read_token(rt.alloc(), &mut file) {
         Ok(Some(token)) => Ok(token),
         Ok(None) => Err(faults.report_with(

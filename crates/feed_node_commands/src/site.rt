@@ -1,5 +1,5 @@
 //! The site file of a library.
-use feed_command::{FAILED, Faults, REFUSED, open_file, read_up_to};
+use feed_command::{FAILED, Faults, REFUSED, open_plain_file, read_up_to};
 use feed_resolver_tag::Site;
 use feed_site::{SITE_LIMIT, SiteFault};
 use std::fmt;
@@ -30,7 +30,7 @@ fn read_bytes<F: Write + Drop>(
     let Some(path) = path else {
         return Ok(Vec::new(rt.alloc()));
     };
-    let mut file = open_file(rt, path, faults)?;
+    let mut file = open_plain_file(rt, path, faults)?;
     match read_up_to(rt.alloc(), &mut file, SITE_LIMIT) {
         Ok(bytes) => Ok(bytes),
         Err(error) => Err(faults.report_read(path, error)),
