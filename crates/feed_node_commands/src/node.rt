@@ -1,6 +1,6 @@
 //! `kbfeed node`: a link resolver that answers readers over HTTP from the database of a node, and fetches releases.
 use crate::command::Upstream;
-use crate::site::read_site;
+use crate::site::{note_open_prefix, read_site};
 use crate::token::read_token;
 use feed_command::{DONE, FAILED, Faults, MISUSED, REFUSED, open_plain_file};
 use feed_database_commands::{Database, begin_feed, close_keeper, open_feed, report_keeper};
@@ -45,7 +45,8 @@ pub struct Hosting<'a> {
 /// database, of the address (`Bind`), of a list (`Damaged`), of the sockets (`Poll`), of the print, and of a database
 /// whose file is gone (`Device`). A host that has no address yet is reported too (`Resolve`), and the node runs. If
 /// there are too few descriptors for all clients, that is reported (`Descriptors`), and the node answers fewer at a
-/// time, or does not start with fewer than 16. A check answers no reader, and prints `ok` if all is well.
+/// time, or does not start with fewer than 16. A check answers no reader, and prints `ok` if all is well. It also
+/// reports a prefix of a proxy behind which a list can add parameters (`Prefix`), which is no fault.
 pub fn run_node<D: Database, O: Write, F: Write + Drop>(
     rt: &HostRuntime,
     database: &D,
@@ -137,6 +138,7 @@ fn run_server<D: Database, O: Write, F: Write + Drop>(
         Err(status) => return status,
     };
     if hosting.is_check {
+        note_open_prefix(&site, faults);
         return check_server(rt, database, hosting, out, faults);
     }
     let Ok(state) = NodeState::new(rt.alloc()) else {

@@ -1,5 +1,5 @@
 //! The site file of a library.
-use feed_command::{FAILED, Faults, REFUSED, open_plain_file, read_up_to};
+use feed_command::{DONE, FAILED, Faults, REFUSED, open_plain_file, read_up_to};
 use feed_resolver_tag::Site;
 use feed_site::{SITE_LIMIT, SiteFault};
 use std::fmt;
@@ -35,6 +35,29 @@ fn read_bytes<F: Write + Drop>(
         Ok(bytes) => Ok(bytes),
         Err(error) => Err(faults.report_read(path, error)),
     }
+}
+
+// The end of a prefix that a proxy takes the address behind as all of the rest: EZproxy's.
+const WHOLE_REST: &str = "login?url=";
+
+// The end of a prefix behind which the address is percent-encoded.
+const ENCODING_END: &str = "qurl=";
+
+/// Reports a prefix of the proxy behind which a list can add parameters: one that ends in `=` and gets the address as
+/// it is. The node runs with it.
+pub fn note_open_prefix<F: Write + Drop>(site: &Site, faults: &mut Faults<F>) {
+    let Some(prefix) = site.library().prefix() else {
+        return;
+    };
+    if !prefix.ends_with("=") || prefix.ends_with(WHOLE_REST) || prefix.ends_with(ENCODING_END) {
+        return;
+    }
+    let _ = faults.report_with(
+        "Prefix",
+        prefix,
+        "addresses are not encoded behind it, so a list can add parameters: end it in qurl= if the proxy takes that",
+        DONE,
+    );
 }
 
 // Reports what is wrong with a site file, and returns the exit status.
