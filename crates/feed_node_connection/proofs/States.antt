@@ -759,6 +759,7 @@ state_right connection history state = record {
   first = first_in connection.phase connection history state.0;
   front = front_in connection.phase connection history state.0;
   whole = whole_in connection.phase connection history state.0;
+  frees = λ not_sending opened. connection.freed (λ is. not_sending (ap wants_in is)) (λ is. opened (ap wants_in is));
   persists = persists_in connection.phase connection history state.0;
   ends = ends_in connection.phase connection history state.0;
   waits = waits_in connection.phase connection history state.0;

@@ -1,5 +1,5 @@
 -- The state of a connection, as determined by its events.
-use Rattle.std.specs.Prelude.{◌≡◌, ◌==◌, ◌&&◌, ◌||◌, nat_lt, if◌then◌else◌, ◌≤◌, ◌<◌, ◌+◌, ◌-◌, ◌⊎◌, ℕ, Bool, true, false, List, [], ◌∷◌, ◌++◌, length, take, drop, Some}
+use Rattle.std.specs.Prelude.{◌≡◌, ◌≢◌, ◌==◌, ◌&&◌, ◌||◌, nat_lt, if◌then◌else◌, ◌≤◌, ◌<◌, ◌+◌, ◌-◌, ◌⊎◌, ℕ, Bool, true, false, List, [], ◌∷◌, ◌++◌, length, take, drop, Some, vec_capacity}
 use Rattle.httparse.specs.Grammar.{RequestHead, print_request}
 use Rattle.feed_http_heads.specs.Limits.{head_limit, field_limit}
 use Rattle.feed_http_heads.specs.Options.{SaysWhetherItKeeps}
@@ -7,6 +7,8 @@ use Rattle.feed_http_heads.specs.RequestHeads.{BeginsWithHead, IsUnfinished}
 use Rattle.feed_node_connection.specs.declared.connection.Connection.{Connection}
 use Rattle.feed_node_connection.specs.declared.connection.Phase.{Phase}
 use Rattle.feed_node_connection.specs.declared.connection.Phase.TheVariants.{Idle, Receiving, Parsing, Sending, Answered, Lingering, Complete, Aborted}
+use Rattle.feed_node_connection.specs.declared.connection.Shortage.{Shortage}
+use Rattle.feed_node_connection.specs.declared.connection.Shortage.TheVariants.{Places, Memory}
 use Rattle.feed_node_connection.specs.declared.connection.TimeLimits.{TimeLimits}
 use Rattle.feed_node_connection.specs.declared.connection.Wants.{Wants}
 use Rattle.feed_node_connection.specs.declared.connection.Wants.TheVariants as wants
@@ -300,7 +302,11 @@ is_reply_sent_in Lingering = true
 is_reply_sent_in Complete = true
 is_reply_sent_in phase = false
 
--- the class of a connection among those that are closed to make room: first those that have all their replies, then those
+-- the bytes that are allocated for the reply, from when it is made until it is freed
+abbrev pub allocated_bytes : Connection → ℕ
+allocated_bytes connection = vec_capacity connection.reply
+
+-- the class of a connection among those that are closed for a place: first those that have all their replies, then those
 -- that read theirs
 abbrev pub closing_class : Phase → ℕ
 closing_class Receiving = 0
@@ -308,20 +314,27 @@ closing_class Parsing = 0
 closing_class Sending = 1
 closing_class phase = 2
 
--- the first is closed before the second
-abbrev pub is_closed_before : Connection → Connection → Bool
-is_closed_before first second =
-    nat_lt (closing_class second.phase) (closing_class first.phase)
-    || ((closing_class first.phase == closing_class second.phase) && nat_lt second.elapsed first.elapsed)
+-- the rank of a connection among those that may be closed: for a place its class, and for memory what its reply takes
+abbrev pub closing_rank : Shortage → Connection → ℕ
+closing_rank Places connection = closing_class connection.phase
+closing_rank Memory connection = allocated_bytes connection
+
+-- the first is closed before the second: it has a greater rank, or the same and made no progress for longer
+abbrev pub is_closed_before : Shortage → Connection → Connection → Bool
+is_closed_before shortage first second =
+    nat_lt (closing_rank shortage second) (closing_rank shortage first)
+    || ((closing_rank shortage first == closing_rank shortage second) && nat_lt second.elapsed first.elapsed)
 
 -- the properties of a connection after any history: the requests with replies are the first in the bytes received; the
--- bytes sent are the beginning of the replies; once the last reply is sent, it is freed and all are sent; another
--- request is answered unless the last one ended the connection; while the connection waits for a request, each one
--- before the bytes held was answered, and those bytes are not a whole request; and past its time it waits for nothing
+-- bytes sent are the beginning of the replies; once the last reply is sent, it is freed and all are sent; an open
+-- connection holds a reply only while it sends it, so never while the next one is made; another request is answered unless
+-- the last one ended the connection; while the connection waits for a request, each one before the bytes held was answered,
+-- and those bytes are not a whole request; and past its time it waits for nothing
 pub record IsRightAfter (connection : Connection) (history : List Event) : Type 0 where
   pub first : AreFirst history
   pub front : IsFrontSent history
   pub whole : is_reply_sent_in connection.phase ≡ true → AreSent history × (connection.reply.items ≡ [])
+  pub frees : wants_in connection.phase ≢ wants.Room → wants_in connection.phase ≢ wants.Close → allocated_bytes connection ≡ 0
   pub persists : connection.phase ≡ Answered → all_persist (requests_in history) ≡ true
   pub ends : (connection.phase ≡ Lingering) ⊎ (connection.phase ≡ Complete) → all_persist (requests_in history) ≡ false
   pub waits : connection.phase ≡ Receiving → AreSent history × IsServedUpTo history connection.received.items

@@ -1,8 +1,9 @@
 //! The state machine of one connection of a node, without its socket.
 ghost use Rattle.std.specs.Prelude.{◌≡◌, ◌≢◌, ◌&&◌, ◌==◌, ◌+◌, ◌<◌, ◌≤◌};
 ghost use Rattle.std.specs.Prelude.{not, true, false};
-ghost use Rattle.std.specs.Prelude.{List, ◌∷◌, [], length, take, drop, vec_len};
+ghost use Rattle.std.specs.Prelude.{List, ◌∷◌, [], length, take, drop, vec_len, vec_capacity};
 ghost use Rattle.feed_node_connection.specs.Events.{Event, Received, Sent, Resumed, Elapsed, sent_len};
+ghost use Rattle.feed_node_connection.specs.declared.connection.Phase.TheVariants.{Sending, Aborted};
 
 use crate::head_state::{AfterReply, FoundRequest, HeadState, after_reply, head_state};
 use crate::respond::{
@@ -42,6 +43,15 @@ pub enum Wants {
     Next,
     /// Nothing: close it.
     Close,
+}
+
+/// What a connection is closed for.
+#[derive(Clone, Copy, Debug, PartialEq, Eq)]
+pub enum Shortage {
+    /// Another connection needs its place.
+    Places,
+    /// The replies that are held take too much memory.
+    Memory,
 }
 
 /// How far a connection is.
@@ -90,6 +100,7 @@ pub struct Connection {
     ghost inside: { request_len ≤ vec_len received },
     ghost within: { sent ≤ vec_len reply },
     ghost slow: { sent_since < 16384 },
+    ghost freed: { phase ≢ Sending → phase ≢ Aborted → vec_capacity reply ≡ 0 },
 }
 
 impl Connection {
@@ -100,12 +111,14 @@ impl Connection {
     ghost use Rattle.feed_node_connection.specs.States.{is_idle_in, is_lingering_in, is_reply_sent_in, limit_in};
     ghost use Rattle.feed_node_connection.specs.States.{pending_of, phase_after, request_of, rest_of, room_of};
     ghost use Rattle.feed_node_connection.specs.States.{wants_in};
-    ghost use Rattle.feed_node_connection.specs.States.{closing_class, is_closed_before};
+    ghost use Rattle.feed_node_connection.specs.States.{allocated_bytes, closing_class, closing_rank};
+    ghost use Rattle.feed_node_connection.specs.States.{is_closed_before};
 
     /// Returns a connection with these time limits.
     pub fn new(alloc: Global, limits: TimeLimits) -> Connection
         ensures state { HasState result [] }
         ensures limits { result.limits ≡ limits }
+        ensures allocated { allocated_bytes result ≡ 0 }
     {
         Connection {
             phase: Phase::Receiving,
@@ -257,6 +270,7 @@ impl Connection {
 
     // Waits for the body of the request at the front, after the interim reply if the client expects it.
     fn await_body(&mut self, alloc: Global, expects_continue: bool)
+        requires { self.old.phase ≡ Phase.Parsing }
         ensures waits { HasBegunWait (expects_continue && not self.old.is_continued) self.old self.new }
         ensures limits { self.new.limits ≡ self.old.limits }
         ensures lingers { self.new.phase ≢ Phase.Complete }
@@ -270,6 +284,7 @@ impl Connection {
 
     // Waits for the rest of the request at the front.
     fn wait(&mut self)
+        requires { self.old.phase ≡ Phase.Parsing }
         ensures waits { HasBegunWait false self.old self.new }
         ensures limits { self.new.limits ≡ self.old.limits }
         ensures lingers { self.new.phase ≢ Phase.Complete }
@@ -318,7 +333,7 @@ impl Connection {
             persists,
         };
         match responder.respond(alloc, &request) {
-            Ok(reply) => self.begin_reply(reply, size, after_reply(persists)),
+            Ok(reply) => self.begin_reply(alloc, reply, size, after_reply(persists)),
             Err(fault) => self.refuse(alloc, size, fault),
         }
     }
@@ -329,18 +344,18 @@ impl Connection {
         ensures limits { self.new.limits ≡ self.old.limits }
     {
         match unavailable(alloc, fault) {
-            Ok(reply) => self.begin_reply(reply, size, AfterReply::Linger),
+            Ok(reply) => self.begin_reply(alloc, reply, size, AfterReply::Linger),
             Err(_) => self.phase = Phase::Aborted,
         }
     }
 
-    fn begin_reply(&mut self, reply: Reply, size: usize, after: AfterReply)
+    fn begin_reply(&mut self, alloc: Global, reply: Reply, size: usize, after: AfterReply)
         requires within { size ≤ vec_len self.old.received }
         ensures begun { HasBegunReply reply.bytes.items size after self.old self.new }
         ensures limits { self.new.limits ≡ self.old.limits }
     {
         self.summary = Some(reply.summary);
-        self.reply = reply.bytes;
+        self.reply = freed_if_empty(alloc, reply.bytes);
         self.sent = 0;
         self.sent_len = 0;
         self.request_len = size;
@@ -393,7 +408,14 @@ impl Connection {
         self.elapsed
     }
 
-    fn closing_class(&self) -> u8
+    /// Returns the bytes that are allocated for the reply, from when it is made until it is freed.
+    pub fn allocated_bytes(&self) -> usize
+        ensures { result ≡ allocated_bytes self.now }
+    {
+        self.reply.capacity()
+    }
+
+    fn closing_class(&self) -> usize
         ensures { result ≡ closing_class self.now.phase }
     {
         match self.phase {
@@ -404,15 +426,26 @@ impl Connection {
         }
     }
 
-    /// Returns whether this connection is closed before the other one to make room for a new one: a connection that has
-    /// all its replies before one that reads its reply, this before one whose request is incomplete, and of two such
-    /// the one whose timer was restarted earlier.
-    pub fn is_closed_before(&self, other: &Connection) -> bool
-        ensures { result ≡ is_closed_before self.now other.now }
+    // Returns the rank of the connection among those that may be closed. The greatest is closed first.
+    fn closing_rank(&self, shortage: Shortage) -> usize
+        ensures { result ≡ closing_rank shortage self.now }
     {
-        let class = self.closing_class();
-        let other_class = other.closing_class();
-        other_class < class || (class == other_class && other.elapsed < self.elapsed)
+        match shortage {
+            Shortage::Places => self.closing_class(),
+            Shortage::Memory => self.allocated_bytes(),
+        }
+    }
+
+    /// Returns whether this connection is closed before the other one. For a place: a connection that has all its
+    /// replies before one that reads its reply, and this before one whose request is incomplete. For memory: the one
+    /// whose reply takes more. Of equals, in both cases: the one that made no progress for longer, so its timer was
+    /// restarted earlier.
+    pub fn is_closed_before(&self, other: &Connection, shortage: Shortage) -> bool
+        ensures { result ≡ is_closed_before shortage self.now other.now }
+    {
+        let rank = self.closing_rank(shortage);
+        let other_rank = other.closing_rank(shortage);
+        other_rank < rank || (rank == other_rank && other.elapsed < self.elapsed)
     }
 
     /// Returns the part of the reply that remains to be sent.
@@ -457,6 +490,7 @@ impl Connection {
         ensures state { (history : List Event) → HasState self.old history
             → HasState self.new (Resumed (length (rest_of self.old) == 0) ∷ history) }
         ensures limits { self.new.limits ≡ self.old.limits }
+        ensures allocated { allocated_bytes self.new ≡ allocated_bytes self.old }
     {
         self.received.drain(..self.request_len);
         self.request_len = 0;
@@ -491,6 +525,7 @@ impl Connection {
         ensures late { limit_in (is_idle_in self.old.phase) self.old.limits ≤ self.old.elapsed + millis
             → wants_in self.new.phase ≡ Wants.Close }
         ensures limits { self.new.limits ≡ self.old.limits }
+        ensures allocated { allocated_bytes self.new ≡ allocated_bytes self.old }
     {
         if self.wants() == Wants::Close {
             return;
@@ -508,6 +543,7 @@ impl Connection {
             → HasState self.new history }
         ensures over { wants_in self.new.phase ≡ Wants.Close }
         ensures limits { self.new.limits ≡ self.old.limits }
+        ensures allocated { allocated_bytes self.new ≡ allocated_bytes self.old }
     {
         self.phase = match self.phase {
             Phase::Lingering => Phase::Complete,
@@ -533,5 +569,17 @@ impl Connection {
         ensures { result ≡ vec_len self.now.reply - self.now.sent }
     {
         self.reply.len() - self.sent
+    }
+}
+
+// Returns these bytes. If there are none, frees what is allocated for them.
+fn freed_if_empty(alloc: Global, bytes: Vec<u8>) -> Vec<u8>
+    ensures items { result.items ≡ bytes.items }
+    ensures freed { length bytes.items ≡ 0 → vec_capacity result ≡ 0 }
+{
+    if bytes.is_empty() {
+        Vec::new(alloc)
+    } else {
+        bytes
     }
 }

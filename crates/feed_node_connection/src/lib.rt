@@ -9,7 +9,7 @@ mod respond;
 mod sides;
 mod streams;
 
-pub use connection::{Connection, MIN_PROGRESS, Phase, TimeLimits, Wants};
+pub use connection::{Connection, MIN_PROGRESS, Phase, Shortage, TimeLimits, Wants};
 pub use head_state::AfterReply;
 pub use laws::{all_is_served, requests_are_unique, state_is_right};
 pub use respond::{

@@ -24,7 +24,7 @@ pub const BODY_LIMIT: usize = 8_192;
 pub enum RespondFault {
     /// Memory ran out.
     Memory,
-    /// The node has too much to do, or does not serve yet. The client may send its request again.
+    /// The node starts, and does not serve yet. The client may send its request again.
     Busy,
 }
 
