@@ -35,13 +35,14 @@ place_of counter.Complete = 1
 place_of counter.PeerClosed = 2
 place_of counter.TimedOut = 3
 place_of counter.Evicted = 4
-place_of counter.Streamed = 5
-place_of counter.RequestBytes = 6
-place_of counter.ReplyBytes = 7
-place_of counter.FetchDone = 8
-place_of counter.FetchRefused = 9
-place_of counter.FetchFailed = 10
-place_of counter.RefusedToken = 11
+place_of counter.Unread = 5
+place_of counter.Streamed = 6
+place_of counter.RequestBytes = 7
+place_of counter.ReplyBytes = 8
+place_of counter.FetchDone = 9
+place_of counter.FetchRefused = 10
+place_of counter.FetchFailed = 11
+place_of counter.RefusedToken = 12
 
 -- the place of a target
 abbrev pub target_place : Target → ℕ

@@ -32,6 +32,7 @@ counter_front counter.Complete = front.COMPLETE.now
 counter_front counter.PeerClosed = front.PEER_CLOSED.now
 counter_front counter.TimedOut = front.TIMED_OUT.now
 counter_front counter.Evicted = front.EVICTED.now
+counter_front counter.Unread = front.UNREAD.now
 counter_front counter.Streamed = front.STREAMED.now
 counter_front counter.RequestBytes = front.REQUEST_BYTES.now
 counter_front counter.ReplyBytes = front.REPLY_BYTES.now

@@ -13,6 +13,7 @@ pub enum Counter {
     PeerClosed,
     TimedOut,
     Evicted,
+    Unread,
     Streamed,
     /// Bytes of the requests that were replied to.
     RequestBytes,
@@ -27,12 +28,13 @@ pub enum Counter {
 }
 
 /// All counters, as they are printed.
-pub(crate) const COUNTERS: [Counter; 12] = [
+pub(crate) const COUNTERS: [Counter; 13] = [
     Counter::Opened,
     Counter::Complete,
     Counter::PeerClosed,
     Counter::TimedOut,
     Counter::Evicted,
+    Counter::Unread,
     Counter::Streamed,
     Counter::RequestBytes,
     Counter::ReplyBytes,
@@ -56,6 +58,8 @@ pub(crate) const PEER_CLOSED: &[u8] = b"kbfeed_connections_closed_total{cause=\"
 pub(crate) const TIMED_OUT: &[u8] = b"kbfeed_connections_closed_total{cause=\"timeout\"} ";
 
 pub(crate) const EVICTED: &[u8] = b"kbfeed_connections_closed_total{cause=\"evicted\"} ";
+
+pub(crate) const UNREAD: &[u8] = b"kbfeed_connections_closed_total{cause=\"unread\"} ";
 
 pub(crate) const STREAMED: &[u8] = b"kbfeed_connections_closed_total{cause=\"streamed\"} ";
 
@@ -87,7 +91,7 @@ impl Counter {
     /// Returns the place of the counter among all.
     pub(crate) fn place(self) -> usize
         ensures value { result ≡ place_of self }
-        ensures below { result < 12 }
+        ensures below { result < 13 }
     {
         match self {
             Counter::Opened => 0,
@@ -95,13 +99,14 @@ impl Counter {
             Counter::PeerClosed => 2,
             Counter::TimedOut => 3,
             Counter::Evicted => 4,
-            Counter::Streamed => 5,
-            Counter::RequestBytes => 6,
-            Counter::ReplyBytes => 7,
-            Counter::FetchDone => 8,
-            Counter::FetchRefused => 9,
-            Counter::FetchFailed => 10,
-            Counter::RefusedToken => 11,
+            Counter::Unread => 5,
+            Counter::Streamed => 6,
+            Counter::RequestBytes => 7,
+            Counter::ReplyBytes => 8,
+            Counter::FetchDone => 9,
+            Counter::FetchRefused => 10,
+            Counter::FetchFailed => 11,
+            Counter::RefusedToken => 12,
         }
     }
 
@@ -116,6 +121,7 @@ impl Counter {
             Counter::PeerClosed => PEER_CLOSED,
             Counter::TimedOut => TIMED_OUT,
             Counter::Evicted => EVICTED,
+            Counter::Unread => UNREAD,
             Counter::Streamed => STREAMED,
             Counter::RequestBytes => REQUEST_BYTES,
             Counter::ReplyBytes => REPLY_BYTES,

@@ -21,7 +21,7 @@ pub struct Gauges<'a> {
     pub version: &'a [u8],
     /// The connections that are open.
     pub open: u64,
-    /// The bytes of replies that are held to be sent.
+    /// The bytes that are allocated for replies to be sent.
     pub held_bytes: u64,
     pub releases: &'a [ReleaseTime<'a>],
     /// The seconds since the node last switched to a release, if it has.
@@ -45,7 +45,7 @@ pub(crate) const OPEN: &[u8] = b"\"} 1\n\
     kbfeed_connections_open ";
 
 pub(crate) const HELD: &[u8] = b"\n\
-    # HELP kbfeed_held_bytes Bytes of replies that are held to be sent.\n\
+    # HELP kbfeed_held_bytes Bytes allocated for replies that are not yet sent whole.\n\
     # TYPE kbfeed_held_bytes gauge\n\
     kbfeed_held_bytes ";
 

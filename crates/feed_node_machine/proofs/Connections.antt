@@ -1,14 +1,14 @@
 -- The connections of a table after an event of the node.
-use Rattle.std.proofs.Common.{◌≡◌, ◌≢◌, ◌<◌, ℕ, zero, suc, Bool, true, false, List, [], ◌∷◌, ◌++◌, Option, Some, None, IsSome, inl, inr, refl, sym, ap, subst, ◌∙◌, eqb-true, arith}
+use Rattle.std.proofs.Common.{◌≡◌, ◌≢◌, ◌<◌, ◌≤◌, ℕ, zero, suc, Bool, true, false, List, [], ◌∷◌, ◌++◌, Option, Some, None, IsSome, inl, inr, refl, sym, ap, subst, ◌∙◌, eqb-true, arith}
 use Rattle.std.specs.Prelude.{◌==◌, IsSomeAnd, if◌then◌else◌}
-use Rattle.std.proofs.lemmas.Bool.{cases_eq, eqb-false}
+use Rattle.std.proofs.lemmas.Bool.{cases_eq, cases_lt, eqb-false}
 use Rattle.slab.specs.Slab.{Slab, get}
 use Rattle.feed_node_connection.specs.Events.{Event, Elapsed}
 use Rattle.feed_node_connection.specs.States.{HasState}
 use Rattle.feed_node_table.specs.declared.peer.Peer.{Peer}
 use Rattle.feed_node_table.specs.declared.table.Table.{Table}
-use Rattle.feed_node_table.specs.Peers.{millis_of}
-use Rattle.feed_node_table.specs.Tables.{peer_at, size_of, AreElapsed, KeepsConnections, KeepsOthers}
+use Rattle.feed_node_table.specs.Peers.{held_limit, millis_of}
+use Rattle.feed_node_table.specs.Tables.{peer_at, size_of, bytes_held, AreElapsed, KeepsConnections, KeepsOthers}
 use Rattle.feed_node_table.proofs.Firsts.{same_peer, some_there}
 use Rattle.feed_node_machine.specs.NodeEvents.{NodeEvent, Accepted, Served, Passed, events_of}
 use Rattle.feed_node_machine.specs.Nodes.{AreAt}
@@ -50,12 +50,8 @@ module _ {T : Type 0} where
       → IsSomeAnd (peer_at new key) (λ peer. HasState peer.connection []) → AreAt old history → AreAt new (Accepted key ∷ history)
   at_accepted key old new history others fresh at other peer there =
       here_or key other (λ events. HasState peer.connection events) [] (events_of other history)
-      (λ same. at_fresh (peer_at new key) fresh (ap (peer_at new) same ∙ there))
+      (λ same. subst (λ slot. IsSomeAnd slot (λ (p : Peer T). HasState p.connection [])) (ap (peer_at new) same ∙ there) fresh)
       (λ differs. at other peer (sym (others other (λ e. differs (sym e))) ∙ there))
-    where
-      at_fresh : (slot : Option (Peer T)) → IsSomeAnd slot (λ peer. HasState peer.connection []) → slot ≡ Some peer → HasState peer.connection []
-      at_fresh None is same = absurd (cc)
-      at_fresh (Some it) is same = let t : it ≡ peer = cc in subst (λ (p : Peer T). HasState p.connection []) t is
 
   -- one connection had a share
   pub at_served : (key : ℕ) (share : List Event) (old new : Table T) (history : List NodeEvent) → KeepsOthers key old new
@@ -114,3 +110,11 @@ module _ {T : Type 0} where
       by : (slot : Option (Peer T)) → peer_at old key ≡ slot → KeepsConnections old new
       by None is = keeps_same old new (none is)
       by (Some peer) is = let gone = some (subst (λ slot. IsSome slot) (sym is) refl) in keeps_others key old new gone.0 gone.1
+
+  -- one connection is removed, if the replies take too much memory
+  pub keeps_memory : (old new : Table T) → (held_limit < bytes_held old → (key : ℕ) × KeepsOthers key old new × (peer_at new key ≡ None))
+      → (bytes_held old ≤ held_limit → new ≡ old) → KeepsConnections old new
+  keeps_memory old new over within = elim (cases_lt held_limit (bytes_held old)) [
+    | inl more ↦ let gone = over more in keeps_others gone.0 old new gone.1 gone.2
+    | inr few ↦ keeps_same old new (within few)
+  ]

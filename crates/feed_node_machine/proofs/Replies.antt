@@ -1,5 +1,5 @@
 -- The replies of a node to the requests of its connections.
-use Rattle.std.proofs.Common.{◌≡◌, ℕ, Bool, true, false, List, [], ◌∷◌, ◌++◌, Option, Some, None, inl, inr, refl, sym, ap, subst, eqb-true}
+use Rattle.std.proofs.Common.{◌≡◌, ℕ, Bool, true, false, List, [], ◌∷◌, ◌++◌, Option, None, inl, inr, refl, sym, ap, subst, eqb-true}
 use Rattle.std.specs.Prelude.{◌==◌, if◌then◌else◌, IfSome}
 use Rattle.httparse.specs.Grammar.{RequestHead}
 use Rattle.feed_node_connection.specs.Requests.{Request, Persistent, Last, Invalid}
@@ -8,7 +8,6 @@ use Rattle.feed_node_connection.specs.Replies.{Replies, Exchange, IsReplyOf, Has
 use Rattle.feed_node_connection.specs.States.{HasState}
 use Rattle.feed_node_connection.specs.Streams.{AreReplies}
 use Rattle.feed_node_connection.proofs.States.{all_served}
-use Rattle.feed_node_table.specs.Connections.{in_room}
 use Rattle.feed_node_machine.specs.NodeEvents.{NodeEvent, Accepted, Served, Passed, DayBegan, Asked, Took, TookPart, Reopened, events_of, IsMoment}
 use Rattle.feed_node_machine.specs.Rules.{Rules, IsShare, AreAllowed}
 use Rattle.feed_node_machine.specs.Promise.{IsMadeFor, replies_in}
@@ -65,23 +64,6 @@ are_both replies (Replied request reply ∷ later) earlier first second = (first
 are_both replies (Continued ∷ later) earlier first second = are_both replies later earlier first second
 are_both replies (Resumed idle ∷ later) earlier first second = are_both replies later earlier first second
 are_both replies (Elapsed millis ∷ later) earlier first second = are_both replies later earlier first second
-
--- a reply is made only if there is room for one
-pub from_room : (wanted : RequestHead → ℕ) (has_room : Bool) (some : List ℕ → List ℕ → Bool → Option (List ℕ) → Type 0)
-    (text : List ℕ → List ℕ → Bool → List ℕ → Type 0)
-    → ((head body : List ℕ) (keeps : Bool) (reply : Option (List ℕ)) → some head body keeps reply → IfSome reply (text head body keeps))
-    → (events : List Event) → AreReplies (in_room has_room (wanted, some)) events
-    → AreReplies (wanted, λ head body keeps reply. IfSome reply (text head body keeps)) events
-from_room wanted has_room some text f events are =
-    are_more wanted _ (λ head body keeps reply. IfSome reply (text head body keeps)) by events are
-  where
-    none : (head body : List ℕ) (keeps : Bool) (reply : Option (List ℕ)) → reply ≡ None → IfSome reply (text head body keeps)
-    none head body keeps None is = tt
-    none head body keeps (Some reply) is = absurd (cc)
-
-    by : (head body : List ℕ) (keeps : Bool) (reply : Option (List ℕ)) → (in_room has_room (wanted, some)).1 head body keeps reply → IfSome reply (text head body keeps)
-    by head body keeps reply (inl is) = f head body keeps reply is.1
-    by head body keeps reply (inr is) = none head body keeps reply is.1
 
 -- a moment stays one
 moment_more : (event : NodeEvent) (moment history : List NodeEvent) → IsMoment moment history → IsMoment moment (event ∷ history)

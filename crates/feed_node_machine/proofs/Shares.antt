@@ -17,7 +17,7 @@ use Rattle.feed_node_table.specs.declared.peer.Outcome.TheVariants as outcome
 use Rattle.feed_node_table.specs.declared.peer.Peer.{Peer}
 use Rattle.feed_node_table.specs.declared.table.Table.{Table}
 use Rattle.feed_node_table.specs.Logs.{Entry}
-use Rattle.feed_node_table.specs.Tables.{peer_at, has_room_in, IsServed, IsFollowedAt, KeepsOthers}
+use Rattle.feed_node_table.specs.Tables.{peer_at, IsServed, IsFollowedAt, KeepsOthers}
 use Rattle.feed_node_table.proofs.Firsts.{same_peer}
 use Rattle.feed_node_machine.specs.declared.occasion.Occasion.{Occasion}
 use Rattle.feed_node_machine.specs.NodeEvents.{NodeEvent, Served, events_of, feed_history, today_in}
@@ -25,7 +25,7 @@ use Rattle.feed_node_machine.specs.Occasions.{IsReplyOn}
 use Rattle.feed_node_machine.specs.Rules.{Rules, Terms, terms_with, IsShare}
 use Rattle.feed_node_machine.specs.Nodes.{AreAt}
 use Rattle.feed_node_machine.proofs.Connections.{at_kept, at_served, keeps_here, keeps_others}
-use Rattle.feed_node_machine.proofs.Replies.{from_room}
+use Rattle.feed_node_machine.proofs.Replies.{are_more}
 
 -- a reply on an occasion is one to each history that the feed has
 pub reply_to : {K : Type 0} {k : Ghosts K} (replies : Terms → History → List ℕ → List ℕ → Bool → List ℕ → Type 0) (occasion : Occasion K k) (token : Option (List ℕ))
@@ -66,7 +66,9 @@ module _ {T : Type 0} where
               is_local = is_local;
               today = today;
               day = day;
-              replied = from_room rules.0 (has_room_in old) some (rules.1 (terms_with token is_busy is_local today) (feed_history history)) text moved.more moved.replies_made;
+              replied =
+                  are_more rules.0 some (λ head body keeps reply. IfSome reply (rules.1 (terms_with token is_busy is_local today) (feed_history history) head body keeps)) text
+                  moved.more moved.replies_made;
             },
           )
 

@@ -1,8 +1,10 @@
 //! The node as a value, and its connections.
-ghost use Rattle.std.specs.Prelude.{◌≡◌, ◌<◌, ◌∷◌, ℕ, List, None, IsSome};
+ghost use Rattle.std.specs.Prelude.{◌≡◌, ◌<◌, ◌≤◌, ◌∷◌, ℕ, List, None, IsSome};
 ghost use Rattle.feed_model.specs.Content.{IsContent};
 ghost use Rattle.feed_releases.specs.Feeds.{recorded};
-ghost use Rattle.feed_node_table.specs.Tables.{peer_at, size_of, HasClosed, IsExpired, IsFirstToClose, IsRemoved};
+ghost use Rattle.feed_node_table.specs.Peers.{held_limit};
+ghost use Rattle.feed_node_table.specs.Tables.{peer_at, size_of, bytes_held, HasClosed, IsExpired, IsFirstToClose};
+ghost use Rattle.feed_node_table.specs.Tables.{IsRemoved};
 ghost use Rattle.feed_node_machine.specs.NodeEvents.{NodeEvent, Accepted, Passed, DayBegan, Reopened};
 ghost use Rattle.feed_node_machine.specs.NodeEvents.{accepted_in, feed_history};
 ghost use Rattle.feed_node_machine.specs.Rules.{AreGiven};
@@ -13,7 +15,7 @@ use crate::occasion::FeedRespond;
 use feed_embargo::Today;
 use feed_keep::Keep;
 use feed_names::{NameFault, ReleaseName};
-use feed_node_connection::TimeLimits;
+use feed_node_connection::{Shortage, TimeLimits};
 use feed_node_table::{CloseCause, Log, Stream, Table};
 use feed_releases::Feed;
 use std::alloc::Global;
@@ -78,14 +80,29 @@ impl<'a, T: Stream, K: Keep + Drop, S: FeedRespond + Drop> NodeMachine<'a, T, K,
         &self.table
     }
 
-    /// Closes the connection that is closed to make room, if there is any.
+    /// Closes the connection that is closed for a place, if there is any.
     pub fn make_room<L: Log>(&mut self, now: u64, log: &mut L)
         ensures history { KeepsHistory S.wanted S.replies self.old self.new }
         ensures later { IsLater S.wanted S.replies self.old self.new }
-        ensures removed { 0 < size_of (table_of self.old) → (key : ℕ) × IsFirstToClose (table_of self.old) key
+        ensures removed { 0 < size_of (table_of self.old) → (key : ℕ)
+            × IsFirstToClose Shortage.Places (table_of self.old) key
             × IsRemoved L.records key CloseCause.Evicted now (table_of self.old) (table_of self.new) log.old log.new }
     {
         self.table.make_room(now, log);
+    }
+
+    /// Closes the connection whose reply takes the most memory, if the replies take more than 33,554,432 bytes.
+    /// Afterwards they take less.
+    pub fn free_memory<L: Log>(&mut self, now: u64, log: &mut L)
+        ensures history { KeepsHistory S.wanted S.replies self.old self.new }
+        ensures later { IsLater S.wanted S.replies self.old self.new }
+        ensures within { bytes_held (table_of self.new) ≤ held_limit }
+        ensures removed { held_limit < bytes_held (table_of self.old) → (key : ℕ)
+            × IsFirstToClose Shortage.Memory (table_of self.old) key
+            × IsRemoved L.records key CloseCause.Unread now (table_of self.old) (table_of self.new) log.old log.new }
+        ensures kept { bytes_held (table_of self.old) ≤ held_limit → (self.new ≡ self.old) × (log.new ≡ log.old) }
+    {
+        self.table.free_memory(now, log);
     }
 
     fn make_room_if_full<L: Log>(&mut self, now: u64, log: &mut L)

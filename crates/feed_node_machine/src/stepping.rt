@@ -1,9 +1,10 @@
 //! A share of a turn: a connection receives, replies and sends.
-ghost use Rattle.std.specs.Prelude.{◌≡◌, List, option_copied};
+ghost use Rattle.std.specs.Prelude.{◌≡◌, ◌≤◌, List, option_copied};
 ghost use Rattle.feed_node_machine.specs.NodeEvents.{NodeEvent};
 ghost use Rattle.feed_node_machine.specs.Nodes.{table_of, HasHistory, HasServed, HasAsked, HasAdvanced, IsLater};
 ghost use Rattle.feed_node_machine.specs.Nodes.{KeepsRest};
-ghost use Rattle.feed_node_table.specs.Tables.{IsSettled};
+ghost use Rattle.feed_node_table.specs.Peers.{held_limit};
+ghost use Rattle.feed_node_table.specs.Tables.{bytes_held, IsSettled};
 
 use crate::machine::NodeMachine;
 use crate::occasion::{FeedRespond, MomentResponder};
@@ -36,6 +37,7 @@ impl<'a, T: Stream, K: Keep + Drop, S: FeedRespond + Drop> NodeMachine<'a, T, K,
 
     // Gives a connection a share of the turn.
     fn serve(&mut self, turn: Turn, buffer: &mut [u8], share: &mut Share) -> Progress
+        requires { bytes_held (table_of self.old) ≤ held_limit }
         ensures history { (history : List NodeEvent) → HasHistory S.wanted S.replies self.old history
             → HasServed S.wanted S.replies turn.key self.new history }
         ensures rest { KeepsRest turn.key self.old self.new }
@@ -68,8 +70,10 @@ impl<'a, T: Stream, K: Keep + Drop, S: FeedRespond + Drop> NodeMachine<'a, T, K,
 
     /// Gives a connection a share of the turn: it receives, replies and sends until its stream would block, a reply was
     /// sent, or the share is used. The replies are those to the feed as it is. A request that has the token may ask for
-    /// a release, which is to be fetched next.
+    /// a release, which is to be fetched next. `free_memory` was called before, so that the reply is the only one past
+    /// the limit.
     pub fn advance(&mut self, turn: Turn, buffer: &mut [u8], share: &mut Share) -> Progress
+        requires { bytes_held (table_of self.old) ≤ held_limit }
         ensures history { (history : List NodeEvent) → HasHistory S.wanted S.replies self.old history
             → HasAdvanced S.wanted S.replies turn.key self.new history }
         ensures later { IsLater S.wanted S.replies self.old self.new }

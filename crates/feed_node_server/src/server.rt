@@ -353,8 +353,8 @@ impl Server {
         }
     }
 
-    // Has a connection use its share until a reply was sent. The step begins at the last reading of the clock, so that
-    // one reading for each step is enough.
+    // Has a connection use its share until a reply was sent, once there is memory for another reply. The step begins at
+    // the last reading of the clock, so that one reading for each step is enough.
     fn advance<K: Keep + Drop, S: FeedRespond + Drop, L: Log>(
         &mut self,
         key: usize,
@@ -365,6 +365,7 @@ impl Server {
     ) -> io::Result<Outcome>
         ensures { IsLater S.wanted S.replies node.old node.new }
     {
+        node.free_memory(self.now, log);
         let is_local = node.table().addr(key).is_some_and(is_local);
         let turn = Turn {
             key,

@@ -12,6 +12,7 @@ cause_counter cause.Complete = counter.Complete
 cause_counter cause.PeerClosed = counter.PeerClosed
 cause_counter cause.TimedOut = counter.TimedOut
 cause_counter cause.Evicted = counter.Evicted
+cause_counter cause.Unread = counter.Unread
 cause_counter cause.Streamed = counter.Streamed
 
 -- the counter of the fetches that end with an exit status: a device failed or memory ran out (3), or the peer or the file

@@ -24,6 +24,7 @@ fn cause_counter(cause: CloseCause) -> Counter
         CloseCause::PeerClosed => Counter::PeerClosed,
         CloseCause::TimedOut => Counter::TimedOut,
         CloseCause::Evicted => Counter::Evicted,
+        CloseCause::Unread => Counter::Unread,
         CloseCause::Streamed => Counter::Streamed,
     }
 }

@@ -1,11 +1,10 @@
-pub mod Bytes
-pub mod Bounds
 pub mod Shares
 pub mod Slots
 pub mod Places
 pub mod Keys
 pub mod Invariants
 pub mod Order
+pub mod Held
 pub mod Firsts
 pub mod Records
 pub mod Settled

@@ -1,14 +1,14 @@
--- The order in which connections are closed to make room.
-use Rattle.std.proofs.Common.{◌≡◌, ◌<◌, ◌⊎◌, ℕ, Bool, true, false, ◌==◌, ◌&&◌, ◌||◌, ◌∙◌, arith, inl, inr}
+-- The order in which connections are closed.
+use Rattle.std.proofs.Common.{◌≡◌, ◌<◌, ◌≤◌, ◌⊎◌, ℕ, Bool, true, false, ◌==◌, ◌&&◌, ◌||◌, ◌∙◌, arith, inl, inr}
 use Rattle.std.specs.Prelude.{nat_lt}
-use Rattle.std.proofs.lemmas.Bool.{or_cases, and_parts, or_left, or_right, or_from, and_from, and_right, ltb-true, lt-ltb, le-ltb, eqb-true, eq-eqb, both_ways, false_from_ne_true}
+use Rattle.std.proofs.lemmas.Bool.{or_cases, and_parts, or_left, or_right, or_from, and_from, and_right, ltb-true, lt-ltb, le-ltb, eqb-true, eq-eqb, both_ways, cases_lt, false_from_ne_true}
 
--- a class and a time come before others
+-- a rank and a time come before others
 abbrev pub comes_before : ℕ → ℕ → ℕ → ℕ → Bool
-comes_before class time other_class other_time = nat_lt other_class class || ((class == other_class) && nat_lt other_time time)
+comes_before rank time other_rank other_time = nat_lt other_rank rank || ((rank == other_rank) && nat_lt other_time time)
 
 abbrev pub ComesBefore : ℕ → ℕ → ℕ → ℕ → Type 0
-ComesBefore class time other_class other_time = (other_class < class) ⊎ ((class ≡ other_class) × (other_time < time))
+ComesBefore rank time other_rank other_time = (other_rank < rank) ⊎ ((rank ≡ other_rank) × (other_time < time))
 
 before_is : (c t d u : ℕ) → comes_before c t d u ≡ true → ComesBefore c t d u
 before_is c t d u is = elim (or_cases (nat_lt d c) ((c == d) && nat_lt u t) is) [
@@ -33,3 +33,10 @@ not_before c t d u e v is not =
 
 pub not_before_itself : (c t : ℕ) → comes_before c t c t ≡ false
 not_before_itself c t = or_from (nat_lt c c) ((c == c) && nat_lt t t) (le-ltb c c (omega arith)) (and_right (c == c) (nat_lt t t) (le-ltb t t (omega arith)))
+
+-- what does not come before ranks no higher
+pub ranks_no_higher : (c t d u : ℕ) → comes_before c t d u ≡ false → c ≤ d
+ranks_no_higher c t d u not = elim (cases_lt d c) [
+  | inl lower ↦ absurd (both_ways (comes_before c t d u) not (is_before c t d u (inl lower)))
+  | inr most ↦ most
+]

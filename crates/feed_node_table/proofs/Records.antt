@@ -6,7 +6,7 @@ use Rattle.feed_node_table.specs.Logs.{Entry, Accepted, Replied, Closed, AreFor,
 use Rattle.feed_node_table.specs.declared.peer.Peer.{Peer}
 use Rattle.feed_node_table.specs.Peers.{cause_of, micros_of}
 use Rattle.feed_node_table.specs.Lists.{HasKey, KeepsBefore}
-use Rattle.feed_node_table.specs.Tables.{peer_at, size_of, over_bytes, ready_keys, KeepsReady, IsRemoved, HasClosed}
+use Rattle.feed_node_table.specs.Tables.{peer_at, size_of, bytes_held, ready_keys, KeepsReady, IsRemoved, HasClosed}
 use Rattle.feed_node_table.proofs.Firsts.{same_peer}
 
 closings-append : (these those : List Entry) → closings (these ++ those) ≡ closings these + closings those
@@ -65,8 +65,8 @@ module _ {L : Type 0} (records : L → Entry → L → Type 0) (cause : CloseCau
   module _ {T : Type 0} where
     -- nothing was removed
     pub closed_none : (old new : Table T) (log after : L) → HasRecorded records cause 0 log after → size_of new ≡ size_of old → new.clients ≡ old.clients
-        → over_bytes new ≤ over_bytes old → HasClosed records cause old new log after
-    closed_none old new log after none size clients over = record { count = 0; recorded = none; size = omega (arith, size); clients = clients; over = over }
+        → bytes_held new ≡ bytes_held old → HasClosed records cause old new log after
+    closed_none old new log after none size clients held = record { count = 0; recorded = none; size = omega (arith, size); clients = clients; held = omega (arith, held) }
 
     -- one connection was removed
     closed_one : (key : ℕ) (given : CloseCause) (now : ℕ) (old new : Table T) (log after : L) → (removed : IsRemoved records key given now old new log after)
@@ -76,7 +76,7 @@ module _ {L : Type 0} (records : L → Entry → L → Type 0) (cause : CloseCau
       recorded = recorded_one (Closed removed.peer.addr removed.peer.connection given (micros_of removed.peer now)) 1 log after refl (is, tt) removed.recorded;
       size = removed.size;
       clients = removed.clients;
-      over = removed.over;
+      held = omega (arith, removed.held);
     }
 
     -- for this cause, unless its last reply was sent
@@ -91,5 +91,5 @@ module _ {L : Type 0} (records : L → Entry → L → Type 0) (cause : CloseCau
       recorded = recorded_both first.count second.count k l m first.recorded second.recorded;
       size = omega (arith, first.size, second.size);
       clients = second.clients ∙ first.clients;
-      over = omega (arith, first.over, second.over);
+      held = omega (arith, first.held, second.held);
     }

@@ -9,8 +9,8 @@ use Rattle.feed_node_table.specs.declared.peer.Outcome.TheVariants.{Over}
 use Rattle.feed_node_table.specs.declared.peer.Peer.{Peer}
 use Rattle.feed_node_table.specs.declared.table.Table.{Table}
 use Rattle.feed_node_table.specs.Logs.{Entry}
-use Rattle.feed_node_table.specs.Peers.{IsFollowed, cause_of, over_in}
-use Rattle.feed_node_table.specs.Tables.{peer_at, over_bytes, ready_keys, has_more, IsReady, KeepsOthers, KeepsReady, IsRemoved, HasClosed, IsFollowedAt, IsSettled}
+use Rattle.feed_node_table.specs.Peers.{IsFollowed, cause_of, held_in}
+use Rattle.feed_node_table.specs.Tables.{peer_at, bytes_held, ready_keys, has_more, IsReady, KeepsOthers, KeepsReady, IsRemoved, HasClosed, IsFollowedAt, IsSettled}
 use Rattle.feed_node_table.proofs.Records.{closed_both, closed_removed, ready_same, ready_after}
 
 module _ {T L : Type 0} (records : L → Entry → L → Type 0) where
@@ -47,7 +47,7 @@ module _ {T L : Type 0} (records : L → Entry → L → Type 0) where
       recorded = closed.recorded;
       size = ap (λ slab. slab_len slab + closed.count) peers ∙ closed.size;
       clients = clients ∙ closed.clients;
-      over = subst (λ slab. sum_by over_in slab.slots ≤ over_bytes old) (sym peers) closed.over;
+      held = subst (λ slab. sum_by held_in slab.slots ≤ bytes_held old) (sym peers) closed.held;
     };
     followed = followed;
   }

@@ -1,12 +1,23 @@
 -- Sums over the slots of a table.
-use Rattle.std.proofs.Common.{◌≡◌, ◌≢◌, ◌+◌, ◌*◌, ◌<◌, ◌≤◌, ℕ, suc, List, [], ◌∷◌, length, get_or, set, cond, Option, Some, None, is_some, sum_by, count_by, refl, sym, ap, ◌∙◌, arith, inl, inr}
+use Rattle.std.proofs.Common.{◌≡◌, ◌≢◌, ◌+◌, ◌<◌, ◌≤◌, ℕ, suc, List, [], ◌∷◌, length, get_or, set, cond, Option, Some, None, is_some, sum_by, count_by, refl, sym, ap, ◌∙◌, arith, inl, inr}
 use Rattle.std.proofs.lemmas.Bool.{cases_eq}
 use Rattle.std.proofs.lemmas.List.{get_or-set_same, get_or-set_other, get_or_past}
 use Rattle.std.proofs.lemmas.List.Sums.{sum_by-set, sum_by-cons}
 
 module _ {X : Type 0} (f : Option X → ℕ) (empty : f None ≡ 0) where
+  -- slots without a value have no sum
+  pub sum_of_none : (slots : List (Option X)) → count_by is_some slots ≡ 0 → sum_by f slots ≡ 0
+  sum_of_none [] none = refl
+  sum_of_none (None ∷ rest) none =
+      let here : count_by is_some (None ∷ rest) ≡ 0 + count_by is_some rest = sum_by-cons (λ slot. cond (is_some slot) 1 0) None rest in
+      let rest_is : sum_by f rest ≡ 0 = sum_of_none rest (omega (arith, here, none)) in
+      omega (arith, empty, rest_is, sum_by-cons f None rest)
+  sum_of_none (Some value ∷ rest) none =
+      let here : count_by is_some (Some value ∷ rest) ≡ 1 + count_by is_some rest = sum_by-cons (λ slot. cond (is_some slot) 1 0) (Some value) rest in
+      absurd (omega (arith, here, none))
+
   -- a slot with a value is in the list
-  within : (slots : List (Option X)) (key : ℕ) (value : X) → get_or slots key None ≡ Some value → key < length slots
+  pub within : (slots : List (Option X)) (key : ℕ) (value : X) → get_or slots key None ≡ Some value → key < length slots
   within slots key value there = grind (arith, get_or_past)
 
   -- a slot counts once
@@ -50,22 +61,3 @@ module _ {X : Type 0} (f : Option X → ℕ) (empty : f None ≡ 0) where
         | inr differs ↦ get_or-set_other new key other None None differs ∙ others other differs
       ]) in
       omega (arith, cleared, same, empty)
-
--- sums of smaller numbers are smaller, and those of the same are the same
-module _ {X : Type 0} (f g : Option X → ℕ) where
-  pub sum_less : ((slot : Option X) → f slot ≤ g slot) → (slots : List (Option X)) → sum_by f slots ≤ sum_by g slots
-  sum_less less [] = omega arith
-  sum_less less (slot ∷ rest) = omega (arith, sum_less less rest, less slot, sum_by-cons f slot rest, sum_by-cons g slot rest)
-
-  -- but for so many in each slot with a value
-  pub sum_near : (most : ℕ) → f None ≡ 0 → ((value : X) → f (Some value) ≤ g (Some value) + most) → (slots : List (Option X))
-      → sum_by f slots ≤ sum_by g slots + most * count_by is_some slots
-  sum_near most empty near [] = omega arith
-  sum_near most empty near (None ∷ rest) =
-      let more = sum_near most empty near rest in
-      omega (arith, more, empty, sum_by-cons f None rest, sum_by-cons g None rest, sum_by-cons (λ slot. cond (is_some slot) 1 0) None rest)
-  sum_near most empty near (Some value ∷ rest) =
-      let more = sum_near most empty near rest in
-      let one : count_by is_some (Some value ∷ rest) ≡ 1 + count_by is_some rest = sum_by-cons (λ slot. cond (is_some slot) 1 0) (Some value) rest in
-      let times : most * count_by is_some (Some value ∷ rest) ≡ most + most * count_by is_some rest = ap (λ n. most * n) one ∙ grind arith in
-      omega (arith, more, near value, times, sum_by-cons f (Some value) rest, sum_by-cons g (Some value) rest)

@@ -1,18 +1,21 @@
 -- A connection with its stream, as the table holds it.
-use Rattle.std.specs.Prelude.{◌≡◌, ◌≢◌, ◌==◌, ◌&&◌, ◌≤◌, ◌+◌, ◌-◌, ◌/◌, ℕ, Bool, true, false, List, ◌∷◌, length, Option, Some, None}
+use Rattle.std.specs.Prelude.{◌≡◌, ◌≢◌, ◌==◌, ◌&&◌, ◌≤◌, ◌+◌, ◌-◌, ◌/◌, ℕ, Bool, true, false, List, ◌∷◌, length, get_or, Option, Some, None, sum_by}
 use Rattle.std.specs.Option.{option_map_or}
 use Rattle.feed_node_connection.specs.declared.connection.Connection.{Connection}
 use Rattle.feed_node_connection.specs.declared.connection.Wants.TheVariants as wants
 use Rattle.feed_node_connection.specs.declared.streams.Progress.{Progress}
 use Rattle.feed_node_connection.specs.declared.streams.Progress.TheVariants.{Blocked}
 use Rattle.feed_node_connection.specs.Events.{Event, Elapsed, Resumed}
-use Rattle.feed_node_connection.specs.States.{HasState, is_idle_in, is_reply_sent_in, limit_in, rest_of, wants_in}
+use Rattle.feed_node_connection.specs.States.{HasState, allocated_bytes, is_idle_in, is_reply_sent_in, limit_in, rest_of, wants_in}
 use Rattle.feed_node_table.specs.declared.log.CloseCause.{CloseCause}
 use Rattle.feed_node_table.specs.declared.peer.Outcome.{Outcome}
 use Rattle.feed_node_table.specs.declared.peer.Outcome.TheVariants as outcome
 use Rattle.feed_node_table.specs.declared.peer.Peer.{Peer}
-use Rattle.feed_node_table.specs.Connections.{short_len, unsent_bytes}
 use Rattle.feed_node_table.specs.Logs.{Entry, Replied, cause_in}
+
+-- the bytes of replies past which the connection that holds the most is closed
+abbrev pub held_limit : ℕ
+held_limit = 33554432
 
 -- the microseconds that a reply took that began then, if one is under way, or else those of the last one
 abbrev pub micros_in : Option ℕ → ℕ → ℕ → ℕ
@@ -39,15 +42,15 @@ module _ {T : Type 0} where
   abbrev pub cause_of : Peer T → CloseCause → CloseCause
   cause_of peer cause = cause_in peer.connection cause
 
-  -- the bytes of a reply that are not yet sent, in a slot of the table
-  abbrev pub unsent_in : Option (Peer T) → ℕ
-  unsent_in None = 0
-  unsent_in (Some peer) = unsent_bytes peer.connection
+  -- the bytes that are allocated for a reply, in a slot of the table
+  abbrev pub held_in : Option (Peer T) → ℕ
+  held_in None = 0
+  held_in (Some peer) = allocated_bytes peer.connection
 
-  -- those of them past the length of a short reply
-  abbrev pub over_in : Option (Peer T) → ℕ
-  over_in None = 0
-  over_in (Some peer) = unsent_bytes peer.connection - short_len
+  -- all together hold the limit at most, and as much as the one that holds the most
+  abbrev pub AreBounded : List (Option (Peer T)) → Type 0
+  AreBounded slots =
+      (longest : ℕ) → ((key : ℕ) → held_in (get_or slots key None) ≤ longest) → sum_by held_in slots ≤ held_limit + longest
 
   -- the connection is open, and out of time
   abbrev pub IsLate : Peer T → ℕ → Type 0

@@ -1,8 +1,9 @@
 -- The connections of a node.
-use Rattle.std.specs.Prelude.{◌≡◌, ◌≢◌, ◌+◌, ◌<◌, ◌≤◌, ℕ, nat_lt, Bool, true, false, List, Option, Some, None, IsSome, sum_by}
+use Rattle.std.specs.Prelude.{◌≡◌, ◌≢◌, ◌+◌, ◌<◌, ◌≤◌, ℕ, Bool, true, false, List, Option, Some, None, IsSome, sum_by}
 use Rattle.slab.specs.Slab.{get, slab_len}
 use Rattle.feed_node_connection.specs.declared.streams.Progress.{Progress}
 use Rattle.feed_node_connection.specs.declared.streams.Share.{Share}
+use Rattle.feed_node_connection.specs.declared.connection.Shortage.{Shortage}
 use Rattle.feed_node_connection.specs.declared.connection.Wants.TheVariants as wants
 use Rattle.feed_node_connection.specs.Replies.{Replies}
 use Rattle.feed_node_connection.specs.States.{is_closed_before, wants_in}
@@ -15,7 +16,7 @@ use Rattle.feed_node_table.specs.declared.table.Table.{Table}
 use Rattle.feed_node_table.specs.Connections.{HasServed}
 use Rattle.feed_node_table.specs.Lists.{HasKey, KeepsBefore}
 use Rattle.feed_node_table.specs.Logs.{Entry, Closed, HasRecorded}
-use Rattle.feed_node_table.specs.Peers.{micros_of, over_in, unsent_in, HasElapsed, IsFollowed, IsLate}
+use Rattle.feed_node_table.specs.Peers.{held_in, micros_of, HasElapsed, IsFollowed, IsLate}
 
 -- the connection has more to do
 abbrev pub has_more : Outcome → Bool
@@ -24,10 +25,6 @@ has_more Ready = true
 has_more Resumed = true
 has_more Streams = false
 has_more Over = false
-
--- the bytes not yet sent from which on no other reply is made
-abbrev pub unsent_limit : ℕ
-unsent_limit = 33554432
 
 module _ {T : Type 0} where
   -- the connection with this key
@@ -38,21 +35,13 @@ module _ {T : Type 0} where
   abbrev pub size_of : Table T → ℕ
   size_of table = slab_len table.peers
 
-  -- the bytes of the replies of all connections that are not yet sent
+  -- the bytes that are allocated for the replies of all connections
   abbrev pub bytes_held : Table T → ℕ
-  bytes_held table = sum_by unsent_in table.peers.slots
+  bytes_held table = sum_by held_in table.peers.slots
 
-  -- another reply may be made
-  abbrev pub has_room_in : Table T → Bool
-  has_room_in table = nat_lt (bytes_held table) unsent_limit
-
-  -- the bytes held of each reply past the length of a short one
-  abbrev pub over_bytes : Table T → ℕ
-  over_bytes table = sum_by over_in table.peers.slots
-
-  -- they are at most the limit and one reply of this length
-  abbrev pub IsWithin : ℕ → Table T → Type 0
-  IsWithin longest table = over_bytes table ≤ unsent_limit + longest
+  -- those for the reply of the connection with this key
+  abbrev pub held_at : Table T → ℕ → ℕ
+  held_at table key = held_in (peer_at table key)
 
   -- the keys of the connections that the next turn serves
   abbrev pub ready_keys : Table T → List ℕ
@@ -75,7 +64,7 @@ module _ {T : Type 0} where
   abbrev pub IsServed : Replies → ℕ → Progress → Share → Share → Table T → Table T → Type 0
   IsServed replies key progress share left old new =
       (peer : Peer T) → peer_at old key ≡ Some peer
-      → (next : Peer T) × (peer_at new key ≡ Some next) × HasServed replies (has_room_in old) progress share left peer.connection next.connection
+      → (next : Peer T) × (peer_at new key ≡ Some next) × HasServed replies progress share left peer.connection next.connection
 
   -- the connections that are out of time are removed, and the others remain
   pub record IsExpired (now : ℕ) (old new : Table T) : Type 0 where
@@ -97,21 +86,21 @@ module _ {T : Type 0} where
       (key : ℕ) (peer : Peer T) → peer_at new key ≡ Some peer
       → (was : Peer T) × (peer_at old key ≡ Some was) × (peer.connection ≡ was.connection)
 
-  -- the connection with this key is closed to make room: none is closed before it
-  pub record IsFirstToClose (table : Table T) (key : ℕ) : Type 0 where
+  -- the connection with this key is closed for a place or for memory: none is closed before it
+  pub record IsFirstToClose (shortage : Shortage) (table : Table T) (key : ℕ) : Type 0 where
     pub peer : Peer T
     pub there : peer_at table key ≡ Some peer
-    pub first : (other : ℕ) (rival : Peer T) → peer_at table other ≡ Some rival → is_closed_before rival.connection peer.connection ≡ false
+    pub first : (other : ℕ) (rival : Peer T) → peer_at table other ≡ Some rival → is_closed_before shortage rival.connection peer.connection ≡ false
 
   -- the same among the keys below a limit
-  pub record IsFirstAmong (table : Table T) (limit key : ℕ) : Type 0 where
+  pub record IsFirstAmong (shortage : Shortage) (table : Table T) (limit key : ℕ) : Type 0 where
     pub peer : Peer T
     pub there : peer_at table key ≡ Some peer
-    pub first : (other : ℕ) (rival : Peer T) → other < limit → peer_at table other ≡ Some rival → is_closed_before rival.connection peer.connection ≡ false
+    pub first : (other : ℕ) (rival : Peer T) → other < limit → peer_at table other ≡ Some rival → is_closed_before shortage rival.connection peer.connection ≡ false
 
-  abbrev pub IsFirstBelow : Table T → ℕ → Option ℕ → Type 0
-  IsFirstBelow table limit None = (key : ℕ) → key < limit → peer_at table key ≡ None
-  IsFirstBelow table limit (Some key) = IsFirstAmong table limit key
+  abbrev pub IsFirstBelow : Shortage → Table T → ℕ → Option ℕ → Type 0
+  IsFirstBelow shortage table limit None = (key : ℕ) → key < limit → peer_at table key ≡ None
+  IsFirstBelow shortage table limit (Some key) = IsFirstAmong shortage table limit key
 
   module _ {L : Type 0} (records : L → Entry → L → Type 0) where
     -- the connection with this key was removed, and that one call recorded it
@@ -124,7 +113,7 @@ module _ {T : Type 0} where
       pub size : size_of new + 1 ≡ size_of old
       pub ready : KeepsReady key old new
       pub clients : new.clients ≡ old.clients
-      pub over : over_bytes new ≤ over_bytes old
+      pub held : bytes_held new + held_at old key ≡ bytes_held old
 
     -- as many removals were recorded, for this cause, as connections were removed
     pub record HasClosed (cause : CloseCause) (old new : Table T) (log after : L) : Type 0 where
@@ -132,7 +121,7 @@ module _ {T : Type 0} where
       pub recorded : HasRecorded records cause count log after
       pub size : size_of new + count ≡ size_of old
       pub clients : new.clients ≡ old.clients
-      pub over : over_bytes new ≤ over_bytes old
+      pub held : bytes_held new ≤ bytes_held old
 
     -- this connection is what follows its share of a turn; or it was over, and is gone
     abbrev pub IsFollowedAt : ℕ → Progress → ℕ → Outcome → Peer T → Table T → L → L → Type 0

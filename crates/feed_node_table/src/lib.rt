@@ -1,16 +1,14 @@
 //! The connections of a node as a value, without their sockets: at most so many, which of them the next turn serves,
-//! how many bytes they hold, and which one is closed to make room for another.
+//! how many bytes they hold, and which one is closed for its place or its memory.
 #![tactic(auto)]
 
 mod key_set;
 mod log;
 mod peer;
-mod room;
 mod stream;
 mod table;
 
 pub use log::{CloseCause, Log};
 pub use peer::Outcome;
-pub use room::UNSENT_LIMIT;
 pub use stream::Stream;
-pub use table::Table;
+pub use table::{HELD_LIMIT, Table};

@@ -13,6 +13,8 @@ pub enum CloseCause {
     TimedOut,
     /// Another connection needs its place.
     Evicted,
+    /// Its reply took the most memory of all, past the limit.
+    Unread,
     /// The head of its streamed reply was sent. The body is sent without the connection.
     Streamed,
 }

@@ -1,14 +1,14 @@
 //! A connection with its stream and its times.
-ghost use Rattle.std.specs.Prelude.{◌≡◌, ◌≢◌, ◌≤◌, ◌+◌, ◌⊎◌, ℕ, List, []};
-ghost use Rattle.std.specs.Prelude.{max, true, false};
+ghost use Rattle.std.specs.Prelude.{◌≡◌, ◌≢◌, ◌≤◌, ◌<◌, ℕ, List, []};
+ghost use Rattle.std.specs.Prelude.{true, false};
 ghost use Rattle.std.specs.Prelude.{IfSome};
 ghost use Rattle.feed_node_connection.specs.Events.{Event};
-ghost use Rattle.feed_node_connection.specs.States.{HasState, is_reply_sent_in, request_of, wants_in};
-ghost use Rattle.feed_node_table.specs.Connections.{HasServed, IsConnection, IsGiven, unsent_bytes};
+ghost use Rattle.feed_node_connection.specs.States.{allocated_bytes, HasState, is_reply_sent_in, request_of};
+ghost use Rattle.feed_node_connection.specs.States.{wants_in};
+ghost use Rattle.feed_node_table.specs.Connections.{HasServed, IsConnection};
 ghost use Rattle.feed_node_table.specs.Logs.{HasRecorded, Replied};
 
 use crate::log::{CloseCause, Log};
-use crate::room::RoomResponder;
 use crate::stream::Stream;
 use feed_node_connection::{Connection, Progress, Respond, Share, TimeLimits, Wants};
 use std::alloc::Global;
@@ -61,7 +61,7 @@ impl<T: Stream> Peer<T> {
         ensures addr { result.addr ≡ addr }
         ensures stream { result.stream ≡ stream }
         ensures state { HasState result.connection [] }
-        ensures unsent { unsent_bytes result.connection ≡ 0 }
+        ensures held { allocated_bytes result.connection ≡ 0 }
     {
         Peer {
             stream,
@@ -74,11 +74,12 @@ impl<T: Stream> Peer<T> {
         }
     }
 
-    /// Returns how many bytes of its reply are not yet sent.
-    pub(crate) fn unsent(&self) -> usize
-        ensures { result ≡ unsent_bytes self.now.connection }
+    /// Returns the bytes that are allocated for its reply.
+    pub(crate) fn held(&self) -> usize
+        ensures held { result ≡ allocated_bytes self.now.connection }
+        ensures small { result < 9223372036854775808 }
     {
-        self.connection.pending_reply().len()
+        self.connection.allocated_bytes()
     }
 
     /// Returns the request whose reply is streamed, from when the reply is made.
@@ -106,24 +107,6 @@ impl<T: Stream> Peer<T> {
         }
     }
 
-    /// Returns the sum of this number and the bytes that are not yet sent. If the sum has no number, ends the
-    /// connection, so that it holds none.
-    pub(crate) fn add_unsent(&mut self, rest: usize) -> usize
-        ensures sum { result ≡ rest + unsent_bytes self.new.connection }
-        ensures same { (self.new ≡ self.old) ⊎ (wants_in self.new.connection.phase ≡ Wants.Close) }
-        ensures state { (history : List Event) → HasState self.old.connection history
-            → HasState self.new.connection history }
-        ensures addr { self.new.addr ≡ self.old.addr }
-    {
-        match rest.checked_add(self.unsent()) {
-            Some(total) => total,
-            None => {
-                self.connection.end();
-                rest
-            }
-        }
-    }
-
     /// Returns whether the connection is over.
     pub(crate) fn is_over(&self) -> bool
         ensures over { result ≡ true → wants_in self.now.connection.phase ≡ Wants.Close }
@@ -146,7 +129,7 @@ impl<T: Stream> Peer<T> {
     /// Advances the connection's clock. Returns whether its time limit passed by that.
     pub(crate) fn advance_clock(&mut self, now: u64) -> bool
         ensures addr { self.new.addr ≡ self.old.addr }
-        ensures less { unsent_bytes self.new.connection ≤ unsent_bytes self.old.connection }
+        ensures held { allocated_bytes self.new.connection ≡ allocated_bytes self.old.connection }
         ensures late { result ≡ true → IsLate self.old now }
         ensures in_time { result ≡ false → ¬ (IsLate self.old now) }
         ensures elapsed { HasElapsed now self.old self.new }
@@ -173,7 +156,7 @@ impl<T: Stream> Peer<T> {
     fn resume<L: Log>(&mut self, now: u64, log: &mut L) -> Outcome
         requires { wants_in self.old.connection.phase ≡ Wants.Next }
         ensures addr { self.new.addr ≡ self.old.addr }
-        ensures less { unsent_bytes self.new.connection ≤ unsent_bytes self.old.connection }
+        ensures held { allocated_bytes self.new.connection ≡ allocated_bytes self.old.connection }
         ensures recorded { L.records log.old (Replied self.old.addr self.old.connection self.old.micros) log.new }
         ensures resumed { HasResumed self.old.connection self.new.connection }
         ensures outcome { result ≡ Outcome.Resumed }
@@ -214,7 +197,7 @@ impl<T: Stream> Peer<T> {
     /// Does what follows `advance`, by how that ended. A reply that was sent ended now.
     pub(crate) fn settle<L: Log>(&mut self, progress: Progress, now: u64, log: &mut L) -> Outcome
         ensures addr { self.new.addr ≡ self.old.addr }
-        ensures less { unsent_bytes self.new.connection ≤ unsent_bytes self.old.connection }
+        ensures held { allocated_bytes self.new.connection ≡ allocated_bytes self.old.connection }
         ensures recorded { HasRecorded L.records CloseCause.PeerClosed 0 log.old log.new }
         ensures followed { IsFollowed L.records result progress now self.old self.new log.old log.new }
     {
@@ -228,22 +211,6 @@ impl<T: Stream> Peer<T> {
             Wants::Close => Outcome::Over,
             _ if progress == Progress::Blocked => Outcome::Waits,
             _ => Outcome::Ready,
-        }
-    }
-
-    // Returns the share that this connection may use: without a reply if a part of the last one is still to be sent and
-    // there is no room for another.
-    fn share(&self, has_room: bool, share: Share) -> Share
-        ensures bytes { result.bytes ≡ share.bytes }
-        ensures given { IsGiven has_room self.now.connection share result }
-    {
-        Share {
-            bytes: share.bytes,
-            replies: if has_room || self.unsent() == 0 {
-                share.replies
-            } else {
-                0
-            },
         }
     }
 
@@ -265,32 +232,23 @@ impl<T: Stream> Peer<T> {
         &mut self,
         alloc: Global,
         responder: &S,
-        has_room: bool,
         buffer: &mut [u8],
         now: u64,
         share: &mut Share,
     ) -> Progress
         ensures addr { self.new.addr ≡ self.old.addr }
-        ensures served { HasServed (S.wanted responder.now, S.replies responder.now) has_room result
+        ensures served { HasServed (S.wanted responder.now, S.replies responder.now) result
             share.old share.new self.old.connection self.new.connection }
     {
         if self.is_over() {
             return Progress::Blocked;
         }
         let elapsed = self.connection.elapsed();
-        let given = self.share(has_room, *share);
-        let mut left = given;
-        let responder = RoomResponder {
-            responder,
-            has_room,
-        };
+        let replies = share.replies;
         let progress = self
             .stream
-            .advance(&mut self.connection, alloc, &responder, buffer, &mut left);
-        let made = given.replies.saturating_sub(left.replies);
-        share.bytes = left.bytes;
-        share.replies -= made;
-        self.note_times(0 < made, elapsed, now);
+            .advance(&mut self.connection, alloc, responder, buffer, share);
+        self.note_times(share.replies < replies, elapsed, now);
         progress
     }
 }

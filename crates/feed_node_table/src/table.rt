@@ -1,21 +1,23 @@
 //! The connections of a node as a value.
-ghost use Rattle.std.specs.Prelude.{◌≡◌, ◌≢◌, ◌≤◌, ◌<◌, ◌+◌, ◌*◌, ℕ, []};
+ghost use Rattle.std.specs.Prelude.{◌≡◌, ◌≢◌, ◌≤◌, ◌<◌, ◌+◌, ℕ, []};
 ghost use Rattle.std.specs.Prelude.{true, false, length, nat_le};
 ghost use Rattle.std.specs.Prelude.{sum_by, vec_len};
 ghost use Rattle.std.specs.Prelude.{slice_index, Some, None, IfOk, IfSome, IfNone, IsSome, IsSomeAnd};
 ghost use Rattle.slab.specs.Slab.{ContainsKey, slab_len};
 ghost use Rattle.feed_node_table.specs.Lists.{HasKey};
-ghost use Rattle.feed_node_table.specs.Peers.{unsent_in};
+ghost use Rattle.feed_node_table.specs.Peers.{held_in, AreBounded};
 
 use crate::key_set::KeySet;
 use crate::log::{CloseCause, Log};
 use crate::peer::{Outcome, Peer};
-use crate::room::UNSENT_LIMIT;
 use crate::stream::Stream;
-use feed_node_connection::{Progress, Respond, Share, TimeLimits};
+use feed_node_connection::{Progress, Respond, Share, Shortage, TimeLimits};
 use slab::Slab;
 use std::alloc::{AllocError, Global};
 use std::net::SocketAddr;
+
+/// The bytes of replies past which the connection that holds the most is closed.
+pub const HELD_LIMIT: usize = 33_554_432;
 
 /// The connections of a node, each under a key. Times are in microseconds since a moment that the caller chooses.
 #[derive(Drop)]
@@ -23,15 +25,16 @@ pub struct Table<T> {
     peers: Slab<Peer<T>>,
     /// The keys of the connections that the next turn serves.
     ready: KeySet,
-    /// The bytes of the replies of all connections that are not yet sent.
-    unsent: usize,
+    /// The bytes that are allocated for the replies of all connections.
+    held: usize,
     /// The most connections at a time.
     clients: usize,
     ghost few: { slab_len peers ≤ clients },
     ghost reserved: { clients ≤ peers.capacity },
     ghost covered: { peers.capacity ≤ vec_len ready.places },
     ghost known: { (key : ℕ) → HasKey ready.keys.items key → ContainsKey peers key },
-    ghost counted: { unsent ≡ sum_by unsent_in peers.slots },
+    ghost counted: { held ≡ sum_by held_in peers.slots },
+    ghost bounded: { AreBounded peers.slots },
 }
 
 impl<T: Stream> Table<T> {
@@ -40,12 +43,10 @@ impl<T: Stream> Table<T> {
     ghost use Rattle.feed_node_table.specs.Tables.{peer_at, size_of, bytes_held, ready_keys, IsReady, KeepsOthers};
     ghost use Rattle.feed_node_table.specs.Tables.{KeepsReady};
     ghost use Rattle.feed_node_table.specs.declared.peer.Peer.{Peer};
-    ghost use Rattle.feed_node_table.specs.Connections.{AreWithin, short_len};
-    ghost use Rattle.feed_node_table.specs.Peers.{cause_of, IsFollowed, IsLate};
+    ghost use Rattle.feed_node_table.specs.Peers.{cause_of, held_limit, IsFollowed, IsLate};
     ghost use Rattle.feed_node_table.specs.Tables.{IsFirstToClose, IsFirstBelow, IsRemoved, HasClosed, IsSettled};
-    ghost use Rattle.feed_node_table.specs.Tables.{has_room_in, over_bytes, unsent_limit};
-    ghost use Rattle.feed_node_table.specs.Tables.{AreElapsed, IsElapsedAt, IsExpired, IsServed, IsWithin};
-    ghost use Rattle.feed_node_table.specs.Tables.{KeepsConnections};
+    ghost use Rattle.feed_node_table.specs.Tables.{AreElapsed, IsElapsedAt, IsExpired, IsServed};
+    ghost use Rattle.feed_node_table.specs.Tables.{held_at, KeepsConnections};
 
     /// Returns an empty table for at most this many connections, with the memory for all of them.
     pub fn new(alloc: Global, clients: usize) -> Result<Table<T>, AllocError>
@@ -58,7 +59,7 @@ impl<T: Stream> Table<T> {
         Ok(Table {
             peers,
             ready,
-            unsent: 0,
+            held: 0,
             clients,
         })
     }
@@ -85,20 +86,14 @@ impl<T: Stream> Table<T> {
         self.clients <= self.peers.len()
     }
 
-    /// Returns the bytes of the replies of all connections that are not yet sent.
+    /// Returns the bytes that are allocated for the replies of all connections, each from when it is made until it is
+    /// freed: at most 33,554,432 and those of the longest one.
     pub fn bytes_held(&self) -> usize
         ensures held { result ≡ bytes_held self.now }
-        ensures bounded { (longest : ℕ) → IsWithin longest self.now
-            → result ≤ (unsent_limit + longest) + short_len * size_of self.now }
+        ensures bounded { (longest : ℕ) → ((key : ℕ) → held_at self.now key ≤ longest)
+            → result ≤ held_limit + longest }
     {
-        self.unsent
-    }
-
-    /// Returns whether another reply may be made: the bytes held are below 33,554,432.
-    pub fn has_room(&self) -> bool
-        ensures { result ≡ has_room_in self.now }
-    {
-        self.unsent < UNSENT_LIMIT
+        self.held
     }
 
     /// Adds a connection that was accepted now, and returns its key.
@@ -118,7 +113,6 @@ impl<T: Stream> Table<T> {
         ensures others { KeepsOthers result self.old self.new }
         ensures size { size_of self.new ≡ size_of self.old + 1 }
         ensures held { bytes_held self.new ≡ bytes_held self.old }
-        ensures over { over_bytes self.new ≡ over_bytes self.old }
         ensures ready { self.new.ready ≡ self.old.ready }
         ensures clients { self.new.clients ≡ self.old.clients }
         ensures recorded { L.records log.old (Accepted addr) log.new }
@@ -134,7 +128,6 @@ impl<T: Stream> Table<T> {
         ensures others { KeepsOthers key self.old self.new }
         ensures size { size_of self.new ≡ size_of self.old }
         ensures held { bytes_held self.new ≡ bytes_held self.old }
-        ensures over { over_bytes self.new ≡ over_bytes self.old }
         ensures ready { self.new.ready ≡ self.old.ready }
         ensures clients { self.new.clients ≡ self.old.clients }
     {
@@ -160,22 +153,25 @@ impl<T: Stream> Table<T> {
             return None;
         };
         self.ready.remove(key);
-        self.unsent -= peer.unsent();
+        self.held -= peer.held();
         log.on_close(peer.addr, &peer.connection, cause, peer.micros(now));
         Some(peer.stream)
     }
 
     // Returns the one of two connections that is closed before the other.
-    fn closed_first(&self, first: Option<usize>, key: usize) -> Option<usize>
-        requires { IsFirstBelow self.now key first }
-        ensures { IsFirstBelow self.now (key + 1) result }
+    fn closed_first(&self, shortage: Shortage, first: Option<usize>, key: usize) -> Option<usize>
+        requires { IsFirstBelow shortage self.now key first }
+        ensures { IsFirstBelow shortage self.now (key + 1) result }
     {
         let Some(peer) = self.peers.get(key) else {
             return first;
         };
         if let Some(other) = first {
             if let Some(rival) = self.peers.get(other) {
-                if !peer.connection.is_closed_before(&rival.connection) {
+                if !peer
+                    .connection
+                    .is_closed_before(&rival.connection, shortage)
+                {
                     return first;
                 }
             }
@@ -183,29 +179,47 @@ impl<T: Stream> Table<T> {
         Some(key)
     }
 
-    /// Returns the key of the connection that is closed to make room: the one that is idle longest, otherwise the
-    /// slowest reader, otherwise the quietest.
-    pub fn first_to_close(&self) -> Option<usize>
-        ensures first { IfSome result (λ key. IsFirstToClose self.now key) }
+    /// Returns the key of the connection that is closed first. For a place it is the one that is idle longest,
+    /// otherwise the slowest reader, otherwise the quietest. For memory it is the one whose reply takes the most, and
+    /// of equals the slowest reader.
+    pub fn first_to_close(&self, shortage: Shortage) -> Option<usize>
+        ensures first { IfSome result (λ key. IsFirstToClose shortage self.now key) }
         ensures none { IfNone result (size_of self.now ≡ 0) }
     {
         let mut first = None;
         for key in 0..self.peers.capacity() {
-            first = self.closed_first(first, key);
+            first = self.closed_first(shortage, first, key);
         }
         first
     }
 
-    /// Closes the connection that is closed to make room, if there is any.
+    /// Closes the connection that is closed for a place, if there is any.
     pub fn make_room<L: Log>(&mut self, now: u64, log: &mut L)
-        ensures removed { 0 < size_of self.old → (key : ℕ) × IsFirstToClose self.old key
+        ensures removed { 0 < size_of self.old → (key : ℕ) × IsFirstToClose Shortage.Places self.old key
             × IsRemoved L.records key CloseCause.Evicted now self.old self.new log.old log.new }
         ensures empty { size_of self.old ≡ 0 → (self.new ≡ self.old) × (log.new ≡ log.old) }
     {
-        let Some(key) = self.first_to_close() else {
+        let Some(key) = self.first_to_close(Shortage::Places) else {
             return;
         };
         let _ = self.remove(key, CloseCause::Evicted, now, log);
+    }
+
+    /// Closes the connection whose reply takes the most memory, if the replies take more than 33,554,432 bytes.
+    /// Afterwards they take less.
+    pub fn free_memory<L: Log>(&mut self, now: u64, log: &mut L)
+        ensures within { bytes_held self.new ≤ held_limit }
+        ensures removed { held_limit < bytes_held self.old → (key : ℕ) × IsFirstToClose Shortage.Memory self.old key
+            × IsRemoved L.records key CloseCause.Unread now self.old self.new log.old log.new }
+        ensures kept { bytes_held self.old ≤ held_limit → (self.new ≡ self.old) × (log.new ≡ log.old) }
+    {
+        if self.held <= HELD_LIMIT {
+            return;
+        }
+        let Some(key) = self.first_to_close(Shortage::Memory) else {
+            return;
+        };
+        let _ = self.remove(key, CloseCause::Unread, now, log);
     }
 
     /// Returns how many connections are ready: the next turn serves them.
@@ -237,8 +251,8 @@ impl<T: Stream> Table<T> {
     }
 
     /// Gives a connection a share of the turn: it receives, replies and sends until its stream would block, a reply was
-    /// sent, or the share is used. If the bytes held are too many, it gets no reply other than that it gets none. The
-    /// connection is no longer ready.
+    /// sent, or the share is used. It is no longer ready. `free_memory` was called before, so that its reply is the
+    /// only one past the limit.
     pub fn advance<S: Respond>(
         &mut self,
         key: usize,
@@ -248,10 +262,9 @@ impl<T: Stream> Table<T> {
         now: u64,
         share: &mut Share,
     ) -> Progress
+        requires { bytes_held self.old ≤ held_limit }
         ensures served { IsServed (S.wanted responder.now, S.replies responder.now) key result share.old share.new
             self.old self.new }
-        ensures within { (longest : ℕ) → AreWithin (S.wanted responder.now, S.replies responder.now) longest
-            → IsWithin longest self.old → IsWithin longest self.new }
         ensures absent { peer_at self.old key ≡ None → peer_at self.new key ≡ None }
         ensures others { KeepsOthers key self.old self.new }
         ensures size { size_of self.new ≡ size_of self.old }
@@ -259,14 +272,13 @@ impl<T: Stream> Table<T> {
         ensures ready { KeepsReady key self.old self.new }
         ensures once { ¬ (IsReady self.new key) }
     {
-        let has_room = self.has_room();
         self.ready.remove(key);
         let Some(peer) = self.peers.get_mut(key) else {
             return Progress::Blocked;
         };
-        let rest = self.unsent - peer.unsent();
-        let progress = peer.advance(alloc, responder, has_room, buffer, now, share);
-        self.unsent = peer.add_unsent(rest);
+        let rest = self.held - peer.held();
+        let progress = peer.advance(alloc, responder, buffer, now, share);
+        self.held = rest + peer.held();
         progress
     }
 
@@ -286,17 +298,13 @@ impl<T: Stream> Table<T> {
         ensures size { size_of self.new ≡ size_of self.old }
         ensures clients { self.new.clients ≡ self.old.clients }
         ensures ready { self.new.ready ≡ self.old.ready }
-        ensures over { over_bytes self.new ≤ over_bytes self.old }
+        ensures held { bytes_held self.new ≡ bytes_held self.old }
         ensures recorded { HasRecorded L.records CloseCause.PeerClosed 0 log.old log.new }
     {
-        let Some(peer) = self.peers.get_mut(key) else {
-            return Outcome::Over;
-        };
-        let before = peer.unsent();
-        let outcome = peer.settle(progress, now, log);
-        let freed = before - peer.unsent();
-        self.unsent -= freed;
-        outcome
+        match self.peers.get_mut(key) {
+            Some(peer) => peer.settle(progress, now, log),
+            None => Outcome::Over,
+        }
     }
 
     // Removes a connection because its last reply was sent, or else for this cause.
@@ -365,16 +373,12 @@ impl<T: Stream> Table<T> {
         ensures size { size_of self.new ≡ size_of self.old }
         ensures clients { self.new.clients ≡ self.old.clients }
         ensures ready { self.new.ready ≡ self.old.ready }
-        ensures over { over_bytes self.new ≤ over_bytes self.old }
+        ensures held { bytes_held self.new ≡ bytes_held self.old }
     {
-        let Some(peer) = self.peers.get_mut(key) else {
-            return false;
-        };
-        let before = peer.unsent();
-        let is_late = peer.advance_clock(now);
-        let freed = before - peer.unsent();
-        self.unsent -= freed;
-        is_late
+        match self.peers.get_mut(key) {
+            Some(peer) => peer.advance_clock(now),
+            None => false,
+        }
     }
 
     // Advances the clock of a connection, and removes it if it is out of time.

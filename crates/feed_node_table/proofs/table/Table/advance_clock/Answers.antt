@@ -6,7 +6,7 @@ use Rattle.feed_node_table.proofs.table.Table.advance_clock.Goals as goal
 
 pub loop-key-init : goal.loop-key-init
 loop-key-init g c = (
-  closed_none g.L.Log.records TimedOut c.args.self.now c.args.self.now c.args.log.now c.args.log.now (recorded_none g.L.Log.records TimedOut c.args.log.now) refl refl (omega arith),
+  closed_none g.L.Log.records TimedOut c.args.self.now c.args.self.now c.args.log.now c.args.log.now (recorded_none g.L.Log.records TimedOut c.args.log.now) refl refl refl,
   expired_none c.args.now c.args.self.now,
 )
 

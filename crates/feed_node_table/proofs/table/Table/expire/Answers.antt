@@ -9,7 +9,7 @@ returns-then-advance_clock_of-clause-closed g c =
     let it = peer_there c.advance_clock_of.new.self c.args.key (c.advance_clock_of.ensures.there c.if-advance_clock_of.true) in
     closed_both g.L.Log.records TimedOut c.args.self.now c.advance_clock_of.new.self c.close.new.self c.args.log.now c.args.log.now c.close.new.log
     (closed_none g.L.Log.records TimedOut c.args.self.now c.advance_clock_of.new.self c.args.log.now c.args.log.now (recorded_none g.L.Log.records TimedOut c.args.log.now)
-    c.advance_clock_of.ensures.size c.advance_clock_of.ensures.clients c.advance_clock_of.ensures.over)
+    c.advance_clock_of.ensures.size c.advance_clock_of.ensures.clients c.advance_clock_of.ensures.held)
     (closed_removed g.L.Log.records TimedOut c.args.key c.args.now c.advance_clock_of.new.self c.close.new.self c.args.log.now c.close.new.log it.0 it.1 (c.close.ensures.removed it.0 it.1))
 
 pub returns-then-advance_clock_of-clause-others : goal.returns-then-advance_clock_of-clause-others
@@ -33,7 +33,7 @@ returns-then-advance_clock_of-clause-kept g c = λ peer is in_time. absurd (in_t
 pub returns-else-advance_clock_of-clause-closed : goal.returns-else-advance_clock_of-clause-closed
 returns-else-advance_clock_of-clause-closed g c =
     closed_none g.L.Log.records TimedOut c.args.self.now c.advance_clock_of.new.self c.args.log.now c.args.log.now (recorded_none g.L.Log.records TimedOut c.args.log.now)
-    c.advance_clock_of.ensures.size c.advance_clock_of.ensures.clients c.advance_clock_of.ensures.over
+    c.advance_clock_of.ensures.size c.advance_clock_of.ensures.clients c.advance_clock_of.ensures.held
 
 pub returns-else-advance_clock_of-clause-late : goal.returns-else-advance_clock_of-clause-late
 returns-else-advance_clock_of-clause-late g c = λ peer is late. absurd ((c.advance_clock_of.ensures.in_time peer is c.if-advance_clock_of.false).0 late)

@@ -1,5 +1,6 @@
 use Rattle.std.proofs.Common.{refl, sym}
-use Rattle.feed_node_table.proofs.Invariants.{counted_after_same, known_after_write, others_after_write, over_after_same, size_after_write}
+use Rattle.feed_node_table.proofs.Held.{bounded_after_same, counted_after_same}
+use Rattle.feed_node_table.proofs.Invariants.{known_after_write, others_after_write, size_after_write}
 use Rattle.feed_node_table.proofs.Written.{connections_written}
 use Rattle.feed_node_table.proofs.table.Table.register.Goals as goal
 
@@ -24,5 +25,5 @@ returns-in-Some-clause-size g c = size_after_write c.args.self.now.peers.slots c
 pub returns-in-Some-clause-held : goal.returns-in-Some-clause-held
 returns-in-Some-clause-held g c = sym (counted_after_same c.args.self.now.peers.slots c.args.key c.in-Some.peer.now _ _ (sym c.in-Some.ensures.value) refl refl)
 
-pub returns-in-Some-clause-over : goal.returns-in-Some-clause-over
-returns-in-Some-clause-over g c = over_after_same c.args.self.now.peers.slots c.args.key c.in-Some.peer.now _ (sym c.in-Some.ensures.value) refl
+pub invariant_of-self-clause-bounded : goal.invariant_of-self-clause-bounded
+invariant_of-self-clause-bounded g c = bounded_after_same c.args.self.now.peers.slots c.args.key c.in-Some.peer.now _ (sym c.in-Some.ensures.value) refl c.args.self.now.bounded

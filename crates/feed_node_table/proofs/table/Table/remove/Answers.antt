@@ -1,11 +1,12 @@
 use Rattle.std.proofs.Common.{arith, refl, sym, subst}
 use Rattle.feed_node_table.specs.Logs.{Closed}
-use Rattle.feed_node_table.proofs.Invariants.{counted_after_removal, known_after_removal, never_none, over_after_removal, own_is_within}
+use Rattle.feed_node_table.proofs.Held.{bounded_after_removal, counted_after_removal, held_after_removal, own_is_within}
+use Rattle.feed_node_table.proofs.Invariants.{known_after_removal, never_none}
 use Rattle.feed_node_table.proofs.table.Table.remove.Goals as goal
 
 pub invariant_of-self-2-clause-counted : goal.invariant_of-self-2-clause-counted
 invariant_of-self-2-clause-counted g c =
-    counted_after_removal _ _ _ _ _ _ (sym c.in-Some.ensures.value) c.in-Some.ensures.slots c.args.self.now.counted c.unsent.ensures
+    counted_after_removal _ _ _ _ _ _ (sym c.in-Some.ensures.value) c.in-Some.ensures.slots c.args.self.now.counted c.held.ensures.held
 
 pub invariant_of-self-2-clause-known : goal.invariant_of-self-2-clause-known
 invariant_of-self-2-clause-known g c =
@@ -25,14 +26,17 @@ returns-clause-removed g c = λ there. record {
     before = c.remove.ensures.before;
   };
   clients = refl;
-  over = over_after_removal _ _ _ _ (sym c.in-Some.ensures.value) c.in-Some.ensures.slots;
+  held = held_after_removal _ _ _ _ (sym c.in-Some.ensures.value) c.in-Some.ensures.slots;
 }
 
 pub overflow_sub-self : goal.overflow_sub-self
-overflow_sub-self g c = own_is_within c.args.self.now.peers.slots c.args.key _ _ _ (sym c.in-Some.ensures.value) c.args.self.now.counted c.unsent.ensures
+overflow_sub-self g c = own_is_within c.args.self.now.peers.slots c.args.key _ _ _ (sym c.in-Some.ensures.value) c.args.self.now.counted c.held.ensures.held
 
 pub invariant_of-self-2-clause-few : goal.invariant_of-self-2-clause-few
 invariant_of-self-2-clause-few g c = omega (arith, c.args.self.now.few, c.in-Some.ensures.len)
 
 pub returns-clause-absent : goal.returns-clause-absent
 returns-clause-absent g c = λ none. never_none _ c.in-Some.peer (sym c.in-Some.ensures.value) none
+
+pub invariant_of-self-2-clause-bounded : goal.invariant_of-self-2-clause-bounded
+invariant_of-self-2-clause-bounded g c = bounded_after_removal _ _ _ _ (sym c.in-Some.ensures.value) c.in-Some.ensures.slots c.args.self.now.bounded

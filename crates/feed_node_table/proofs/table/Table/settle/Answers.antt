@@ -11,7 +11,7 @@ returns-in-Waits-clause-settled g c =
     settled_still g.L.Log.records c.args.key c.args.progress c.args.now Waits c.args.self.now c.settle_peer-outcome.new.self c.args.log.now c.settle_peer-outcome.new.log refl
     c.settle_peer-outcome.ensures.others (ap (λ set. set.keys.items) c.settle_peer-outcome.ensures.ready)
     (closed_none g.L.Log.records PeerClosed c.args.self.now c.settle_peer-outcome.new.self c.args.log.now c.settle_peer-outcome.new.log c.settle_peer-outcome.ensures.recorded
-    c.settle_peer-outcome.ensures.size c.settle_peer-outcome.ensures.clients c.settle_peer-outcome.ensures.over)
+    c.settle_peer-outcome.ensures.size c.settle_peer-outcome.ensures.clients c.settle_peer-outcome.ensures.held)
     (subst (λ o. IsNext g.L.Log.records c.args.key c.args.progress c.args.now o c.args.self.now c.settle_peer-outcome.new.self c.args.log.now c.settle_peer-outcome.new.log)
     c.in-Waits.is c.settle_peer-outcome.ensures.followed)
 
@@ -20,7 +20,7 @@ returns-in-Streams-clause-settled g c =
     settled_still g.L.Log.records c.args.key c.args.progress c.args.now Streams c.args.self.now c.settle_peer-outcome.new.self c.args.log.now c.settle_peer-outcome.new.log refl
     c.settle_peer-outcome.ensures.others (ap (λ set. set.keys.items) c.settle_peer-outcome.ensures.ready)
     (closed_none g.L.Log.records PeerClosed c.args.self.now c.settle_peer-outcome.new.self c.args.log.now c.settle_peer-outcome.new.log c.settle_peer-outcome.ensures.recorded
-    c.settle_peer-outcome.ensures.size c.settle_peer-outcome.ensures.clients c.settle_peer-outcome.ensures.over)
+    c.settle_peer-outcome.ensures.size c.settle_peer-outcome.ensures.clients c.settle_peer-outcome.ensures.held)
     (subst (λ o. IsNext g.L.Log.records c.args.key c.args.progress c.args.now o c.args.self.now c.settle_peer-outcome.new.self c.args.log.now c.settle_peer-outcome.new.log)
     c.in-Streams.is c.settle_peer-outcome.ensures.followed)
 
@@ -29,7 +29,7 @@ returns-in-Ready-clause-settled g c =
     settled_ready g.L.Log.records c.args.key c.args.progress c.args.now Ready c.args.self.now c.settle_peer-outcome.new.self c.mark_ready.new.self c.args.log.now c.settle_peer-outcome.new.log
     c.settle_peer-outcome.ensures.others (ap (λ set. set.keys.items) c.settle_peer-outcome.ensures.ready)
     (closed_none g.L.Log.records PeerClosed c.args.self.now c.settle_peer-outcome.new.self c.args.log.now c.settle_peer-outcome.new.log c.settle_peer-outcome.ensures.recorded
-    c.settle_peer-outcome.ensures.size c.settle_peer-outcome.ensures.clients c.settle_peer-outcome.ensures.over)
+    c.settle_peer-outcome.ensures.size c.settle_peer-outcome.ensures.clients c.settle_peer-outcome.ensures.held)
     (λ peer is. let next =
     subst (λ o. IsNext g.L.Log.records c.args.key c.args.progress c.args.now o c.args.self.now c.settle_peer-outcome.new.self c.args.log.now c.settle_peer-outcome.new.log)
     c.in-Ready.is c.settle_peer-outcome.ensures.followed peer is in
@@ -42,7 +42,7 @@ returns-in-Resumed-clause-settled g c =
     c.args.log.now c.settle_peer-outcome.new.log
     c.settle_peer-outcome.ensures.others (ap (λ set. set.keys.items) c.settle_peer-outcome.ensures.ready)
     (closed_none g.L.Log.records PeerClosed c.args.self.now c.settle_peer-outcome.new.self c.args.log.now c.settle_peer-outcome.new.log c.settle_peer-outcome.ensures.recorded
-    c.settle_peer-outcome.ensures.size c.settle_peer-outcome.ensures.clients c.settle_peer-outcome.ensures.over)
+    c.settle_peer-outcome.ensures.size c.settle_peer-outcome.ensures.clients c.settle_peer-outcome.ensures.held)
     (λ peer is. let next =
     subst (λ o. IsNext g.L.Log.records c.args.key c.args.progress c.args.now o c.args.self.now c.settle_peer-outcome.new.self c.args.log.now c.settle_peer-outcome.new.log)
     c.in-Resumed.is c.settle_peer-outcome.ensures.followed peer is in
@@ -54,7 +54,7 @@ returns-in-Over-clause-settled g c =
     settled_over g.L.Log.records c.args.key c.args.progress c.args.now c.args.self.now c.settle_peer-outcome.new.self c.close.new.self c.args.log.now c.settle_peer-outcome.new.log c.close.new.log
     c.settle_peer-outcome.ensures.others (ap (λ set. set.keys.items) c.settle_peer-outcome.ensures.ready)
     (closed_none g.L.Log.records PeerClosed c.args.self.now c.settle_peer-outcome.new.self c.args.log.now c.settle_peer-outcome.new.log c.settle_peer-outcome.ensures.recorded
-    c.settle_peer-outcome.ensures.size c.settle_peer-outcome.ensures.clients c.settle_peer-outcome.ensures.over)
+    c.settle_peer-outcome.ensures.size c.settle_peer-outcome.ensures.clients c.settle_peer-outcome.ensures.held)
     (subst (λ o. IsNext g.L.Log.records c.args.key c.args.progress c.args.now o c.args.self.now c.settle_peer-outcome.new.self c.args.log.now c.settle_peer-outcome.new.log)
     c.in-Over.is c.settle_peer-outcome.ensures.followed)
     c.close.ensures.removed c.close.ensures.absent
