@@ -12,8 +12,8 @@ _kbfeed() {
     case $has_options${COMP_WORDS[index]} in
       yes--) has_options= ;;
       yes--name | yes--count | yes--timeout | yes--idle | yes--max-age | yes--metrics | yes--log-queries | yes--piece | \
-        yes--clients | yes--from | yes--token | yes--site | yes--max-removed | yes--max-changed | yes--db | \
-        yes--scholar)
+        yes--fetch-timeout | yes--clients | yes--from | yes--token | yes--site | yes--max-removed | \
+        yes--max-changed | yes--db | yes--scholar)
         [[ ${COMP_WORDS[index + 1]} == = ]] && ((index++))
         ((index++)) ;;
       yes-?*) ;;
@@ -29,8 +29,8 @@ _kbfeed() {
     openurl) options='-h --help -v --verbose --json' ;;
     serve) options='-h --help -v --verbose --count --timeout' ;;
     node)
-      options='-h --help -v --verbose --check --from --token --site --piece --clients --timeout --idle
-        --max-age --metrics --forwarded --log-queries' ;;
+      options='-h --help -v --verbose --check --from --token --site --piece --fetch-timeout --clients
+        --timeout --idle --max-age --metrics --forwarded --log-queries' ;;
     fetch) options='-h --help -v --verbose --piece --timeout' ;;
     export) options='-h --help -v --verbose --scholar' ;;
     replay | answer | ask | status | why) options='-h --help -v --verbose' ;;

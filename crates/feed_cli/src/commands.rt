@@ -254,7 +254,7 @@ static SERVE: [Argument; 4] = [
     CLIENT_TIMEOUT,
 ];
 
-static NODE: [Argument; 14] = [
+static NODE: [Argument; 15] = [
     DATABASE,
     LISTENING_ADDRESS,
     Argument {
@@ -287,6 +287,15 @@ static NODE: [Argument; 14] = [
         help: "The site file of the library: its page, its proxy and what it has",
     },
     PIECE,
+    Argument {
+        id: "fetch-timeout",
+        kind: Kind::Number {
+            value: "SECONDS",
+            limit: 86_400,
+            default: "3600",
+        },
+        help: "How long a fetch may take, 1 to 86400",
+    },
     Argument {
         id: "clients",
         kind: Kind::Number {

@@ -21,10 +21,15 @@ pub enum FetchEnd {
     Stopped(Stop),
     /// The server sends a whole file in place of a range, without its length and with more than 8,388,608 bytes.
     NoRanges,
+    /// A client that has the token asked the node to end it.
+    Canceled,
+    /// It took longer than a fetch of the node may take.
+    TimedOut,
 }
 
 /// Returns the exit status that `kbfeed fetch` has after such an end: 0 if the release or a later one is reported, 1
-/// because of the peer or the file, 3 if a connection or device failed, or memory ran out.
+/// because of the peer or the file, 3 if a connection or device failed, or memory ran out. It is 4 if the node ended
+/// the fetch: the bytes received are kept, and another fetch continues.
 pub fn status_after<K: Keep + Drop>(feed: &Feed<K>, name: &ReleaseName, end: FetchEnd) -> u8
     ensures { (h : History) → IsContent (recorded feed.now) h → IsEndStatus name.now end result h }
 {
@@ -32,6 +37,7 @@ pub fn status_after<K: Keep + Drop>(feed: &Feed<K>, name: &ReleaseName, end: Fet
         FetchEnd::Done => { if is_reported(feed, name) { 0 } else { 1 } }
         FetchEnd::Stopped(stop) => stop.status(),
         FetchEnd::NoRanges => 1,
+        FetchEnd::Canceled | FetchEnd::TimedOut => 4,
     }
 }
 
@@ -54,6 +60,12 @@ pub fn print_end<K: Keep + Drop, O: Write>(
         }
         FetchEnd::NoRanges => {
             let _ = lines.print("kbfeed: NoRanges");
+        }
+        FetchEnd::Canceled => {
+            let _ = lines.print("kbfeed: Canceled");
+        }
+        FetchEnd::TimedOut => {
+            let _ = lines.print("kbfeed: FetchTimeout");
         }
     }
     let status = status_after(feed, name, end);

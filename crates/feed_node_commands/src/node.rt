@@ -71,6 +71,7 @@ pub fn run_node<D: Database, O: Write, F: Write + Drop>(
         token: &token,
         piece: upstream.piece,
         limit: hosting.limit,
+        fetch_limit: upstream.fetch_limit,
     };
     if let Err(error) = addrs.resolve(rt, upstream.addr) {
         let _ = faults.report_with("Resolve", upstream.addr, error, DONE);

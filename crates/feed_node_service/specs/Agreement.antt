@@ -24,7 +24,7 @@ use Rattle.feed_node_service.specs.Responders.{IsTurnText}
 abbrev pub AsksForNoFeed : List ℕ → Type 0
 AsksForNoFeed bytes = HasNoHead bytes ⊎ ((head : RequestHead) × BeginsWith bytes head × (feed_target head ≡ None))
 
--- the bytes are what a reader sends: they ask neither for a fetch, nor for the recorded releases, nor for a report of the node
+-- the bytes are what a reader sends: they ask neither for a fetch or its end, nor for the recorded releases, nor for a report
 pub record IsOfReader (bytes : List ℕ) : Type 0 where
   pub no_fetch : AsksForNoFetch bytes
   pub no_feed : AsksForNoFeed bytes

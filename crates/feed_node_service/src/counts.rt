@@ -34,7 +34,7 @@ fn fetch_counter(status: u8) -> Counter
 {
     match status {
         0 => Counter::FetchDone,
-        3 => Counter::FetchFailed,
+        3 | 4 => Counter::FetchFailed,
         _ => Counter::FetchRefused,
     }
 }

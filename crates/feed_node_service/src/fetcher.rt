@@ -21,6 +21,7 @@ use feed_releases::Feed;
 use std::alloc::AllocError;
 use std::io;
 use std::io::{ErrorKind, Write};
+use std::time::Instant;
 
 /// The server that a node fetches from, the token that authorizes a fetch, and the limits of its requests.
 #[derive(Clone, Copy)]
@@ -32,6 +33,8 @@ pub struct Source<'a> {
     pub piece: u64,
     /// How many milliseconds a request and its reply may take, beside a second for each 65,536 bytes.
     pub limit: u64,
+    /// How many seconds a fetch may take.
+    pub fetch_limit: u64,
 }
 
 // The most parts of a whole file that are taken in one turn, which is all that are kept at a time.
@@ -50,6 +53,8 @@ pub struct Fetcher<'a> {
     file: WatchedFile<'a>,
     state: &'a NodeState,
     running: Option<RunningExchange>,
+    /// When the last fetch began.
+    begun: Option<Instant>,
 }
 
 // The last request of the fetch that is under way, and the place of the address in use.
@@ -101,6 +106,7 @@ impl<'a> Fetcher<'a> {
             file,
             state,
             running: None,
+            begun: None,
         }
     }
 
@@ -115,6 +121,7 @@ impl<'a> Fetcher<'a> {
         match node.begin_fetch(piece) {
             None => {}
             Some(Ok(())) => {
+                self.begun = Instant::now(self.rt).ok();
                 self.addrs.renew(self.rt, source.addr);
                 let exchange = Exchange::new(Method::Head, piece);
                 self.send_next(server, node, RunningExchange { at: 0, exchange });
@@ -124,6 +131,43 @@ impl<'a> Fetcher<'a> {
                 self.state.end_fetch(print_name_fault(fault, &mut lines));
                 finish(server, lines);
             }
+        }
+    }
+
+    /// Ends the fetch that is under way, or that was asked for in this turn. What it stored is kept, so another fetch
+    /// of the release continues.
+    #[tactic(auto, using(feed_node_machine::proofs::Later::later_after))]
+    pub fn cancel<K: Keep + Drop>(&mut self, server: &mut Server, node: &mut FeedNode<'_, K>)
+        ensures { IsLaterNode node.old node.new }
+    {
+        self.begin(server, node);
+        if self.running.take().is_some() {
+            let _ = server.take_request();
+            self.end(server, node, FetchEnd::Canceled);
+        }
+    }
+
+    // Returns whether the fetch has used its time.
+    fn is_late(&self) -> bool {
+        let Some(source) = self.source else {
+            return false;
+        };
+        let Some(begun) = self.begun else {
+            return false;
+        };
+        match Instant::now(self.rt) {
+            Ok(now) => now.saturating_duration_since(begun).as_secs() >= source.fetch_limit,
+            Err(_) => false,
+        }
+    }
+
+    // Returns the step, or the end of the fetch if it has used its time and waits.
+    fn in_time(&self, step: Step) -> Step {
+        match step {
+            Step::Wait | Step::Again | Step::Retry if self.is_late() => Step::End(
+                FetchEnd::TimedOut,
+            ),
+            step => step,
         }
     }
 
@@ -215,6 +259,7 @@ impl<'a> Fetcher<'a> {
             return false;
         }
         server.send_to_streams(&lines);
+        let step = self.in_time(step);
         self.follow(server, node, running, step);
         true
     }

@@ -168,9 +168,20 @@ impl<'a, O: Write> RunningNode<'a, O> {
         if !self.fetcher.advance(server, node) {
             return Some(End::FileGone);
         }
+        self.cancel(node, server);
         self.note_end(node, was_busy);
         self.fetcher.begin(server, node);
         None
+    }
+
+    // Ends the fetch that is under way, if a client that has the token asked for that.
+    #[tactic(auto, using(feed_node_machine::proofs::Later::later_same))]
+    fn cancel<K: Keep + Drop>(&mut self, node: &mut FeedNode<'_, K>, server: &mut Server)
+        ensures { IsLaterNode node.old node.new }
+    {
+        if self.state.take_cancel() {
+            self.fetcher.cancel(server, node);
+        }
     }
 
     // Begins the day of the clock, if it is another one than before.

@@ -27,6 +27,8 @@ pub struct TurnFacts {
 pub struct NodeState {
     counts: RefCell<NodeCounts>,
     facts: Cell<TurnFacts>,
+    /// Whether a client has asked that the fetch under way end.
+    is_canceled: Cell<bool>,
 }
 
 impl NodeState {
@@ -37,7 +39,18 @@ impl NodeState {
                 held_bytes: 0,
                 since_switch: None,
             }),
+            is_canceled: Cell::new(false),
         })
+    }
+
+    /// Notes that a client asked that the fetch under way end.
+    pub fn cancel_fetch(&self) {
+        self.is_canceled.set(true);
+    }
+
+    /// Returns whether a client asked for that since the last call.
+    pub fn take_cancel(&self) -> bool {
+        self.is_canceled.replace(false)
     }
 
     /// Keeps what the node is at the beginning of a turn.

@@ -17,9 +17,9 @@ use feed_monitoring::{ReportReply, gets_report};
 use feed_node_connection::{BODY_LIMIT, IncomingRequest, Reply, ReplySummary, RespondFault};
 use feed_node_machine::{FeedRespond, Occasion};
 use feed_releases::Feed;
-use feed_resolver::{keep_releases, respond_about_feed, respond_as_node};
+use feed_resolver::{ends_fetch, keep_releases, respond_about_feed, respond_as_node};
 use feed_resolver_reply::Response;
-use feed_resolver_request::{fetch_to_begin, form_length};
+use feed_resolver_request::{FetchPolicy, fetch_to_begin, form_length};
 use feed_resolver_tag::Site;
 use std::alloc::{AllocError, Global};
 
@@ -97,7 +97,7 @@ impl<'a> FeedResponder<'a> {
     }
 
     // Returns the reply to a reader, or to a client that has the token. It is streamed exactly if the request makes the
-    // node begin to fetch.
+    // node begin to fetch. A request that ends the fetch under way is noted.
     fn reader_reply<K: Keep + Drop>(
         &self,
         alloc: Global,
@@ -113,6 +113,7 @@ impl<'a> FeedResponder<'a> {
     {
         let is_streamed = fetch_to_begin(alloc, request.head, &occasion.policy).is_some();
         let response = self.response(alloc, occasion, request)?;
+        self.note_end(request.head, &occasion.policy);
         let summary = ReplySummary {
             status: response.status(),
             body_len: response.body_length(),
@@ -123,6 +124,13 @@ impl<'a> FeedResponder<'a> {
             bytes: response.into_bytes(),
             summary,
         })
+    }
+
+    // Has the node end the fetch that is under way, if the request asks for that and has the token.
+    fn note_end(&self, bytes: &[u8], policy: &FetchPolicy<'_>) {
+        if ends_fetch(bytes, policy) {
+            self.state.cancel_fetch();
+        }
     }
 }
 

@@ -8,8 +8,8 @@ use Rattle.feed_resolver_request.specs.declared.representation.Representation.Th
 use Rattle.feed_resolver_reply.specs.Replies.{ReplyValue, ResponseValue, refusal}
 use Rattle.feed_resolver_reply.specs.declared.status.Status.TheVariants as status
 use Rattle.feed_resolver.specs.declared.feed_replies.FeedTarget.{FeedTarget}
-use Rattle.feed_resolver.specs.declared.feed_replies.FeedTarget.TheVariants.{Releases, Release}
-use Rattle.feed_resolver.specs.FeedReplies.{IsFeedReply, IsListReply}
+use Rattle.feed_resolver.specs.declared.feed_replies.FeedTarget.TheVariants.{Releases, End, OtherMethod, Release}
+use Rattle.feed_resolver.specs.FeedReplies.{IsEndReply, IsFeedReply, IsListReply}
 use Rattle.httparse.specs.Grammar.{RequestHead}
 use Rattle.feed_resolver_request.specs.FoundRequests.{BeginsWith}
 use Rattle.feed_resolver_reply.specs.Messages.{IsMessageFor}
@@ -21,14 +21,22 @@ use Rattle.feed_resolver.proofs.Tagged.{IsStatable}
 pub says : (keeps alone : Bool) (response : ResponseValue) → IsMessageFor keeps alone response → SaysWhetherItKeeps keeps response.bytes
 says = message_says
 
--- a reply about the recorded releases has no location, and no tag
-pub feed_statable : (token : List ℕ) (head : RequestHead) (target : FeedTarget) (reply : ReplyValue) → IsFeedReply token head target reply → IsStatable reply
-feed_statable token head Release reply is = rw is (nowhere, nowhere)
-feed_statable token head Releases reply is = by (is_authorized token head) is
+-- a reply about the feed has no location, and no tag
+ended_statable : (has_token is_busy : Bool) (reply : ReplyValue) → IsEndReply has_token is_busy reply → IsStatable reply
+ended_statable false is_busy reply is = rw is (nowhere, nowhere)
+ended_statable true true reply is = rw is (nowhere, nowhere)
+ended_statable true false reply is = rw is (nowhere, nowhere)
+
+pub feed_statable : (token : List ℕ) (is_busy : Bool) (head : RequestHead) (target : FeedTarget) (reply : ReplyValue)
+    → IsFeedReply token is_busy head target reply → IsStatable reply
+feed_statable token is_busy head Release reply is = rw is (nowhere, nowhere)
+feed_statable token is_busy head OtherMethod reply is = rw is (nowhere, nowhere)
+feed_statable token is_busy head Releases reply is = by (is_authorized token head) is
   where
     by : (b : Bool) → MatchBool b (IsListReply reply) (reply ≡ refusal status.Unauthorized Text (codes "Unauthorized")) → IsStatable reply
     by true (representation, body, list) = rw list (nowhere, nowhere)
     by false refused = rw refused (nowhere, nowhere)
+feed_statable token is_busy head End reply is = ended_statable (is_authorized token head) is_busy reply is
 
 pub node_says : (bytes : List ℕ) (keeps : Bool) (head : RequestHead) (response : ResponseValue) → BeginsWith bytes head → IsNodeMessageFor keeps head response
     → SaysOfConnection bytes keeps response

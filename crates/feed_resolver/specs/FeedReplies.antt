@@ -1,11 +1,12 @@
--- The replies of a node to a GET of `/feed` and of what is below it.
-use Rattle.std.specs.Prelude.{◌≡◌, ◌⊎◌, ◌||◌, not, ℕ, Bool, MatchBool, if◌then◌else◌, List, codes, is_some, Option, Some, None}
+-- The replies of a node about its feed: to a request for `/feed`, and to a GET of what is below it.
+use Rattle.std.specs.Prelude.{◌≡◌, ◌⊎◌, ◌||◌, ◌&&◌, ℕ, Bool, true, false, MatchBool, if◌then◌else◌, List, [], codes, is_some, Option, Some, None}
+use Rattle.std.specs.Option.{option_map_or}
 use Rattle.std.specs.Str.{bytes_eq}
 use Rattle.feed_range.specs.Text.{strip_prefix}
 use Rattle.httparse.specs.Grammar.{RequestHead}
 use Rattle.feed_http_heads.specs.Requests.{lacks_host, is_get, is_head}
 use Rattle.feed_http_heads.specs.Targets.{origin_form}
-use Rattle.feed_resolver_request.specs.Targets.{path_in}
+use Rattle.feed_resolver_request.specs.Targets.{is_unsupported_method, path_in}
 use Rattle.feed_resolver_request.specs.FoundRequests.{BeginsWith, HasNoHead}
 use Rattle.feed_resolver_request.specs.FetchRequests.{FetchPolicyValue, is_authorized}
 use Rattle.feed_resolver_request.specs.declared.representation.Representation.{Representation}
@@ -13,28 +14,42 @@ use Rattle.feed_resolver_request.specs.declared.representation.Representation.Th
 use Rattle.feed_resolver_reply.specs.Replies.{ReplyValue, ResponseValue, refusal, reply_with, response_of}
 use Rattle.feed_resolver_reply.specs.declared.status.Status.TheVariants as status
 use Rattle.feed_resolver.specs.declared.feed_replies.FeedTarget.{FeedTarget}
-use Rattle.feed_resolver.specs.declared.feed_replies.FeedTarget.TheVariants.{Releases, Release}
+use Rattle.feed_resolver.specs.declared.feed_replies.FeedTarget.TheVariants.{Releases, End, OtherMethod, Release}
 
--- what a path names in the feed of a node
-abbrev pub target_at : List ℕ → Option FeedTarget
-target_at path =
-    if bytes_eq path (codes "/feed") then Some Releases
-    else (if is_some (strip_prefix (codes "/feed/") path) then Some Release else None)
+-- what a request asks of `/feed` by its method (RFC 9110, section 9.3)
+abbrev pub asked_by : RequestHead → Option FeedTarget
+asked_by head =
+    if is_get head || is_head head then Some Releases
+    else (if bytes_eq head.method (codes "DELETE") then Some End
+    else (if is_unsupported_method head.method then Some OtherMethod else None))
 
--- the same for a request that is a GET or a HEAD; any other names nothing there
+-- what it asks of the feed by its path; below `/feed` only a GET or a HEAD asks for something
+abbrev pub target_at : RequestHead → List ℕ → Option FeedTarget
+target_at head path =
+    if bytes_eq path (codes "/feed") then asked_by head
+    else (if (is_get head || is_head head) && is_some (strip_prefix (codes "/feed/") path) then Some Release else None)
+
+-- the same; without a host it asks for nothing
 abbrev pub feed_target : RequestHead → Option FeedTarget
-feed_target head =
-    if lacks_host head || not (is_get head || is_head head) then None else target_at (path_in (origin_form head.target))
+feed_target head = if lacks_host head then None else target_at head (path_in (origin_form head.target))
 
 -- a reply of status 200 with some body
 abbrev pub IsListReply : ReplyValue → Type 0
-IsListReply reply = (representation : Representation) × (body : List ℕ) × (reply ≡ reply_with status.Good representation body)
+IsListReply reply = (representation : Representation) × (body : List ℕ) × (reply ≡ reply_with status.Listed representation body)
 
--- the reply to such a request: the list only to a client that has the token, and for a release which method is allowed
-abbrev pub IsFeedReply : List ℕ → RequestHead → FeedTarget → ReplyValue → Type 0
-IsFeedReply token head Release reply = reply ≡ refusal status.PostOnly Text (codes "Method")
-IsFeedReply token head Releases reply =
+-- the reply to a client that asks that the fetch end, and has the token or not: 204 if one is under way, and otherwise 409
+abbrev pub IsEndReply : Bool → Bool → ReplyValue → Type 0
+IsEndReply false is_busy reply = reply ≡ refusal status.Unauthorized Text (codes "Unauthorized")
+IsEndReply true true reply = reply ≡ reply_with status.Ended Text []
+IsEndReply true false reply = reply ≡ refusal status.Conflict Text (codes "Idle")
+
+-- the reply to a request: the list, and the end of a fetch, only to a client that has the token
+abbrev pub IsFeedReply : List ℕ → Bool → RequestHead → FeedTarget → ReplyValue → Type 0
+IsFeedReply token is_busy head Release reply = reply ≡ refusal status.PostOnly Text (codes "Method")
+IsFeedReply token is_busy head OtherMethod reply = reply ≡ refusal status.GetOrDelete Text (codes "Method")
+IsFeedReply token is_busy head Releases reply =
     MatchBool (is_authorized token head) (IsListReply reply) (reply ≡ refusal status.Unauthorized Text (codes "Unauthorized"))
+IsFeedReply token is_busy head End reply = IsEndReply (is_authorized token head) is_busy reply
 
 -- the bytes are such a request to a node with this token, and this is the reply to it
 pub record IsFeedAnswer (policy : FetchPolicyValue) (bytes : List ℕ) (keeps : Bool) (response : ResponseValue) : Type 0 where
@@ -45,7 +60,7 @@ pub record IsFeedAnswer (policy : FetchPolicyValue) (bytes : List ℕ) (keeps : 
   pub target : FeedTarget
   pub names : feed_target head ≡ Some target
   pub reply : ReplyValue
-  pub is : IsFeedReply token head target reply
+  pub is : IsFeedReply token policy.is_busy head target reply
   pub written : response ≡ response_of keeps (is_head head) reply
 
 -- the node has no token, or the bytes are no such request
@@ -57,3 +72,27 @@ IsNotAboutFeed policy bytes =
 abbrev pub IsFeedResponse : FetchPolicyValue → List ℕ → Bool → Option ResponseValue → Type 0
 IsFeedResponse policy bytes keeps None = IsNotAboutFeed policy bytes
 IsFeedResponse policy bytes keeps (Some response) = IsFeedAnswer policy bytes keeps response
+
+-- it asks that the fetch end
+abbrev pub is_end : Option FeedTarget → Bool
+is_end None = false
+is_end (Some End) = true
+is_end (Some Releases) = false
+is_end (Some OtherMethod) = false
+is_end (Some Release) = false
+
+-- the request has the token of the node, if there is one
+abbrev pub has_token_of : FetchPolicyValue → RequestHead → Bool
+has_token_of policy head = option_map_or (λ token. is_authorized token head) policy.token false
+
+-- a request with this head ends the fetch that is under way: it asks for that, and has the token
+abbrev pub ends_by : FetchPolicyValue → RequestHead → Bool
+ends_by policy head = policy.is_busy && (is_end (feed_target head) && has_token_of policy head)
+
+-- the bytes are such a request
+abbrev pub EndsFetch : FetchPolicyValue → List ℕ → Type 0
+EndsFetch policy bytes = (head : RequestHead) × BeginsWith bytes head × (ends_by policy head ≡ true)
+
+-- they are not
+abbrev pub EndsNoFetch : FetchPolicyValue → List ℕ → Type 0
+EndsNoFetch policy bytes = HasNoHead bytes ⊎ ((head : RequestHead) × BeginsWith bytes head × (ends_by policy head ≡ false))

@@ -1,10 +1,12 @@
-//! The replies of a node to a GET of `/feed`, which lists the recorded releases, and of what is below it, which takes
-//! only a POST.
-ghost use Rattle.std.specs.Prelude.{◌≡◌, IfOk, IfSome};
+//! The replies of a node about its feed: to a GET of `/feed`, which lists the recorded releases, to a DELETE of it,
+//! which ends the fetch that is under way, and to a GET of what is below it, which takes only a POST.
+ghost use Rattle.std.specs.Prelude.{◌≡◌, IfOk, IfSome, MatchBool};
 ghost use Rattle.httparse.specs.Grammar.{RequestHead};
 ghost use Rattle.feed_http_heads.specs.Options.{SaysWhetherItKeeps};
 ghost use Rattle.feed_http_heads.specs.Requests.{IsInBuffer, HasHead};
-ghost use Rattle.feed_resolver.specs.FeedReplies.{feed_target, IsFeedReply, IsFeedResponse, IsListReply};
+ghost use Rattle.feed_resolver.specs.FeedReplies.{asked_by, ends_by, feed_target, has_token_of, is_end, target_at};
+ghost use Rattle.feed_resolver.specs.FeedReplies.{EndsFetch, EndsNoFetch, IsEndReply, IsFeedReply, IsFeedResponse};
+ghost use Rattle.feed_resolver.specs.FeedReplies.{IsListReply};
 
 use feed_http_heads::{FIELD_LIMIT, Request, origin_form};
 use feed_keep::Keep;
@@ -15,36 +17,63 @@ use feed_resolver_reply::{
     Piece, Reply, Response, Status, put_comma, put_list_end, put_list_start, refusal,
 };
 use feed_resolver_request::{
-    FetchPolicy, Representation, find_request, is_authorized, path_in, query_in, representation_of,
+    FetchPolicy, Representation, find_request, is_authorized, is_unsupported_method, path_in,
+    query_in, representation_of,
 };
 use httparse::spans::EMPTY_HEADER_SPAN;
 use std::alloc::{AllocError, Global};
 use std::io::Write;
 
-/// A target of a GET or a HEAD in the feed of a node.
+/// What a request asks of the feed of a node.
 #[derive(Clone, Copy, Debug, PartialEq, Eq)]
 pub enum FeedTarget {
-    /// `/feed`: the recorded releases.
+    /// A GET or a HEAD of `/feed`: the recorded releases.
     Releases,
-    /// `/feed/` and more: a release, which only a POST may name.
+    /// A DELETE of `/feed`: that the fetch under way end.
+    End,
+    /// Another method of `/feed`, also OPTIONS: no script of another site may send a token.
+    OtherMethod,
+    /// A GET or a HEAD of `/feed/` and more: a release, which only a POST may name.
     Release,
+}
+
+// Returns what a request asks of `/feed`.
+fn asked_by(request: &Request<'_>) -> Option<FeedTarget>
+    requires { IsInBuffer request.now }
+    ensures { (head : RequestHead) → HasHead request.now head → result ≡ asked_by head }
+{
+    if request.is_get() || request.is_head() {
+        Some(FeedTarget::Releases)
+    } else if request.method() == b"DELETE".as_slice() {
+        Some(FeedTarget::End)
+    } else if is_unsupported_method(request.method()) {
+        Some(FeedTarget::OtherMethod)
+    } else {
+        None
+    }
+}
+
+fn target_at(request: &Request<'_>, path: &[u8]) -> Option<FeedTarget>
+    requires { IsInBuffer request.now }
+    ensures { (head : RequestHead) → HasHead request.now head → result ≡ target_at head path.now }
+{
+    if path == b"/feed".as_slice() {
+        asked_by(request)
+    } else if (request.is_get() || request.is_head()) && strip_prefix(path, b"/feed/").is_some() {
+        Some(FeedTarget::Release)
+    } else {
+        None
+    }
 }
 
 fn feed_target(request: &Request<'_>) -> Option<FeedTarget>
     requires { IsInBuffer request.now }
     ensures { (head : RequestHead) → HasHead request.now head → result ≡ feed_target head }
 {
-    if request.lacks_host() || !(request.is_get() || request.is_head()) {
+    if request.lacks_host() {
         return None;
     }
-    let path = path_in(origin_form(request.target()));
-    if path == b"/feed".as_slice() {
-        Some(FeedTarget::Releases)
-    } else if strip_prefix(path, b"/feed/").is_some() {
-        Some(FeedTarget::Release)
-    } else {
-        None
-    }
+    target_at(request, path_in(origin_form(request.target())))
 }
 
 // Writes why a release is broken as a value of JSON.
@@ -122,26 +151,42 @@ fn list_reply<K: Keep + Drop>(
     let mut body = Vec::new(alloc);
     if representation == Representation::Json {
         put_json(alloc, &mut body, &statuses)?;
-        return Ok(Reply::new(Status::Good, Representation::Json, body));
+        return Ok(Reply::new(Status::Listed, Representation::Json, body));
     }
     put_lines(&mut body, &statuses)?;
-    Ok(Reply::new(Status::Good, Representation::Text, body))
+    Ok(Reply::new(Status::Listed, Representation::Text, body))
+}
+
+// Returns the reply to a client that asks that the fetch under way end, if one is, and has the token or not.
+fn end_reply(alloc: Global, has_token: bool, is_busy: bool) -> Result<Reply, AllocError>
+    ensures { IfOk result (IsEndReply has_token is_busy) }
+{
+    let text = Representation::Text;
+    if !has_token {
+        refusal(alloc, Status::Unauthorized, text, b"Unauthorized")
+    } else if is_busy {
+        Ok(Reply::new(Status::Ended, text, Vec::new(alloc)))
+    } else {
+        refusal(alloc, Status::Conflict, text, b"Idle")
+    }
 }
 
 fn feed_reply<K: Keep + Drop>(
     alloc: Global,
     token: &[u8],
+    is_busy: bool,
     request: &Request<'_>,
     target: FeedTarget,
     feed: &Feed<K>,
 ) -> Result<Reply, AllocError>
     requires { IsInBuffer request.now }
     ensures { IfOk result (λ reply. (head : RequestHead) → HasHead request.now head
-        → IsFeedReply token.now head target reply) }
+        → IsFeedReply token.now is_busy head target reply) }
 {
     let text = Representation::Text;
     match target {
         FeedTarget::Release => refusal(alloc, Status::PostOnly, text, b"Method"),
+        FeedTarget::OtherMethod => refusal(alloc, Status::GetOrDelete, text, b"Method"),
         FeedTarget::Releases => {
             if !is_authorized(token, request) {
                 return refusal(alloc, Status::Unauthorized, text, b"Unauthorized");
@@ -149,13 +194,14 @@ fn feed_reply<K: Keep + Drop>(
             let query = query_in(origin_form(request.target()));
             list_reply(alloc, feed, representation_of(query, &request.fields()))
         }
+        FeedTarget::End => end_reply(alloc, is_authorized(token, request), is_busy),
     }
 }
 
-/// Returns the reply of a node to a GET or HEAD of `/feed`, or of a target below it. To a client that has the token the
-/// first one lists the recorded releases: the name, the state, the size, the missing bytes and the reason of each.
-/// Returns none for any other request, and for a node without a token. `keeps` is whether the connection persists after
-/// the reply.
+/// Returns the reply of a node to a request for `/feed`, or to a GET or HEAD of a target below it. To a client that has
+/// the token a GET lists the recorded releases: the name, the state, the size, the missing bytes and the reason of
+/// each. A DELETE of such a client ends the fetch that is under way, if one is. Returns none for any other request, and
+/// for a node without a token. `keeps` is whether the connection persists after the reply.
 ///
 /// # Errors
 ///
@@ -180,7 +226,42 @@ pub fn respond_about_feed<K: Keep + Drop>(
     let Some(target) = feed_target(&request) else {
         return Ok(None);
     };
-    let reply = feed_reply(alloc, token, &request, target, feed)?;
+    let reply = feed_reply(alloc, token, policy.is_busy, &request, target, feed)?;
     let response = reply.response(alloc, keeps, request.is_head())?;
     Ok(Some(response))
+}
+
+fn is_end(target: Option<FeedTarget>) -> bool
+    ensures { result ≡ is_end target }
+{
+    matches!(target, Some(FeedTarget::End))
+}
+
+fn has_token_of(policy: &FetchPolicy<'_>, request: &Request<'_>) -> bool
+    requires { IsInBuffer request.now }
+    ensures { (head : RequestHead) → HasHead request.now head → result ≡ has_token_of policy.now head }
+{
+    match policy.token {
+        Some(token) => is_authorized(token, request),
+        None => false,
+    }
+}
+
+fn ends_by(policy: &FetchPolicy<'_>, request: &Request<'_>) -> bool
+    requires { IsInBuffer request.now }
+    ensures { (head : RequestHead) → HasHead request.now head → result ≡ ends_by policy.now head }
+{
+    policy.is_busy && is_end(feed_target(request)) && has_token_of(policy, request)
+}
+
+/// Returns whether a request ends the fetch that is under way: it is a DELETE of `/feed`, it has the token, and a fetch
+/// is under way. The reply to it is 204.
+pub fn ends_fetch(bytes: &[u8], policy: &FetchPolicy<'_>) -> bool
+    ensures { MatchBool result (EndsFetch policy.now bytes.now) (EndsNoFetch policy.now bytes.now) }
+{
+    let mut headers = [EMPTY_HEADER_SPAN; FIELD_LIMIT];
+    match find_request(bytes, &mut headers) {
+        Some(request) => ends_by(policy, &request),
+        None => false,
+    }
 }

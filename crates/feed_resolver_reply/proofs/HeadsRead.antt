@@ -76,12 +76,14 @@ preflight_pairs methods =
 
 -- the fields that a status asks for
 abbrev status_pairs : Status → List ℕ → Pairs
+status_pairs status.Listed location = (codes "Allow", codes "GET, HEAD, DELETE") ∷ []
 status_pairs status.Preflight location = preflight_pairs (codes "GET, HEAD")
 status_pairs status.QueryPreflight location = preflight_pairs (codes "GET, HEAD, POST")
 status_pairs status.Found location = (codes "Location", location) ∷ []
 status_pairs status.MethodNotAllowed location = (codes "Allow", codes "GET, HEAD") ∷ []
 status_pairs status.PostOnly location = (codes "Allow", codes "POST") ∷ []
 status_pairs status.GetOrPost location = (codes "Allow", codes "GET, HEAD, POST") ∷ []
+status_pairs status.GetOrDelete location = (codes "Allow", codes "GET, HEAD, DELETE") ∷ []
 status_pairs status.Unauthorized location = (codes "WWW-Authenticate", codes "Bearer") ∷ []
 status_pairs code location = []
 
@@ -131,6 +133,8 @@ head_of keeps reply = record {
 
 status_written : (code : Status) (location rest : List ℕ) → status_field code location ++ rest ≡ lines (status_pairs code location) rest
 status_written status.Good location rest = refl
+status_written status.Listed location rest = refl
+status_written status.Ended location rest = refl
 status_written status.Preflight location rest = refl
 status_written status.QueryPreflight location rest = refl
 status_written status.Found location rest = simp append-nil refl
@@ -141,6 +145,7 @@ status_written status.NotFound location rest = refl
 status_written status.MethodNotAllowed location rest = refl
 status_written status.PostOnly location rest = refl
 status_written status.GetOrPost location rest = refl
+status_written status.GetOrDelete location rest = refl
 status_written status.Conflict location rest = refl
 status_written status.LengthRequired location rest = refl
 status_written status.ContentTooLarge location rest = refl
@@ -218,6 +223,8 @@ status_digits : (code : Status) → (length (decimal (status_code code)) ≡ 3) 
     × (digits_value 10 (decimal (status_code code)) ≡ status_code code) × (list_all is_value_byte (reason_text code) ≡ true)
 unfolding digits httparse_on_literals
 status_digits status.Good = (refl, refl, refl, refl)
+status_digits status.Listed = (refl, refl, refl, refl)
+status_digits status.Ended = (refl, refl, refl, refl)
 status_digits status.Preflight = (refl, refl, refl, refl)
 status_digits status.QueryPreflight = (refl, refl, refl, refl)
 status_digits status.Found = (refl, refl, refl, refl)
@@ -228,6 +235,7 @@ status_digits status.NotFound = (refl, refl, refl, refl)
 status_digits status.MethodNotAllowed = (refl, refl, refl, refl)
 status_digits status.PostOnly = (refl, refl, refl, refl)
 status_digits status.GetOrPost = (refl, refl, refl, refl)
+status_digits status.GetOrDelete = (refl, refl, refl, refl)
 status_digits status.Conflict = (refl, refl, refl, refl)
 status_digits status.LengthRequired = (refl, refl, refl, refl)
 status_digits status.ContentTooLarge = (refl, refl, refl, refl)
@@ -267,6 +275,8 @@ literals_valid ps are = All-from_recursion IsField (fields_of ps) (each ps are)
 status_valid : (code : Status) (location : List ℕ) → AllPass is_uri_byte location → All IsField (fields_of (status_pairs code location))
 unfolding httparse_on_literals
 status_valid status.Good location passes = literals_valid (status_pairs status.Good location) refl
+status_valid status.Listed location passes = literals_valid (status_pairs status.Listed location) refl
+status_valid status.Ended location passes = literals_valid (status_pairs status.Ended location) refl
 status_valid status.Preflight location passes = literals_valid (status_pairs status.Preflight location) refl
 status_valid status.QueryPreflight location passes = literals_valid (status_pairs status.QueryPreflight location) refl
 status_valid status.Found location passes = All-from_recursion IsField (field (codes "Location") location ∷ []) (visible_field (codes "Location") location (omega arith) refl passes, tt)
@@ -277,6 +287,7 @@ status_valid status.NotFound location passes = literals_valid (status_pairs stat
 status_valid status.MethodNotAllowed location passes = literals_valid (status_pairs status.MethodNotAllowed location) refl
 status_valid status.PostOnly location passes = literals_valid (status_pairs status.PostOnly location) refl
 status_valid status.GetOrPost location passes = literals_valid (status_pairs status.GetOrPost location) refl
+status_valid status.GetOrDelete location passes = literals_valid (status_pairs status.GetOrDelete location) refl
 status_valid status.Conflict location passes = literals_valid (status_pairs status.Conflict location) refl
 status_valid status.LengthRequired location passes = literals_valid (status_pairs status.LengthRequired location) refl
 status_valid status.ContentTooLarge location passes = literals_valid (status_pairs status.ContentTooLarge location) refl
@@ -411,6 +422,8 @@ AreValues ps sizes media tagged caching varies located connections =
 
 status_values : (code : Status) (location : List ℕ) → AreValues (status_pairs code location) [] [] [] [] [] (locations code (trim_ows (32 ∷ location))) []
 status_values status.Good location = (refl, refl, refl, refl, refl, refl, refl)
+status_values status.Listed location = (refl, refl, refl, refl, refl, refl, refl)
+status_values status.Ended location = (refl, refl, refl, refl, refl, refl, refl)
 status_values status.Preflight location = (refl, refl, refl, refl, refl, refl, refl)
 status_values status.QueryPreflight location = (refl, refl, refl, refl, refl, refl, refl)
 status_values status.Found location = (refl, refl, refl, refl, refl, refl, refl)
@@ -421,6 +434,7 @@ status_values status.NotFound location = (refl, refl, refl, refl, refl, refl, re
 status_values status.MethodNotAllowed location = (refl, refl, refl, refl, refl, refl, refl)
 status_values status.PostOnly location = (refl, refl, refl, refl, refl, refl, refl)
 status_values status.GetOrPost location = (refl, refl, refl, refl, refl, refl, refl)
+status_values status.GetOrDelete location = (refl, refl, refl, refl, refl, refl, refl)
 status_values status.Conflict location = (refl, refl, refl, refl, refl, refl, refl)
 status_values status.LengthRequired location = (refl, refl, refl, refl, refl, refl, refl)
 status_values status.ContentTooLarge location = (refl, refl, refl, refl, refl, refl, refl)

@@ -57,6 +57,8 @@ refusal code representation name = reply_with code (fault_representation represe
 -- the number of a status (RFC 9110, section 15)
 abbrev pub status_code : Status → ℕ
 status_code status.Good = 200
+status_code status.Listed = 200
+status_code status.Ended = 204
 status_code status.Preflight = 204
 status_code status.QueryPreflight = 204
 status_code status.Found = 302
@@ -67,6 +69,7 @@ status_code status.NotFound = 404
 status_code status.MethodNotAllowed = 405
 status_code status.PostOnly = 405
 status_code status.GetOrPost = 405
+status_code status.GetOrDelete = 405
 status_code status.Conflict = 409
 status_code status.LengthRequired = 411
 status_code status.ContentTooLarge = 413
@@ -77,7 +80,7 @@ status_code status.NotImplemented = 501
 abbrev pub is_bodiless : ℕ → Bool
 is_bodiless code = code == 204 || code == 304
 
--- whether it is 200
+-- whether it is 200, of a reply that depends on the releases
 abbrev pub is_good : Status → Bool
 is_good status.Good = true
 is_good code = false
@@ -85,6 +88,8 @@ is_good code = false
 -- its reason
 abbrev pub reason_text : Status → List ℕ
 reason_text status.Good = codes "OK"
+reason_text status.Listed = codes "OK"
+reason_text status.Ended = codes "No Content"
 reason_text status.Preflight = codes "No Content"
 reason_text status.QueryPreflight = codes "No Content"
 reason_text status.Found = codes "Found"
@@ -95,6 +100,7 @@ reason_text status.NotFound = codes "Not Found"
 reason_text status.MethodNotAllowed = codes "Method Not Allowed"
 reason_text status.PostOnly = codes "Method Not Allowed"
 reason_text status.GetOrPost = codes "Method Not Allowed"
+reason_text status.GetOrDelete = codes "Method Not Allowed"
 reason_text status.Conflict = codes "Conflict"
 reason_text status.LengthRequired = codes "Length Required"
 reason_text status.ContentTooLarge = codes "Content Too Large"
@@ -114,12 +120,14 @@ type_text Html = codes "text/html; charset=utf-8"
 -- the fields that a status asks for (RFC 9110, sections 10.2.1, 10.2.2 and 11.6.1); those of a preflight are of the Fetch
 -- standard
 abbrev pub status_field : Status → List ℕ → List ℕ
+status_field status.Listed location = joined (codes "\r\nAllow: GET, HEAD, DELETE" ∷ [])
 status_field status.Preflight location = joined (PREFLIGHT_FIELDS.now ∷ [])
 status_field status.QueryPreflight location = joined (QUERY_PREFLIGHT_FIELDS.now ∷ [])
 status_field status.Found location = joined (codes "\r\nLocation: " ∷ location ∷ [])
 status_field status.MethodNotAllowed location = joined (codes "\r\nAllow: GET, HEAD" ∷ [])
 status_field status.PostOnly location = joined (codes "\r\nAllow: POST" ∷ [])
 status_field status.GetOrPost location = joined (codes "\r\nAllow: GET, HEAD, POST" ∷ [])
+status_field status.GetOrDelete location = joined (codes "\r\nAllow: GET, HEAD, DELETE" ∷ [])
 status_field status.Unauthorized location = joined (codes "\r\nWWW-Authenticate: Bearer" ∷ [])
 status_field code location = []
 

@@ -116,6 +116,9 @@ fn put_status_field(out: &mut Vec<u8>, status: Status, location: &[u8]) -> Resul
     ensures { OnOk result (out.new.items ≡ out.old.items ++ status_field status location.now) }
 {
     match status {
+        Status::Listed | Status::GetOrDelete => {
+            put_all(out, &[Piece::Plain(b"\r\nAllow: GET, HEAD, DELETE")])
+        }
         Status::Preflight => put_all(out, &[Piece::Plain(PREFLIGHT_FIELDS)]),
         Status::QueryPreflight => put_all(out, &[Piece::Plain(QUERY_PREFLIGHT_FIELDS)]),
         Status::Found => put_all(

@@ -7,6 +7,10 @@ ghost use Rattle.feed_resolver_reply.specs.Replies.{status_code, reason_text, is
 pub enum Status {
     /// 200
     Good,
+    /// 200, of the feed, which takes a DELETE too
+    Listed,
+    /// 204, to a request that a fetch end
+    Ended,
     /// 204, to a preflight of a target that takes a GET
     Preflight,
     /// 204, to a preflight of a target that takes a GET or a POST
@@ -27,6 +31,8 @@ pub enum Status {
     PostOnly,
     /// 405, of a target that takes a POST too
     GetOrPost,
+    /// 405, of the feed
+    GetOrDelete,
     /// 409
     Conflict,
     /// 411
@@ -44,14 +50,15 @@ pub(crate) fn status_code(status: Status) -> u16
     ensures { result ≡ status_code status }
 {
     match status {
-        Status::Good => 200,
-        Status::Preflight | Status::QueryPreflight => 204,
+        Status::Good | Status::Listed => 200,
+        Status::Ended | Status::Preflight | Status::QueryPreflight => 204,
         Status::Found => 302,
         Status::NotModified => 304,
         Status::BadRequest => 400,
         Status::Unauthorized => 401,
         Status::NotFound => 404,
-        Status::MethodNotAllowed | Status::PostOnly | Status::GetOrPost => 405,
+        Status::MethodNotAllowed | Status::PostOnly | Status::GetOrPost | Status::GetOrDelete =>
+            405,
         Status::Conflict => 409,
         Status::LengthRequired => 411,
         Status::ContentTooLarge => 413,
@@ -65,14 +72,15 @@ pub(crate) fn reason_text(status: Status) -> &'static [u8]
     ensures { result.now ≡ reason_text status }
 {
     match status {
-        Status::Good => b"OK",
-        Status::Preflight | Status::QueryPreflight => b"No Content",
+        Status::Good | Status::Listed => b"OK",
+        Status::Ended | Status::Preflight | Status::QueryPreflight => b"No Content",
         Status::Found => b"Found",
         Status::NotModified => b"Not Modified",
         Status::BadRequest => b"Bad Request",
         Status::Unauthorized => b"Unauthorized",
         Status::NotFound => b"Not Found",
-        Status::MethodNotAllowed | Status::PostOnly | Status::GetOrPost => b"Method Not Allowed",
+        Status::MethodNotAllowed | Status::PostOnly | Status::GetOrPost | Status::GetOrDelete =>
+            b"Method Not Allowed",
         Status::Conflict => b"Conflict",
         Status::LengthRequired => b"Length Required",
         Status::ContentTooLarge => b"Content Too Large",
@@ -87,6 +95,6 @@ pub(crate) fn is_bodiless(status: Status) -> bool
 {
     matches!(
         status,
-        Status::Preflight | Status::QueryPreflight | Status::NotModified
+        Status::Ended | Status::Preflight | Status::QueryPreflight | Status::NotModified
     )
 }

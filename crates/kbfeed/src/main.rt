@@ -170,10 +170,12 @@ fn upstream_of(source: Option<Source<'_>>) -> Option<Upstream<'_>> {
         addr,
         token_file,
         piece,
+        fetch_limit,
     } = source?;
     Some(Upstream {
         addr,
         token_file,
         piece,
+        fetch_limit,
     })
 }

@@ -26,4 +26,5 @@ returns g c =
     (later_after c.args.node.now c.turn.new.node c.catch_up.new.self
     (later_after c.args.node.now c.begin_day.new.node c.turn.new.node c.begin_day.ensures c.turn.ensures.later) c.catch_up.ensures.later)
     (later_after c.catch_up.new.self c.advance.new.node c.begin.new.node c.advance.ensures
-    (subst (λ node. IsLaterNode node c.begin.new.node) c.note_end.ensures c.begin.ensures))
+    (later_after c.advance.new.node c.cancel.new.node c.begin.new.node c.cancel.ensures
+    (subst (λ node. IsLaterNode node c.begin.new.node) c.note_end.ensures c.begin.ensures)))
