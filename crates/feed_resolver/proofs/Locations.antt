@@ -1,6 +1,6 @@
 -- The location of a reply can be stated in its head.
 use Rattle.std.proofs.Common.{◌≡◌, ℕ, zero, List, [], Bool, true, false, Option, Some, None, Result, Ok, Err, refl, arith}
-use Rattle.std.specs.Prelude.{if◌then◌else◌, ◌&&◌, ◌||◌, not, position, codes, nat_le, length}
+use Rattle.std.specs.Prelude.{if◌then◌else◌, is_some, ◌&&◌, ◌||◌, not, position, codes, nat_le, length}
 use Rattle.std.specs.List.{list_all}
 use Rattle.std.specs.Option.{option_map_or}
 use Rattle.std.proofs.lemmas.Bool.Decides.{nat_tests}
@@ -36,7 +36,8 @@ use Rattle.feed_titles.specs.Asks as title_asks
 use Rattle.feed_titles.specs.declared.asked.TitleFault.{TitleFault}
 use Rattle.feed_titles.specs.declared.asked.TitleFault.TheVariants.{BadStart, NoText, TooLong}
 use Rattle.feed_releases.specs.Actives.{ActiveValue}
-use Rattle.feed_site.specs.Urls.{is_link, url_limit, is_visible, begins_with}
+use Rattle.feed_site.specs.Hosts.{host_of, is_link}
+use Rattle.feed_site.specs.Urls.{url_limit, is_visible}
 use Rattle.feed_resolver_hits.specs.Hits.{best_link}
 use Rattle.feed_resolver_hits.specs.Tallies.{counted, sole_link}
 use Rattle.feed_resolver_hits.proofs.Redirects.{best_is}
@@ -52,14 +53,17 @@ second : (a b : Bool) → (a && b) ≡ true → b ≡ true
 second true b e = e
 second false b e = absurd (cc)
 
+first : (a b : Bool) → (a && b) ≡ true → a ≡ true
+first true b e = refl
+first false b e = absurd (cc)
+
 visible_byte : (b : ℕ) → is_visible b ≡ true → is_uri_byte b ≡ true
 visible_byte b visible = grind (arith, nat_tests)
 
 pub link_location : (url : List ℕ) → is_link url ≡ true → IsLocation url
 link_location url link = All-weaker (λ b. is_visible b ≡ true) (λ b. is_uri_byte b ≡ true) visible_byte url
     (AllPass-from_list_all is_visible url
-    (second (begins_with (codes "http://") url || begins_with (codes "https://") url) (list_all is_visible url)
-    (second (nat_le (length url) url_limit) ((begins_with (codes "http://") url || begins_with (codes "https://") url) && list_all is_visible url) link)))
+    (first (list_all is_visible url) (is_some (host_of url)) (second (nat_le (length url) url_limit) (list_all is_visible url && is_some (host_of url)) link)))
 
 -- a reply with a location that can be stated, and without a tag
 abbrev pub IsLocated : ReplyValue → Type 0

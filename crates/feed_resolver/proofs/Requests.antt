@@ -35,7 +35,7 @@ use Rattle.feed_resolver_hits.specs.Hits.{ReleaseHitValue, best_link}
 use Rattle.feed_resolver_hits.specs.Asked.{asked_of}
 use Rattle.feed_resolver_hits.specs.Laws.{IsSoleHit}
 use Rattle.feed_resolver_hits.specs.Ranks.{IsBestLink}
-use Rattle.feed_site.specs.Urls.{is_link}
+use Rattle.feed_site.specs.Hosts.{is_link}
 use Rattle.feed_resolver_hits.specs.Tallies.{counted, sole_link}
 use Rattle.feed_page_texts.specs.declared.table.Text.TheVariants as advice
 use Rattle.feed_resolver_page.specs.ErrorPages.{error_reply}

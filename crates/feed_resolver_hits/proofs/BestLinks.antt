@@ -3,7 +3,7 @@ use Rattle.std.proofs.Common.{◌≡◌, ◌<◌, ◌≤◌, ℕ, zero, suc, Lis
 use Rattle.std.specs.Prelude.{if◌then◌else◌, nat_lt, option_map, slice_get}
 use Rattle.std.proofs.lemmas.Bool.{cases_Bool, false≢true}
 use Rattle.std.proofs.lemmas.Bool.Decides.{nat_tests}
-use Rattle.feed_site.specs.Urls.{is_link}
+use Rattle.feed_site.specs.Hosts.{is_link}
 use Rattle.feed_resolver_hits.specs.Hits.{ReleaseHitValue, LinkValue, link_with, link_text, link_url, link_of, better, highest_link, best_link, rank_of}
 use Rattle.feed_resolver_hits.specs.Ranks.{IsLinkAt, RanksAbove, IsBestLink}
 

@@ -24,7 +24,8 @@ use Rattle.feed_resolver_hits.specs.EmbargoWords.{embargo_words}
 use Rattle.feed_resolver_hits.specs.Hits.{ReleaseHitValue, link_text, name_text}
 use Rattle.feed_resolver_hits.specs.HitsJson.{availability_text, release_members, grade_members, title_members, access_members, hit_object}
 use Rattle.feed_resolver_hits.specs.Coverages.{day_text, days_words, volume_text, volumes_words}
-use Rattle.feed_resolver_hits.specs.HitsJson.{days_members, host_text, row_members, target_members, volumes_members}
+use Rattle.feed_site.specs.Hosts.{shown_host}
+use Rattle.feed_resolver_hits.specs.HitsJson.{days_members, row_members, target_members, volumes_members}
 use Rattle.feed_resolver_hits.specs.HitsJson.{more_start, more_object, more_items, hits_json, hit_value, more_value, item_values}
 use Rattle.feed_resolver_hits.specs.Laws.{HitsAreJson}
 
@@ -166,12 +167,12 @@ unfolding lex content
 volumes_key = record { lexed = λ rest. refl }
 
 abbrev target_lexemes : RowValue → List Lexeme
-target_lexemes row = string_lexemes (codes "target") row.url (string_lexemes (codes "host") (host_text row.url) [])
+target_lexemes row = string_lexemes (codes "target") row.url (string_lexemes (codes "host") (shown_host row.url) [])
 
 lexes_target : (row : RowValue) → Lexes (target_members row) (target_lexemes row)
 unfolding target_members
 lexes_target row =
-    with_string (codes ",\"target\":") row.url _ _ _ target_key (with_string (codes ",\"host\":") (host_text row.url) [] _ _ host_key nothing)
+    with_string (codes ",\"target\":") row.url _ _ _ target_key (with_string (codes ",\"host\":") (shown_host row.url) [] _ _ host_key nothing)
 
 abbrev days_lexemes : RowValue → List Lexeme
 days_lexemes row =

@@ -2,7 +2,7 @@
 use Rattle.std.proofs.Common.{◌≡◌, ◌≤◌, ℕ, List, Bool, true, false, Option, Some, None, refl, sym, ap, arith}
 use Rattle.std.specs.Prelude.{if◌then◌else◌, is_some, nat_lt, option_map}
 use Rattle.std.proofs.lemmas.Bool.Decides.{nat_tests}
-use Rattle.feed_site.specs.Urls.{is_link}
+use Rattle.feed_site.specs.Hosts.{is_link}
 use Rattle.feed_resolver_hits.specs.Hits.{ReleaseHitValue, LinkValue, better, link_text, link_with, rank_of}
 use Rattle.feed_resolver_hits.specs.Tallying.{with_link}
 

@@ -1,7 +1,7 @@
 -- Where a reader is sent on.
 use Rattle.std.proofs.Common.{◌≡◌, ℕ, List, [], ◌∷◌, Bool, true, false, Option, Some, None, subst, refl}
 use Rattle.std.specs.Prelude.{if◌then◌else◌, nat_lt, option_map}
-use Rattle.feed_site.specs.Urls.{is_link}
+use Rattle.feed_site.specs.Hosts.{is_link}
 use Rattle.feed_resolver_hits.specs.Hits.{ReleaseHitValue, LinkValue, link_with, link_text, link_url, link_of, better, highest_link, best_link, rank_of}
 
 abbrev IsLinkIfSome : Option LinkValue → Type 0

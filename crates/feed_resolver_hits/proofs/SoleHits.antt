@@ -7,7 +7,7 @@ use Rattle.feed_embargo.specs.declared.availability.Availability.{Availability}
 use Rattle.feed_embargo.specs.declared.availability.Availability.TheVariants.{Available, Partly, NotCompared, Embargoed}
 use Rattle.feed_answer.specs.declared.grade.Grade.{Grade}
 use Rattle.feed_answer.specs.declared.grade.Grade.TheVariants.{Inside, Overlap, Untested}
-use Rattle.feed_site.specs.Urls.{is_link}
+use Rattle.feed_site.specs.Hosts.{is_link}
 use Rattle.feed_resolver_hits.specs.Hits.{ReleaseHitValue, LinkValue, best_link, better, is_available, is_certain, is_full_text, is_inside, link_of, link_text, link_url, link_with, rank_of}
 use Rattle.feed_resolver_hits.specs.Tallies.{link_if_certain, sole_link, tally_of, text_limit, text_size}
 use Rattle.feed_resolver_hits.specs.Laws.{IsSoleHit, SoleLinkIsOfSoleHit}

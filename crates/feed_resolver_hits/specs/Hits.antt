@@ -21,7 +21,7 @@ use Rattle.feed_site.specs.Held.{library_has}
 use Rattle.feed_site.specs.Packages.{package_place}
 use Rattle.feed_site.specs.Proxies.{prefix_for, through}
 use Rattle.feed_site.specs.Site as site_file
-use Rattle.feed_site.specs.Urls.{is_link}
+use Rattle.feed_site.specs.Hosts.{is_link}
 
 -- a hit, its release, how the days that the query asks for lie in those that are open to readers, the prefix of its link, if
 -- that goes through a proxy, the place of its package in the order of the site, and whether the library has all those days

@@ -1,5 +1,5 @@
 -- The hits of a query as JSON.
-use Rattle.std.specs.Prelude.{ℕ, ◌==◌, Bool, true, false, if◌then◌else◌, List, [], ◌∷◌, ◌++◌, length, map, codes, unwrap_or}
+use Rattle.std.specs.Prelude.{ℕ, ◌==◌, Bool, true, false, if◌then◌else◌, List, [], ◌∷◌, ◌++◌, length, map, codes}
 use Rattle.std.specs.Fmt.{decimal}
 use Rattle.json.specs.Json.{Json, object, string, number, Members, member, no_members}
 use Rattle.feed_names.specs.ReleaseName.{Name}
@@ -10,7 +10,7 @@ use Rattle.feed_answer.specs.Grades.{grade_text}
 use Rattle.feed_resolver_reply.specs.JsonStrings.{json_string}
 use Rattle.feed_resolver_reply.specs.JsonLists.{comma_before, items_from}
 use Rattle.feed_resolver_reply.specs.Pieces.{joined}
-use Rattle.feed_site.specs.Urls.{host_of}
+use Rattle.feed_site.specs.Hosts.{shown_host}
 use Rattle.feed_resolver_hits.specs.Coverages.{day_text, days_words, volume_text, volumes_words}
 use Rattle.feed_resolver_hits.specs.EmbargoWords.{embargo_words}
 use Rattle.feed_resolver_hits.specs.Hits.{ReleaseHitValue, link_text, name_text}
@@ -28,13 +28,9 @@ title_members row link = joined (
     ∷ codes ",\"title_id\":" ∷ json_string row.title_id
     ∷ codes ",\"depth\":" ∷ json_string row.depth ∷ [])
 
--- the host of a URL, or nothing if it has none
-abbrev pub host_text : List ℕ → List ℕ
-host_text url = unwrap_or (host_of url) []
-
--- those for its URL without a proxy, and for the platform
+-- those for its URL without a proxy, and for the host to which it leads
 unfoldable pub target_members : RowValue → List ℕ
-target_members row = joined (codes ",\"target\":" ∷ json_string row.url ∷ codes ",\"host\":" ∷ json_string (host_text row.url) ∷ [])
+target_members row = joined (codes ",\"target\":" ∷ json_string row.url ∷ codes ",\"host\":" ∷ json_string (shown_host row.url) ∷ [])
 
 -- those for its days and for its volumes, also in words
 unfoldable pub days_members : RowValue → List ℕ
@@ -116,7 +112,7 @@ hit_value found = object (
     (text_member (codes "title_id") found.hit.row.title_id
     (text_member (codes "depth") found.hit.row.depth
     (text_member (codes "target") found.hit.row.url
-    (text_member (codes "host") (host_text found.hit.row.url)
+    (text_member (codes "host") (shown_host found.hit.row.url)
     (text_member (codes "first_day") (day_text found.hit.row.first_day)
     (text_member (codes "last_day") (day_text found.hit.row.last_day)
     (text_member (codes "days_words") (days_words found.hit.row)

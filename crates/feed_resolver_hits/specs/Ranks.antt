@@ -1,6 +1,6 @@
 -- The order of hits: by their ranks, and of equal ranks by their order in the answer.
 use Rattle.std.specs.Prelude.{◌≡◌, ◌<◌, ◌⊎◌, ◌==◌, ℕ, zero, suc, true, List, [], ◌++◌, Option, Some, None, filter, slice_get}
-use Rattle.feed_site.specs.Urls.{is_link}
+use Rattle.feed_site.specs.Hosts.{is_link}
 use Rattle.feed_resolver_hits.specs.Hits.{ReleaseHitValue, availability_rank, grade_rank, link_text, place_rank, rank_of, text_rank}
 
 -- the hit at this place, which may be linked to

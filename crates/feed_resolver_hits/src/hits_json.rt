@@ -3,10 +3,11 @@ ghost use Rattle.std.specs.Prelude.{◌≡◌, ◌++◌, OnOk};
 ghost use Rattle.feed_answer.specs.Grades.{grade_text};
 ghost use Rattle.feed_resolver_reply.specs.JsonLists.{items_from};
 ghost use Rattle.feed_resolver_hits.specs.HitsJson.{availability_text, release_members, grade_members, title_members};
-ghost use Rattle.feed_resolver_hits.specs.HitsJson.{access_members, days_members, hit_object, host_text};
+ghost use Rattle.feed_resolver_hits.specs.HitsJson.{access_members, days_members, hit_object};
 ghost use Rattle.feed_resolver_hits.specs.HitsJson.{row_members, target_members, volumes_members};
 ghost use Rattle.feed_resolver_hits.specs.HitsJson.{more_start, more_object, more_items, hits_json};
 ghost use Rattle.feed_resolver_hits.specs.Tallying.{tally_from};
+ghost use Rattle.feed_site.specs.Hosts.{shown_host};
 
 use crate::coverage::{day_text, days_words, volume_text, volumes_words};
 use crate::embargo_words::embargo_words;
@@ -18,7 +19,7 @@ use feed_kbart::Row;
 use feed_names::ReleaseName;
 use feed_pieces::put_all;
 use feed_resolver_reply::{Piece, put_comma, put_list_end, put_list_start};
-use feed_site::host_of;
+use feed_site::shown_host;
 use std::alloc::AllocError;
 
 fn grade_name(grade: Grade) -> &'static [u8]
@@ -94,17 +95,9 @@ fn put_title_members<'a>(out: &mut Vec<u8>, row: &'a Row, link: &'a [u8]) -> Res
     )
 }
 
-fn host_text(url: &[u8]) -> &[u8]
-    ensures { result.now ≡ host_text url.now }
-{
-    match host_of(url) {
-        Some(host) => host,
-        None => b"",
-    }
-}
-
 #[tactic(auto, unfolding(crate::specs::HitsJson::target_members))]
-fn put_target_members(out: &mut Vec<u8>, row: &Row) -> Result<(), AllocError>
+fn put_target<'a>(out: &mut Vec<u8>, row: &'a Row, host: &'a [u8]) -> Result<(), AllocError>
+    requires { host.now ≡ shown_host row.now.url }
     ensures { OnOk result (out.new.items ≡ out.old.items ++ target_members row.now) }
 {
     put_all(
@@ -113,9 +106,16 @@ fn put_target_members(out: &mut Vec<u8>, row: &Row) -> Result<(), AllocError>
             Piece::Plain(b",\"target\":"),
             Piece::Quoted(row.url()),
             Piece::Plain(b",\"host\":"),
-            Piece::Quoted(host_text(row.url())),
+            Piece::Quoted(host),
         ],
     )
+}
+
+fn put_target_members(out: &mut Vec<u8>, row: &Row) -> Result<(), AllocError>
+    ensures { OnOk result (out.new.items ≡ out.old.items ++ target_members row.now) }
+{
+    let host = shown_host(*out.allocator(), row.url())?;
+    put_target(out, row, &host)
 }
 
 fn put_days_members(out: &mut Vec<u8>, row: &Row) -> Result<(), AllocError>

@@ -1,5 +1,5 @@
 -- The card of a hit.
-use Rattle.std.specs.Prelude.{ℕ, ◌||◌, not, Bool, true, false, if◌then◌else◌, List, [], ◌∷◌, ◌++◌, codes, Option, Some, None, unwrap_or}
+use Rattle.std.specs.Prelude.{ℕ, ◌||◌, not, Bool, true, false, if◌then◌else◌, List, [], ◌∷◌, ◌++◌, codes, Option, Some, None}
 use Rattle.std.specs.Str.{bytes_eq}
 use Rattle.feed_embargo.specs.declared.availability.Availability.{Availability}
 use Rattle.feed_embargo.specs.declared.availability.Availability.TheVariants.{Available, Partly, NotCompared, Embargoed}
@@ -11,7 +11,7 @@ use Rattle.feed_resolver_reply.specs.Escapes.{escaped}
 use Rattle.feed_resolver_reply.specs.Pieces.{joined}
 use Rattle.feed_resolver_hits.specs.Hits.{ReleaseHitValue, link_text}
 use Rattle.feed_site.specs.Packages.{shown_package}
-use Rattle.feed_site.specs.Urls.{host_of, is_link}
+use Rattle.feed_site.specs.Hosts.{is_link, shown_host}
 use Rattle.feed_resolver_page.specs.Coverage.{coverage_words}
 use Rattle.feed_site.specs.Texts.{text_of}
 use Rattle.feed_page_texts.specs.declared.table.Text.{Text}
@@ -59,10 +59,6 @@ availability_part site has_embargo availability = availability_by site (availabi
 unfoldable pub status_part : site_file.SiteValue → Fit → ReleaseHitValue → List ℕ
 status_part site fit found = fit_part site fit ++ availability_part site (not (is_empty found.hit.row.embargo)) found.availability
 
--- the host of a URL, or nothing
-abbrev pub host_text : List ℕ → List ℕ
-host_text url = unwrap_or (host_of url) []
-
 -- the button that leads to a link, with the name of a platform's host; the package is for readers who do not see the card
 unfoldable pub button_to : List ℕ → List ℕ → List ℕ → List ℕ → List ℕ
 button_to link words host stem = joined (
@@ -73,7 +69,7 @@ button_to link words host stem = joined (
 unfoldable pub button : site_file.SiteValue → ReleaseHitValue → List ℕ
 button site found =
     if is_link (link_text found)
-    then button_to (link_text found) (text_of site text.ReadAt) (host_text found.hit.row.url)
+    then button_to (link_text found) (text_of site text.ReadAt) (shown_host found.hit.row.url)
     (shown_package site found.name.stem)
     else []
 

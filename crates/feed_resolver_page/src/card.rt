@@ -2,7 +2,7 @@
 ghost use Rattle.std.specs.Prelude.{◌≡◌, ◌++◌, OnOk};
 ghost use Rattle.feed_resolver_page.specs.Cards.{availability_part, availability_text, button, button_to, card};
 ghost use Rattle.feed_resolver_page.specs.Cards.{card_end};
-ghost use Rattle.feed_resolver_page.specs.Cards.{card_top, fit_class, fit_part, fit_text, host_text, limit_part};
+ghost use Rattle.feed_resolver_page.specs.Cards.{card_top, fit_class, fit_part, fit_text, limit_part};
 ghost use Rattle.feed_resolver_page.specs.Cards.{name_part};
 ghost use Rattle.feed_resolver_page.specs.Cards.{status_part, title_part};
 
@@ -14,7 +14,7 @@ use feed_page_texts::Text;
 use feed_pieces::put_all;
 use feed_resolver_hits::ReleaseHit;
 use feed_resolver_reply::{Piece, put};
-use feed_site::{SiteFile, host_of, is_link, shown_package, text_of};
+use feed_site::{SiteFile, is_link, shown_host, shown_package, text_of};
 use std::alloc::AllocError;
 
 // The beginning of a button, the part of it that is for readers who do not see the card, and its end.
@@ -130,16 +130,6 @@ fn put_status(
     put_availability(out, site, has_embargo, found.availability())
 }
 
-// Returns the host of a URL, or nothing if it has none.
-fn host_text(url: &[u8]) -> &[u8]
-    ensures { result.now ≡ host_text url.now }
-{
-    match host_of(url) {
-        Some(host) => host,
-        None => b"",
-    }
-}
-
 // Writes the button that leads to a URL, with the host of a platform.
 #[tactic(auto, unfolding(crate::specs::Cards::button_to))]
 fn put_button_to<'a>(
@@ -177,10 +167,10 @@ fn put_button(out: &mut Vec<u8>, site: &SiteFile, found: &ReleaseHit<'_>) -> Res
     if !is_link(&link) {
         return Ok(());
     }
-    let host = host_text(found.row().url());
+    let host = shown_host(*out.allocator(), found.row().url())?;
     let words = text_of(site, Text::ReadAt);
     let package = shown_package(site, found.name().package());
-    put_button_to(out, &link, words, host, package)
+    put_button_to(out, &link, words, &host, package)
 }
 
 #[tactic(auto, unfolding(crate::specs::Cards::name_part))]

@@ -1,7 +1,7 @@
 -- Links to a request form.
-use Rattle.std.proofs.Common.{◌≡◌, ℕ, ◌+◌, ◌<◌, ◌&&◌, ◌||◌, ◌==◌, Bool, true, false, not, nat_lt, List, [], ◌∷◌, ◌++◌, length, take, drop, codes, Option, Some, None, All}
+use Rattle.std.proofs.Common.{◌≡◌, ℕ, ◌+◌, ◌<◌, ◌&&◌, ◌||◌, ◌==◌, Bool, true, false, not, nat_lt, nat_le, is_some, List, [], ◌∷◌, ◌++◌, length, take, drop, codes, Option, Some, None, All}
 use Rattle.std.proofs.Common.{option_map, if◌then◌else◌, cond, refl, sym, ap, ◌∙◌, arith, length-append, suc}
-use Rattle.std.specs.List.{before_first, list_any, prefix_len}
+use Rattle.std.specs.List.{before_first, list_all, list_any, prefix_len}
 use Rattle.std.proofs.lemmas.List.{take-append-le, drop-append-le}
 use Rattle.std.proofs.lemmas.List.Elements.{filter-append}
 use Rattle.std.proofs.lemmas.Bool.Decides.{nat_tests}
@@ -12,11 +12,12 @@ use Rattle.feed_site.specs.Kinds.{has_end, has_fields, is_front}
 use Rattle.feed_site.specs.Laws.{is_plain}
 use Rattle.feed_site.specs.RequestLaws.{PartsAddNoMarks, RequestsAreLinks, RequestsKeepHost, marks}
 use Rattle.feed_site.specs.Requests.{CitedValue, filled, filled_from, part_of, part_text, request_link, if_link}
-use Rattle.feed_site.specs.Urls.{after_scheme, authority_of, before_byte, begins_with, host_in, host_of, is_link, is_url}
+use Rattle.feed_site.specs.Hosts.{host_behind, host_in, host_of, is_link}
+use Rattle.feed_site.specs.Urls.{after_scheme, authority_of, before_byte, begins_with, has_byte, is_visible, url_limit}
 use Rattle.feed_site.proofs.Through.{escape_is_plain, kept_is_plain}
 
 -- the front of a list, up to the first element that passes, by recursion
-abbrev front : (ℕ → Bool) → List ℕ → List ℕ
+abbrev pub front : (ℕ → Bool) → List ℕ → List ℕ
 front p [] = []
 front p (b ∷ rest) = if p b then [] else b ∷ front p rest
 
@@ -25,7 +26,7 @@ first_case : (p : ℕ → Bool) (c : Bool) (b : ℕ) (rest more : List ℕ) (n :
 first_case p true b rest more n e = refl
 first_case p false b rest more n e = grind (arith, e)
 
-is_front_of : (p : ℕ → Bool) (xs : List ℕ) → before_first p xs ≡ front p xs
+pub is_front_of : (p : ℕ → Bool) (xs : List ℕ) → before_first p xs ≡ front p xs
 is_front_of p [] = refl
 is_front_of p (b ∷ rest) = first_case p (p b) b rest (front p rest) (prefix_len (λ x. not (p x)) rest) (is_front_of p rest)
 
@@ -121,14 +122,14 @@ cuts_case p q false b rest e h =
     elim (p b) as (λ d. (if d then [] else b ∷ front p (front q rest)) ≡ (if d || false then [] else b ∷ front (λ x. p x || q x) rest))
     [ true ↦ refl | false ↦ ap (λ (xs : List ℕ). b ∷ xs) h ]
 
-cuts : (p q : ℕ → Bool) (xs : List ℕ) → front p (front q xs) ≡ front (λ x. p x || q x) xs
+pub cuts : (p q : ℕ → Bool) (xs : List ℕ) → front p (front q xs) ≡ front (λ x. p x || q x) xs
 cuts p q [] = refl
 cuts p q (b ∷ rest) = cuts_case p q (q b) b rest refl (cuts p q rest)
 
 two : (j k : ℕ) (p : ℕ → Bool) (xs : List ℕ) → before_byte j (front p xs) ≡ front (λ x. (x == j) || p x) xs
 two j k p xs = is_front_of (λ x. x == j) (front p xs) ∙ cuts (λ x. x == j) p xs
 
-authority_is : (xs : List ℕ) → authority_of xs ≡ front (λ x. (x == 47) || ((x == 63) || ((x == 35) || (x == 92)))) xs
+pub authority_is : (xs : List ℕ) → authority_of xs ≡ front (λ x. (x == 47) || ((x == 63) || ((x == 35) || (x == 92)))) xs
 authority_is xs =
     ap (λ (t : List ℕ). before_byte 47 (before_byte 63 (before_byte 35 t))) (is_front_of (λ x. x == 92) xs)
     ∙ ap (λ (t : List ℕ). before_byte 47 (before_byte 63 t)) (two 35 0 (λ x. x == 92) xs)
@@ -148,34 +149,102 @@ cut_early p (b ∷ fore) y h = cut_case p (p b) b fore y h (cut_early p fore y)
 authority_same : (rest y : List ℕ) → list_any (λ x. (x == 47) || ((x == 63) || ((x == 35) || (x == 92)))) rest ≡ true → authority_of (rest ++ y) ≡ authority_of rest
 authority_same rest y h = authority_is (rest ++ y) ∙ cut_early _ rest y h ∙ sym (authority_is rest)
 
-hosts_same : (o : Option (List ℕ)) (y : List ℕ) → has_end o ≡ true
-    → option_map (λ rest. host_in (authority_of rest)) (option_map (λ rest. rest ++ y) o) ≡ option_map (λ rest. host_in (authority_of rest)) o
+hosts_same : (o : Option (List ℕ)) (y : List ℕ) → has_end o ≡ true → host_behind (option_map (λ rest. rest ++ y) o) ≡ host_behind o
 hosts_same None y h = refl
-hosts_same (Some rest) y h = ap (λ (t : List ℕ). Some (host_in t)) (authority_same rest y h)
+hosts_same (Some rest) y h = ap host_in (authority_same rest y h)
 
-and_left : (a b : Bool) → (a && b) ≡ true → a ≡ true
+pub and_left : (a b : Bool) → (a && b) ≡ true → a ≡ true
 and_left true b h = refl
 and_left false b h = h
 
-and_right : (a b : Bool) → (a && b) ≡ true → b ≡ true
+pub and_right : (a b : Bool) → (a && b) ≡ true → b ≡ true
 and_right true b h = h
 and_right false b h = cc
 
-host_kept : (fore y : List ℕ) → is_front fore ≡ true → host_of (fore ++ y) ≡ host_of fore
+host_kept : (fore y : List ℕ) → is_front fore ≡ true → host_behind (after_scheme (fore ++ y)) ≡ host_behind (after_scheme fore)
 host_kept fore y h =
-    let long : 8 < length fore = grind (arith, nat_tests, and_left (nat_lt 8 (length fore)) (is_url fore && has_end (after_scheme fore)) h) in
-    let ends = and_right (is_url fore) (has_end (after_scheme fore)) (and_right (nat_lt 8 (length fore)) (is_url fore && has_end (after_scheme fore)) h) in
-    ap (option_map (λ rest. host_in (authority_of rest))) (scheme_same fore y long) ∙ hosts_same (after_scheme fore) y ends
+    let long : 8 < length fore = grind (arith, nat_tests, and_left (nat_lt 8 (length fore)) (is_link fore && has_end (after_scheme fore)) h) in
+    let ends = and_right (is_link fore) (has_end (after_scheme fore)) (and_right (nat_lt 8 (length fore)) (is_link fore && has_end (after_scheme fore)) h) in
+    ap host_behind (scheme_same fore y long) ∙ hosts_same (after_scheme fore) y ends
 
-host_begins : (begin text : List ℕ) → Begins begin text → is_front begin ≡ true → host_of text ≡ host_of begin
-host_begins begin text b h = ap host_of b.whole ∙ host_kept begin b.rest h
+host_begins : (begin text : List ℕ) → Begins begin text → is_front begin ≡ true → host_behind (after_scheme text) ≡ host_behind (after_scheme begin)
+host_begins begin text b h = ap (λ (t : List ℕ). host_behind (after_scheme t)) b.whole ∙ host_kept begin b.rest h
+
+-- ---- no backslash
+
+abbrev Lacks : List ℕ → Type 0
+Lacks text = has_byte 92 text ≡ false
+
+pub lacks_either : (c d : Bool) → c ≡ false → d ≡ false → (c || d) ≡ false
+lacks_either false d one other = other
+lacks_either true d one other = one
+
+pub lacks_parts : (c d : Bool) → (c || d) ≡ false → (c ≡ false) × (d ≡ false)
+lacks_parts false d h = (refl, h)
+lacks_parts true d h = cc
+
+lacks-append : (xs ys : List ℕ) → Lacks xs → Lacks ys → Lacks (xs ++ ys)
+lacks-append [] ys one other = other
+lacks-append (b ∷ rest) ys one other =
+    let (here, more) = lacks_parts (b == 92) (has_byte 92 rest) one in
+    lacks_either (b == 92) (has_byte 92 (rest ++ ys)) here (lacks-append rest ys more other)
+
+plain_lacks : (b : ℕ) → is_plain b ≡ true → (b == 92) ≡ false
+plain_lacks b h = grind (arith, nat_tests)
+
+plain_text_lacks : (text : List ℕ) → All (λ b. is_plain b ≡ true) text → Lacks text
+plain_text_lacks [] h = refl
+plain_text_lacks (b ∷ rest) h =
+    let here : is_plain b ≡ true = h 0 0 (omega arith) in
+    let more : All (λ b. is_plain b ≡ true) rest = λ k d within. h (suc k) d (omega (arith, within)) in
+    lacks_either (b == 92) (has_byte 92 rest) (plain_lacks b here) (plain_text_lacks rest more)
+
+part_lacks : (cited : CitedValue) (name : List ℕ) → Lacks (part_text cited name)
+unfolding part_text
+part_lacks cited name =
+    plain_text_lacks _ (All-percent_encode (λ b. is_plain b ≡ true) NON_ALPHANUMERIC (part_of cited name) kept_is_plain escape_is_plain)
+
+either_lacks : (c : Bool) (x y : List ℕ) → Lacks x → Lacks y → Lacks (if c then x else y)
+either_lacks true x y one other = one
+either_lacks false x y one other = other
+
+filled_lacks : (cited : CitedValue) (is_open : Bool) (name rest : List ℕ) → Lacks rest → Lacks (filled_from cited is_open name rest)
+filled_lacks cited true name [] h = refl
+filled_lacks cited false name [] h = refl
+filled_lacks cited true name (b ∷ rest) h =
+    let (here, more) = lacks_parts (b == 92) (has_byte 92 rest) h in
+    either_lacks (b == 125) _ _
+    (lacks-append (part_text cited name) (filled_from cited false [] rest) (part_lacks cited name) (filled_lacks cited false [] rest more))
+    (filled_lacks cited true (name ++ b ∷ []) rest more)
+filled_lacks cited false name (b ∷ rest) h =
+    let (here, more) = lacks_parts (b == 92) (has_byte 92 rest) h in
+    either_lacks (b == 123) _ _ (filled_lacks cited true [] rest more)
+    (lacks_either (b == 92) (has_byte 92 (filled_from cited false name rest)) here (filled_lacks cited false name rest more))
+
+host_is : (text : List ℕ) → Lacks text → host_of text ≡ host_behind (after_scheme text)
+unfolding host_of
+host_is text h = rw h
+
+some_lacks : (c : Bool) (o : Option (List ℕ)) → is_some (if c then None else o) ≡ true → c ≡ false
+some_lacks true o h = cc
+some_lacks false o h = refl
+
+link_lacks : (url : List ℕ) → is_link url ≡ true → Lacks url
+unfolding host_of
+link_lacks url h =
+    some_lacks (has_byte 92 url) (host_behind (after_scheme url))
+    (and_right (list_all is_visible url) (is_some (host_of url)) (and_right (nat_le (length url) url_limit) (list_all is_visible url && is_some (host_of url)) h))
 
 pub requests_keep_host : RequestsKeepHost
 requests_keep_host template cited h =
+    let parts = and_left (is_link template && has_fields template) (is_front (before_byte 123 template)) h in
+    let lacks = link_lacks template (and_left (is_link template) (has_fields template) parts) in
     let fine : is_front (front (λ b. b == 123) template) ≡ true =
-    ap is_front (sym (is_front_of (λ b. b == 123) template)) ∙ and_right (is_url template && has_fields template) (is_front (before_byte 123 template)) h in
-    host_begins (front (λ b. b == 123) template) (filled cited template) (filled_begins cited [] template) fine
+    ap is_front (sym (is_front_of (λ b. b == 123) template)) ∙ and_right (is_link template && has_fields template) (is_front (before_byte 123 template)) h in
+    host_is (filled cited template) (filled_lacks cited false [] template lacks)
+    ∙ host_begins (front (λ b. b == 123) template) (filled cited template) (filled_begins cited [] template) fine
     ∙ sym (host_begins (front (λ b. b == 123) template) template (text_begins template) fine)
+    ∙ sym (host_is template lacks)
 
 -- ---- the link
 

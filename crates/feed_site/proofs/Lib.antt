@@ -1,7 +1,10 @@
 pub mod Through
+pub mod Addresses
 pub mod Within
 pub mod Valid
 pub mod HeldDays
 pub mod Fillings
 pub mod FirstTable
 pub mod Replaced
+pub mod HostNames
+pub mod Standard

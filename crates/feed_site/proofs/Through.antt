@@ -10,7 +10,7 @@ use Rattle.percent_encoding.specs.AsciiSet.{contains, should_percent_encode}
 use Rattle.percent_encoding.proofs.AsciiSetLemmas.{ascii_from_kept, outside_from_kept}
 use Rattle.percent_encoding.proofs.PercentLemmas.{All-percent_encode, IsEscapeByte, length-percent_decode, round_trip}
 use Rattle.percent_encoding.proofs.StandardFacts.{non_alphanumeric}
-use Rattle.feed_site.specs.Urls.{host_of}
+use Rattle.feed_site.specs.Hosts.{host_of}
 use Rattle.feed_site.specs.Site.{SiteValue}
 use Rattle.feed_site.specs.Proxies.{encodes, is_excepted, is_proxied, proxied, through, written_target}
 use Rattle.feed_site.specs.Laws.{IsTarget, GoesThrough, LinkFits, is_plain}

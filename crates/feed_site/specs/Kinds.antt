@@ -5,7 +5,8 @@ use Rattle.std.specs.Str.{bytes_eq}
 use Rattle.std.specs.Char.{is_ascii_alphabetic, is_ascii_alphanumeric, is_ascii_hexdigit}
 use Rattle.feed_dates.specs.DayRanges.{days_of}
 use Rattle.feed_names.specs.ReleaseName.{is_stem_byte}
-use Rattle.feed_site.specs.Urls.{after_byte, after_scheme, before_byte, has_byte, is_sized, is_url, parts_between}
+use Rattle.feed_site.specs.Urls.{after_byte, after_scheme, before_byte, has_byte, is_sized, parts_between}
+use Rattle.feed_site.specs.Hosts.{is_link}
 use Rattle.feed_site.specs.declared.kind.Kind.{Kind}
 use Rattle.feed_site.specs.declared.kind.Kind.TheVariants.{Text, Language, Color, Url, Template, Package, Date}
 
@@ -63,12 +64,12 @@ has_end (Some rest) = list_any ends_authority rest
 
 -- what is before the first brace: a URL of more than the eight bytes of `https://`, whose authority has ended
 abbrev pub is_front : List ℕ → Bool
-is_front front = nat_lt 8 (length front) && (is_url front && has_end (after_scheme front))
+is_front front = nat_lt 8 (length front) && (is_link front && has_end (after_scheme front))
 
 -- the address of a request form: a URL with parts of a citation in braces behind its host, such as
 -- `https://a.example/ill?issn={issn}`
 abbrev pub is_template : List ℕ → Bool
-is_template text = (is_url text && has_fields text) && is_front (before_byte 123 text)
+is_template text = (is_link text && has_fields text) && is_front (before_byte 123 text)
 
 -- the text begins with a dot
 abbrev pub begins_with_dot : List ℕ → Bool
@@ -88,7 +89,7 @@ abbrev pub is_of : Kind → List ℕ → Bool
 is_of Text text = is_text text
 is_of Language text = is_language text
 is_of Color text = is_color text
-is_of Url text = is_url text
+is_of Url text = is_link text
 is_of Template text = is_template text
 is_of Package text = is_package text
 is_of Date text = is_date text

@@ -2,7 +2,8 @@
 use Rattle.std.specs.Prelude.{◌≡◌, ℕ, ◌<◌, ◌≤◌, length, ◌||◌, ◌==◌, Bool, true, false, List, ◌∷◌, ◌++◌, Option, Some, None, All}
 use Rattle.std.specs.Char.{is_ascii_alphanumeric}
 use Rattle.percent_encoding.specs.Percent.{percent_decode}
-use Rattle.feed_site.specs.Urls.{host_of, is_within}
+use Rattle.feed_site.specs.Hosts.{host_of}
+use Rattle.feed_site.specs.Urls.{is_within}
 use Rattle.feed_site.specs.Site.{SiteValue}
 use Rattle.feed_site.specs.Proxies.{encodes, is_excepted, proxied, room_of, through}
 

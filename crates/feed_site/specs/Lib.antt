@@ -1,4 +1,5 @@
 pub mod Urls
+pub mod Hosts
 pub mod Bytes
 pub mod Kinds
 pub mod Schema
@@ -14,6 +15,7 @@ pub mod Held
 pub mod Reading
 pub mod Proxies
 pub mod Laws
+pub mod HostLaws
 pub mod HeldLaws
 pub mod Packages
 pub mod Requests

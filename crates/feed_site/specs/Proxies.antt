@@ -4,7 +4,8 @@ use Rattle.std.specs.List.{list_any}
 use Rattle.std.specs.Str.{bytes_eq}
 use Rattle.percent_encoding.specs.Percent.{percent_encode}
 use Rattle.percent_encoding.specs.declared.ascii_set.TheConstants.{NON_ALPHANUMERIC}
-use Rattle.feed_site.specs.Urls.{host_of, is_within}
+use Rattle.feed_site.specs.Hosts.{host_of}
+use Rattle.feed_site.specs.Urls.{is_within}
 use Rattle.feed_site.specs.Site.{SiteValue}
 
 -- the host is in the list, or a subdomain of one that is

@@ -4,7 +4,7 @@ use Rattle.feed_site.specs.Kinds.{is_template}
 use Rattle.feed_site.specs.Laws.{is_plain}
 use Rattle.feed_site.specs.Requests.{CitedValue, filled, request_link}
 use Rattle.feed_site.specs.Site.{SiteValue}
-use Rattle.feed_site.specs.Urls.{host_of, is_link}
+use Rattle.feed_site.specs.Hosts.{host_of, is_link}
 
 -- the bytes of a link other than letters, digits and `%`: among them is each byte that ends a value or begins a parameter
 abbrev pub marks : List ℕ → List ℕ

@@ -2,9 +2,9 @@
 ghost use Rattle.std.specs.Prelude.{◌≡◌};
 ghost use Rattle.feed_site.specs.Kinds.{is_of};
 
+use crate::hosts::is_link;
 use crate::template::is_template;
 use crate::text::{is_color, is_date, is_language, is_package};
-use crate::url::is_url;
 
 /// A kind of value.
 #[derive(Clone, Copy)]
@@ -38,7 +38,7 @@ impl Kind {
             Kind::Text => !text.is_empty(),
             Kind::Language => is_language(text),
             Kind::Color => is_color(text),
-            Kind::Url => is_url(text),
+            Kind::Url => is_link(text),
             Kind::Template => is_template(text),
             Kind::Package => is_package(text),
             Kind::Date => is_date(text),

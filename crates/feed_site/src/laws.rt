@@ -2,6 +2,7 @@
 //! function with an empty body.
 ghost use Rattle.feed_site.specs.Laws.{ExceptedIsDirect, FreeIsDirect, NoProxyIsDirect, OthersGoThrough};
 ghost use Rattle.feed_site.specs.Laws.{LinkFits, SubdomainsAreWithin};
+ghost use Rattle.feed_site.specs.HostLaws.{HostsAreStandard, LinksAreStandard};
 ghost use Rattle.feed_site.specs.HeldLaws.{AllIsHeld, HeldDaysAreShown, OffIsNotHeld};
 ghost use Rattle.feed_site.specs.RequestLaws.{PartsAddNoMarks, RequestsAreLinks, RequestsKeepHost};
 
@@ -33,6 +34,17 @@ pub fn link_fits()
 /// A domain and its subdomains are within it.
 pub fn subdomains_are_within()
     ensures { SubdomainsAreWithin }
+{}
+
+/// The host that is shown of an address is the one that the URL Standard parses, and the address has no user, if it has
+/// no spaces and no control characters.
+pub fn hosts_are_standard()
+    ensures { HostsAreStandard }
+{}
+
+/// So is the host that is shown of each link.
+pub fn links_are_standard()
+    ensures { LinksAreStandard }
 {}
 
 /// A library has what a query asks for of a title exactly if the title is held on a day that is covered and asked for.

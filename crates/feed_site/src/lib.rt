@@ -6,6 +6,7 @@ mod checks;
 mod cuts;
 mod fault;
 mod held;
+mod hosts;
 mod kind;
 mod laws;
 mod links;
@@ -24,10 +25,11 @@ mod values;
 
 pub use fault::Reason;
 pub use held::library_has;
+pub use hosts::{host_of, is_link, shown_host};
 pub use laws::{
-    all_is_held, excepted_is_direct, free_is_direct, held_days_are_shown, link_fits,
-    no_proxy_is_direct, off_is_not_held, others_go_through, parts_add_no_marks, requests_are_links,
-    requests_keep_host, subdomains_are_within,
+    all_is_held, excepted_is_direct, free_is_direct, held_days_are_shown, hosts_are_standard,
+    link_fits, links_are_standard, no_proxy_is_direct, off_is_not_held, others_go_through,
+    parts_add_no_marks, requests_are_links, requests_keep_host, subdomains_are_within,
 };
 pub use links::{left_beside, link_to, prefix_for, proxied};
 pub use packages::{package_name, package_place, shown_package};
@@ -36,4 +38,4 @@ pub use request::{Cited, request_link};
 pub use site_fault::{KeyFault, SiteFault};
 pub use site_file::{SITE_LIMIT, SiteFile};
 pub use texts::text_of;
-pub use url::{begins_with, host_of, is_all_visible, is_link};
+pub use url::{begins_with, is_all_visible};

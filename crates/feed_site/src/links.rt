@@ -5,8 +5,8 @@ ghost use Rattle.percent_encoding.specs.Percent.{percent_encode};
 ghost use Rattle.percent_encoding.specs.declared.ascii_set.TheConstants.{NON_ALPHANUMERIC};
 ghost use Rattle.feed_site.specs.Proxies.{encodes, is_proxied, prefix_for, proxied, room_of, through, written_target};
 
+use crate::hosts::host_of;
 use crate::site_file::SiteFile;
-use crate::url::host_of;
 use percent_encoding::{NON_ALPHANUMERIC, percent_encode};
 use std::alloc::{AllocError, Global};
 use std::borrow::CowSlice;

@@ -4,10 +4,10 @@ ghost use Rattle.std.specs.Str.{bytes_eq};
 ghost use Rattle.feed_site.specs.Requests.{filled, filled_from, if_link, number_part, part_of, part_text, place_part};
 ghost use Rattle.feed_site.specs.Requests.{request_link};
 
+use crate::hosts::is_link;
 use crate::links::encoded;
 use crate::site_file::SiteFile;
 use crate::template::is;
-use crate::url::is_link;
 use std::alloc::{AllocError, Global};
 use std::marker::Model;
 

@@ -7,7 +7,8 @@ ghost use Rattle.feed_site.specs.Kinds.{is_number_field, is_place_field, is_temp
 ghost use Rattle.feed_site.specs.Urls.{parts_between};
 
 use crate::cuts::{after, before, has};
-use crate::url::{after_scheme, is_url};
+use crate::hosts::is_link;
+use crate::url::after_scheme;
 
 /// Returns whether a name is this word.
 pub(crate) fn is(name: &[u8], word: &str) -> bool
@@ -88,7 +89,7 @@ fn has_end(rest: Option<&[u8]>) -> bool
 fn is_front(front: &[u8]) -> bool
     ensures { result ≡ is_front front.now }
 {
-    front.len() > 8 && is_url(front) && has_end(after_scheme(front))
+    front.len() > 8 && is_link(front) && has_end(after_scheme(front))
 }
 
 /// Returns whether a text is the address of a request form: a URL in which each brace encloses a part of a citation and
@@ -96,5 +97,5 @@ fn is_front(front: &[u8]) -> bool
 pub(crate) fn is_template(text: &[u8]) -> bool
     ensures { result ≡ is_template text.now }
 {
-    is_url(text) && has_fields(text) && is_front(before(b'{', text))
+    is_link(text) && has_fields(text) && is_front(before(b'{', text))
 }

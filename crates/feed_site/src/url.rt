@@ -1,15 +1,12 @@
-//! URLs of `http` and `https`, the hosts that they name, and the domains that a host is in.
+//! The parts of URLs of `http` and `https`, the names of hosts, and the domains that a host is in.
 ghost use Rattle.std.specs.Prelude.{◌≡◌, ◌-◌, drop, length, option_copied};
 ghost use Rattle.std.specs.List.{list_all};
-ghost use Rattle.feed_site.specs.Urls.{after_scheme, authority_of, begins_with, host_in, host_of, is_dotted, is_host};
-ghost use Rattle.feed_site.specs.Urls.{is_host_in, is_label, is_link, is_url, is_visible, is_within};
-ghost use Rattle.feed_site.specs.Urls.{parts_between, without_user};
+ghost use Rattle.feed_site.specs.Urls.{after_scheme, authority_of, begins_with, is_dotted, is_host, is_hyphen};
+ghost use Rattle.feed_site.specs.Urls.{is_label, is_visible, is_within};
+ghost use Rattle.feed_site.specs.Urls.{parts_between};
 
 use crate::bytes::ByteClass;
-use crate::cuts::{after, before, has, is_sized};
-
-// The most bytes of a URL: what RFC 9110 (section 4.1) asks every recipient to support.
-const URL_LIMIT: usize = 8_000;
+use crate::cuts::{before, is_sized};
 
 /// Returns whether a text begins with another one, in any case of letters, and is longer.
 pub fn begins_with(url: &[u8], front: &[u8]) -> bool
@@ -25,16 +22,6 @@ pub fn is_all_visible(url: &[u8]) -> bool
     ByteClass::Visible.has_all(url)
 }
 
-/// Returns whether a text is safe in a link and in a Location field (RFC 9110, section 10.2.2): a URL of `http` or
-/// `https`, in at most 8,000 bytes of visible ASCII.
-pub fn is_link(url: &[u8]) -> bool
-    ensures { result ≡ is_link url.now }
-{
-    url.len() <= URL_LIMIT
-        && (begins_with(url, b"http://") || begins_with(url, b"https://"))
-        && is_all_visible(url)
-}
-
 /// Returns the rest of a URL after `http://` or `https://`.
 pub(crate) fn after_scheme(url: &[u8]) -> Option<&[u8]>
     ensures { option_copied result ≡ after_scheme url.now }
@@ -48,43 +35,26 @@ pub(crate) fn after_scheme(url: &[u8]) -> Option<&[u8]>
     }
 }
 
-fn authority_of(text: &[u8]) -> &[u8]
+/// Returns the authority at the front of a text: `/`, `?`, `#` or a backslash ends it.
+pub(crate) fn authority_of(text: &[u8]) -> &[u8]
     ensures { result.now ≡ authority_of text.now }
 {
     before(b'/', before(b'?', before(b'#', before(b'\\', text))))
 }
 
-// An authority without the user before `@`.
-fn without_user(authority: &[u8]) -> &[u8]
-    ensures { result.now ≡ without_user authority.now }
+fn is_hyphen(byte: u8) -> bool
+    ensures { result ≡ is_hyphen byte }
 {
-    if has(b'@', authority) {
-        after(b'@', authority)
-    } else {
-        authority
-    }
-}
-
-fn host_in(authority: &[u8]) -> &[u8]
-    ensures { result.now ≡ host_in authority.now }
-{
-    before(b':', without_user(authority))
-}
-
-/// Returns the host of a URL of `http` or `https`, without a user and a port.
-pub fn host_of(url: &[u8]) -> Option<&[u8]>
-    ensures { option_copied result ≡ host_of url.now }
-{
-    match after_scheme(url) {
-        Some(rest) => Some(host_in(authority_of(rest))),
-        None => None,
-    }
+    byte == b'-'
 }
 
 fn is_label(label: &[u8]) -> bool
     ensures { result ≡ is_label label.now }
 {
-    is_sized(1, 63, label) && ByteClass::Label.has_all(label)
+    is_sized(1, 63, label)
+        && ByteClass::Label.has_all(label)
+        && !is_hyphen(label[0])
+        && !is_hyphen(label[label.len() - 1])
 }
 
 fn are_labels(host: &[u8]) -> bool
@@ -95,27 +65,11 @@ fn are_labels(host: &[u8]) -> bool
 }
 
 /// Returns whether a text is the name of a host: at most 253 bytes, and 1 to 63 letters, digits and hyphens between
-/// dots (RFC 1123, section 2.1). An IPv4 address is one too.
+/// dots, no hyphen first or last (RFC 1123, section 2.1). An IPv4 address is one too.
 pub(crate) fn is_host(host: &[u8]) -> bool
     ensures { result ≡ is_host host.now }
 {
     host.len() <= 253 && are_labels(host)
-}
-
-fn is_host_in(host: Option<&[u8]>) -> bool
-    ensures { result ≡ is_host_in (option_copied host.entry) }
-{
-    match host {
-        Some(host) => is_host(host),
-        None => false,
-    }
-}
-
-/// Returns whether a text is a URL of `http` or `https` with a host, in at most 8,000 bytes of visible ASCII.
-pub(crate) fn is_url(url: &[u8]) -> bool
-    ensures { result ≡ is_url url.now }
-{
-    url.len() <= URL_LIMIT && is_all_visible(url) && is_host_in(host_of(url))
 }
 
 fn is_dotted(domain: &[u8], text: &[u8]) -> bool
