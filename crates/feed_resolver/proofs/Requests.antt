@@ -27,7 +27,7 @@ use Rattle.feed_resolver_request.specs.declared.representation.Representation.Th
 use Rattle.feed_resolver_page.specs.TitlesPage.{titles_reply}
 use Rattle.feed_resolver_request.specs.declared.target.Resource.{Resource}
 use Rattle.feed_resolver_request.specs.declared.target.Resource.TheVariants as resource
-use Rattle.feed_resolver_reply.specs.Replies.{ReplyValue, ResponseValue, reply_with, refusal, redirect_to, response_of, reply_body, status_code}
+use Rattle.feed_resolver_reply.specs.Replies.{ReplyValue, ResponseValue, reply_with, refusal, redirect_to, of_site, response_of, reply_body, status_code}
 use Rattle.feed_resolver_reply.specs.Messages.{IsMessage, IsMessageFor, BeginsStream, IsSentAs}
 use Rattle.feed_resolver_reply.specs.declared.status.Status.TheVariants as status
 use Rattle.feed_resolver_reply.proofs.HeadsRead.{head_of, sent_as}
@@ -44,7 +44,7 @@ use Rattle.feed_resolver_tag.specs.Tags.{SiteValue}
 use Rattle.feed_resolver.specs.Answers.{Dated, Sited, sited, is_of, hits_among, tally_among}
 use Rattle.feed_resolver.specs.Replies.{found_reply, sole_redirect}
 use Rattle.feed_resolver.specs.Replies.{resource_reply, resolve_reply, package_reply, redirect_reply, go_reply, hits_reply, query_reply, target_reply, target_query, path_of}
-use Rattle.feed_resolver.specs.Replies.{method_refusal, has_coded_body, resolve_reply_at, reply_by_form, reply_to, tagged_reply, response_to, IsResponse}
+use Rattle.feed_resolver.specs.Replies.{method_refusal, has_coded_body, resolve_reply_at, reply_by_form, reply_to, sent_reply, tagged_reply, response_to, IsResponse}
 use Rattle.feed_resolver.specs.Answered.{IsGoodIn, IsAnswered, IsAnsweredTo}
 use Rattle.feed_resolver.specs.Validators.{is_tagged, has_validator, resource_in}
 use Rattle.feed_resolver.specs.NodeReplies.{node_reply, IsNodeReply, AsksForNoFetch}
@@ -208,9 +208,11 @@ same_tagged site head body other actives is =
 
 pub head_alone : HeadIsHeadOfGet
 head_alone site keeps actives bytes asked body form head response reply is begins also one other small young =
-    let r : ReplyValue = tagged_reply site head body actives in
+    let r : ReplyValue = sent_reply site head body actives in
     let short : response ≡ response_of keeps true r = reply_at site keeps bytes body actives head response begins one ∙ ap (λ b. response_of keeps b r) is in
-    let long : reply ≡ response_of keeps false r = reply_at site keeps asked form actives (as_get head) reply also other ∙ ap (response_of keeps false) (same_tagged site head body form actives is) in
+    let long : reply ≡ response_of keeps false r =
+    reply_at site keeps asked form actives (as_get head) reply also other
+    ∙ ap (λ (t : ReplyValue). response_of keeps false (of_site site.library.redirects_sole_hit t)) (same_tagged site head body form actives is) in
     let sized : length (reply_body false r) < 2 ^ 64 = subst (λ (v : ResponseValue). v.body_length < 2 ^ 64) long small in
     let fits = tagged_statable site head body actives in
     let sent : IsSentAs keeps r (head_of keeps r) =
@@ -251,16 +253,24 @@ goes : (keeps alone : Bool) (hits : List ReleaseHitValue) (o : Option (List ℕ)
 goes keeps alone hits None other best is = ap status_code is
 goes keeps alone hits (Some url) other best is = (refl, redirected keeps alone url (ap is_link best.3 ∙ best.2.link))
 
+-- a site sends a redirect as it is
+sited_redirect : (redirects : Bool) (o : Option (List ℕ)) (other : ReplyValue)
+    → of_site redirects (option_map_or redirect_to o other) ≡ option_map_or redirect_to o (of_site redirects other)
+sited_redirect redirects None other = refl
+sited_redirect redirects (Some url) other = refl
+
 pub goes_to_best : GoesToBest
 goes_to_best site keeps actives bytes body head query response begins asks is =
     let hits = counted (hits_among query (sited site actives)) in
     let other : ReplyValue = hits_reply status.NotFound (accepted_representation head) (target_query head) (sited site actives) query in
     let best : IsBestLink hits (best_link hits) = links.best_is hits in
-    let same : response ≡ response_of keeps (is_head head) (option_map_or redirect_to (best_link hits) other) =
+    let redirects : Bool = site.library.redirects_sole_hit in
+    let same : response ≡ response_of keeps (is_head head) (option_map_or redirect_to (best_link hits) (of_site redirects other)) =
     reply_at site keeps bytes body actives head response begins is
-    ∙ ap (response_of keeps (is_head head)) (read_tagged site head body actives asks.method ∙ untagged_go site head body actives asks.resource
-    ∙ go_replied head body query (sited site actives) asks) in
-    (best_link hits, best, subst (λ (v : ResponseValue). GoesTo (best_link hits) v) (sym same) (goes keeps (is_head head) hits (best_link hits) other best refl))
+    ∙ ap (λ (t : ReplyValue). response_of keeps (is_head head) (of_site redirects t)) (read_tagged site head body actives asks.method ∙ untagged_go site head body actives asks.resource
+    ∙ go_replied head body query (sited site actives) asks)
+    ∙ ap (response_of keeps (is_head head)) (sited_redirect redirects (best_link hits) other) in
+    (best_link hits, best, subst (λ (v : ResponseValue). GoesTo (best_link hits) v) (sym same) (goes keeps (is_head head) hits (best_link hits) (of_site redirects other) best refl))
 
 -- ---- a sole hit
 
@@ -384,8 +394,8 @@ form_is_get site keeps actives bytes body other post get n response form same be
     let asks : bytes_eq post.method (codes "OPTIONS") ≡ false = ap (λ m. bytes_eq m (codes "OPTIONS")) ((bytes_decides post.method (codes "POST")).0 read.method) in
     let plainly : tagged_reply site post body actives ≡ reply_to post body (sited site actives) = untagged_post site post body actives unread short asks in (
       reply_at site keeps bytes body actives post response begins is
-          ∙ ap (λ b. response_of keeps b (tagged_reply site post body actives)) short
-          ∙ ap (response_of keeps false) (plainly ∙ posted ∙ sym (got ∙ alike)),
+          ∙ ap (λ b. response_of keeps b (sent_reply site post body actives)) short
+          ∙ ap (λ (t : ReplyValue). response_of keeps false (of_site site.library.redirects_sole_hit t)) (plainly ∙ posted ∙ sym (got ∙ alike)),
       (reply_located get other (sited site actives)).1,
     )
 

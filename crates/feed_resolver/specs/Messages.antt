@@ -10,17 +10,18 @@ use Rattle.feed_resolver_request.specs.Targets.{resource_of, path_in, query_in}
 use Rattle.feed_resolver_request.specs.declared.representation.Representation.{Representation}
 use Rattle.feed_resolver_request.specs.declared.representation.Representation.TheVariants.{Html}
 use Rattle.feed_resolver_request.specs.declared.target.Resource.TheVariants.{Go}
-use Rattle.feed_resolver_reply.specs.Replies.{ResponseValue, response_of}
+use Rattle.feed_resolver_reply.specs.Replies.{ResponseValue, is_page, of_site, response_of}
 use Rattle.feed_resolver_reply.specs.Messages.{IsMessage, IsMessageFor}
 use Rattle.feed_resolver_reply.specs.declared.status.Status.TheVariants as status
 use Rattle.feed_resolver_hits.specs.Asked.{asked_of}
 use Rattle.feed_resolver_hits.specs.Laws.{IsSoleHit}
 use Rattle.feed_resolver_hits.specs.Ranks.{IsBestLink}
 use Rattle.feed_resolver_hits.specs.Tallies.{counted}
+use Rattle.std.specs.Str.{IsUtf8}
 use Rattle.feed_resolver_tag.specs.Tags.{SiteValue}
 use Rattle.feed_resolver.specs.Answers.{Dated, Sited, hits_among, sited}
 use Rattle.feed_resolver_request.specs.Forms.{form_of}
-use Rattle.feed_resolver.specs.Replies.{IsResponse, reply_to, has_coded_body, path_of, resolve_reply, target_query}
+use Rattle.feed_resolver.specs.Replies.{IsResponse, reply_to, has_coded_body, path_of, resolve_reply, sent_reply, target_query}
 
 -- the response to these bytes is one head and a body whose length the head states, or the head alone if the bytes begin
 -- with a HEAD; the head announces that the connection is closed exactly if it is not kept
@@ -101,4 +102,10 @@ FormIsGet =
     (response : ResponseValue)
     → form_of post ≡ Some (Ok n) → IsGetOfForm post get body → BeginsWith bytes post
     → IsResponse site bytes body keeps actives response
-    → (response ≡ response_of keeps false (reply_to get other (sited site actives))) × ((reply_to get other (sited site actives)).tag ≡ [])
+    → (response ≡ response_of keeps false (of_site site.library.redirects_sole_hit (reply_to get other (sited site actives)))) × ((reply_to get other (sited site actives)).tag ≡ [])
+
+-- the reply to a request is UTF-8 if it is a page, whatever the query, the lists and the site file have
+abbrev pub EveryPageIsUtf8 : Type 0
+EveryPageIsUtf8 =
+    (site : SiteValue) (head : RequestHead) (body : List ℕ) (actives : Dated)
+    → is_page (sent_reply site head body actives).representation ≡ true → IsUtf8 (sent_reply site head body actives).body

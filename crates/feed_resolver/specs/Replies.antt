@@ -20,7 +20,7 @@ use Rattle.feed_resolver_request.specs.declared.representation.Representation.{R
 use Rattle.feed_resolver_request.specs.declared.representation.Representation.TheVariants.{Text, Json, Html}
 use Rattle.feed_resolver_request.specs.declared.target.Resource.{Resource}
 use Rattle.feed_resolver_request.specs.declared.target.Resource.TheVariants as resource
-use Rattle.feed_resolver_reply.specs.Replies.{ReplyValue, ResponseValue, reply_with, redirect_to, refusal, response_of, bad_head_response}
+use Rattle.feed_resolver_reply.specs.Replies.{ReplyValue, ResponseValue, reply_with, redirect_to, refusal, of_site, response_of, bad_head_response}
 use Rattle.feed_resolver_reply.specs.declared.status.Status.{Status}
 use Rattle.feed_resolver_reply.specs.declared.status.Status.TheVariants as status
 use Rattle.feed_resolver_hits.specs.Asked.{asked_of}
@@ -150,9 +150,13 @@ reply_to head body actives =
 abbrev pub tagged_reply : SiteValue → RequestHead → List ℕ → Dated → ReplyValue
 tagged_reply site head body actives = final_reply head (tag_to site actives head) site.max_age (reply_to head body (sited site actives))
 
+-- the same as the site sends it: a page is UTF-8, and its policy lets forms be redirected if the site redirects
+abbrev pub sent_reply : SiteValue → RequestHead → List ℕ → Dated → ReplyValue
+sent_reply site head body actives = of_site site.library.redirects_sole_hit (tagged_reply site head body actives)
+
 -- the same with its bytes, on a connection that is kept or not
 abbrev pub response_to : SiteValue → Bool → RequestHead → List ℕ → Dated → ResponseValue
-response_to site keeps head body actives = response_of keeps (is_head head) (tagged_reply site head body actives)
+response_to site keeps head body actives = response_of keeps (is_head head) (sent_reply site head body actives)
 
 -- the reply to the head at the front of the bytes, within the limits
 abbrev pub IsReplyToHead : SiteValue → List ℕ → List ℕ → Bool → Dated → ResponseValue → Type 0

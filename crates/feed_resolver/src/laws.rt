@@ -1,7 +1,8 @@
 //! Laws of all replies, each stated as the contract of a function with an empty body.
 ghost use Rattle.feed_resolver.specs.Laws.{SameReleasesSameBytes, SameReleasesSameNodeBytes, StatusIsJson};
 ghost use Rattle.feed_resolver.specs.Laws.{HitsAreHeld, LinksAreHeld, WholeTextIsWritten};
-ghost use Rattle.feed_resolver.specs.Messages.{FormIsGet, GoesToBest, HeadIsHeadOfGet, RedirectsSoleHit};
+ghost use Rattle.feed_resolver.specs.Messages.{EveryPageIsUtf8, FormIsGet, GoesToBest, HeadIsHeadOfGet};
+ghost use Rattle.feed_resolver.specs.Messages.{RedirectsSoleHit};
 ghost use Rattle.feed_resolver.specs.TagLaws.{SameReleasesSameTag, SameInputsSameBytes, NotModifiedHasTagOfGood};
 
 /// Two nodes that report the same releases, and have stored their published files, give each request of a day the same
@@ -70,4 +71,9 @@ pub fn same_inputs_same_bytes()
 /// A 304 replaces a 200 alone, and has the entity tag that the 200 would have had.
 pub fn not_modified_has_tag_of_good()
     ensures { NotModifiedHasTagOfGood }
+{}
+
+/// Each page is UTF-8, whatever the query, the lists and the site file have.
+pub fn every_page_is_utf8()
+    ensures { EveryPageIsUtf8 }
 {}

@@ -14,8 +14,8 @@ mod validators;
 
 pub use feed_replies::{FeedTarget, ends_fetch, respond_about_feed};
 pub use laws::{
-    form_is_get, goes_to_best, head_is_head_of_get, hits_are_held, links_are_held,
-    not_modified_has_tag_of_good, redirects_sole_hit, same_inputs_same_bytes,
+    every_page_is_utf8, form_is_get, goes_to_best, head_is_head_of_get, hits_are_held,
+    links_are_held, not_modified_has_tag_of_good, redirects_sole_hit, same_inputs_same_bytes,
     same_releases_same_bytes, same_releases_same_node_bytes, same_releases_same_tag,
     status_is_json, whole_text_is_written,
 };

@@ -1,6 +1,6 @@
 //! Computes the reply to the head of a request and to its body, which only a form has.
 ghost use Rattle.std.specs.Prelude.{◌≡◌, IfOk, option_copied, option_map, position};
-ghost use Rattle.httparse.specs.Grammar.{RequestHead};
+ghost use Rattle.httparse.specs.Grammar.{AllPass, RequestHead, is_uri_byte};
 ghost use Rattle.feed_http_heads.specs.Options.{SaysWhetherItKeeps};
 ghost use Rattle.feed_http_heads.specs.Requests.{IsInBuffer, HasHead, is_head};
 ghost use Rattle.feed_releases.specs.Actives.{actives_of};
@@ -12,8 +12,8 @@ ghost use Rattle.feed_resolver_hits.specs.Asks.{ask_of};
 ghost use Rattle.feed_resolver_hits.specs.Tallies.{sole_link};
 ghost use Rattle.feed_resolver_page.specs.QueryRefusals.{unasked_reply};
 ghost use Rattle.feed_resolver_page.specs.TitlesPage.{titles_reply};
-ghost use Rattle.feed_resolver_reply.specs.Replies.{reply_with};
-ghost use Rattle.feed_resolver_reply.specs.Messages.{IsMessageFor};
+ghost use Rattle.feed_resolver_reply.specs.Replies.{of_site, reply_with, response_of};
+ghost use Rattle.feed_resolver_reply.specs.Messages.{IsLocation, IsMessageFor};
 ghost use Rattle.feed_resolver_reply.specs.declared.status.Status.TheVariants as status;
 ghost use Rattle.feed_resolver.specs.Answers.{dated, sited_in, is_of, tally_among};
 ghost use Rattle.feed_resolver.specs.Replies.{IsResponse, IsResponseAt, hits_reply, go_reply, resolve_reply};
@@ -415,6 +415,24 @@ fn unless_preflight(alloc: Global, request: &Request<'_>, reply: Reply) -> Reply
     }
 }
 
+// Returns the bytes of a reply as the site sends it.
+fn sent_response(
+    alloc: Global,
+    request: &Request<'_>,
+    reply: Reply,
+    keeps: bool,
+    context: &Context<'_>,
+) -> Result<Response, AllocError>
+    requires { IsInBuffer request.now }
+    ensures value { IfOk result (λ response. (head : RequestHead) → HasHead request.now head
+        → response ≡ response_of keeps (is_head head) (of_site context.now.site.library.redirects_sole_hit reply)) }
+    ensures message { IfOk result (λ response. (head : RequestHead) → HasHead request.now head
+        → IsLocation reply.location → AllPass is_uri_byte reply.tag → IsMessageFor keeps (is_head head) response) }
+{
+    let sent = reply.of_site(alloc, context.library().redirects_sole_hit())?;
+    sent.response(alloc, keeps, request.is_head())
+}
+
 pub(crate) fn response_to(
     alloc: Global,
     request: &Request<'_>,
@@ -431,7 +449,7 @@ pub(crate) fn response_to(
     let tag = tag_to(alloc, request, context)?;
     let reply = validated_reply(alloc, request, body, tag, context)?;
     let last = unless_preflight(alloc, request, reply);
-    last.response(alloc, keeps, request.is_head())
+    sent_response(alloc, request, last, keeps, context)
 }
 
 /// Returns the reply to the head at the front of the bytes, from the given releases on a day. The reply says

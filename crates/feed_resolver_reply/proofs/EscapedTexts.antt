@@ -1,9 +1,10 @@
 -- An escaped text has no markup, and decodes to the text as it is shown.
 use Rattle.std.proofs.Common.{◌≡◌, ℕ, Bool, List, [], ◌∷◌, ◌++◌, codes, true, false, Some, None, refl, ap, ◌∙◌, inl, inr}
 use Rattle.std.proofs.lemmas.Bool.{cases_Bool, eqb-true}
-use Rattle.std.specs.Prelude.{◌==◌, ◌||◌, if◌then◌else◌, All}
+use Rattle.std.specs.Prelude.{◌==◌, ◌||◌, if◌then◌else◌, map, All}
 use Rattle.std.proofs.lemmas.List.Elements.{All-from_recursion, All-append}
-use Rattle.feed_resolver_reply.specs.Escapes.{escape_byte, escaped, is_control, is_markup, shown, shown_byte, with_byte, undone, unescaped}
+use Rattle.feed_resolver_reply.specs.Utf8.{in_utf8}
+use Rattle.feed_resolver_reply.specs.Escapes.{escape_byte, escaped, escaped_bytes, is_control, is_markup, shown, shown_byte, with_byte, undone, unescaped}
 
 -- a byte that is neither markup nor `&` stands for itself
 plain_byte : (b : ℕ) (rest : List ℕ) → (b == 38) ≡ false → is_markup b ≡ false → undone None (b ∷ rest) ≡ with_byte b (undone None rest)
@@ -31,9 +32,12 @@ undone_byte b rest = elim (cases_Bool (b == 60)) [
   ]
 ]
 
+bytes_read_back : (text : List ℕ) → unescaped (escaped_bytes text) ≡ Some (map shown_byte text)
+bytes_read_back [] = refl
+bytes_read_back (b ∷ text) = undone_byte b (escaped_bytes text) ∙ ap (with_byte (shown_byte b)) (bytes_read_back text)
+
 pub reads_back : (text : List ℕ) → unescaped (escaped text) ≡ Some (shown text)
-reads_back [] = refl
-reads_back (b ∷ text) = undone_byte b (escaped text) ∙ ap (with_byte (shown_byte b)) (reads_back text)
+reads_back text = bytes_read_back (in_utf8 text)
 
 abbrev unmarked : ℕ → Type 0
 unmarked b = (is_markup b || is_control b) ≡ false
@@ -65,6 +69,9 @@ no_markup_byte b = elim (cases_Bool (b == 60)) [
   ]
 ]
 
+bytes_unmarked : (text : List ℕ) → All unmarked (escaped_bytes text)
+bytes_unmarked [] = All-from_recursion unmarked [] tt
+bytes_unmarked (b ∷ text) = All-append unmarked (escape_byte b) (escaped_bytes text) (no_markup_byte b) (bytes_unmarked text)
+
 pub no_markup : (text : List ℕ) → All (λ b. (is_markup b || is_control b) ≡ false) (escaped text)
-no_markup [] = All-from_recursion unmarked [] tt
-no_markup (b ∷ text) = All-append unmarked (escape_byte b) (escaped text) (no_markup_byte b) (no_markup text)
+no_markup text = bytes_unmarked (in_utf8 text)

@@ -1,20 +1,19 @@
 -- The head of a reply, as the grammar reads it.
 use Rattle.std.proofs.Common.{◌≡◌, ◌<◌, ◌^◌, lit<, ℕ, List, [], ◌∷◌, ◌++◌, length, codes, Some, Bool, true, false, refl, sym, ap, arith, ◌∙◌, append_assoc, reverse, All, inl, inr, map}
-use Rattle.std.specs.Prelude.{IsTrue, MatchBool, nat_lt, nat_le, if◌then◌else◌, ◌==◌, ◌&&◌, ◌||◌, not}
+use Rattle.std.specs.Prelude.{IsTrue, MatchBool, nat_lt, if◌then◌else◌, ◌==◌, ◌&&◌, not}
 use Rattle.std.specs.List.{list_all, flat_map, filter, AllByRecursion}
 use Rattle.std.specs.Char.{is_ascii_digit}
 use Rattle.std.specs.Fmt.{decimal, digits}
-use Rattle.std.specs.Str.Parse.{digits_value, AllDigits}
+use Rattle.std.specs.Str.Parse.{digits_value}
 use Rattle.std.proofs.lemmas.Fmt.{decimal_is_IsNumeral}
 use Rattle.std.specs.Str.{str_eq_ignore_ascii_case}
-use Rattle.std.proofs.lemmas.List.{append-nil, length-append, reverse-append, length-reverse, map-append}
+use Rattle.std.proofs.lemmas.List.{append-nil, map-append}
 use Rattle.std.proofs.lemmas.List.Elements.{All-nil, All-append, All-weaker, All-from_recursion, recursion_from_All, filter-append}
 use Rattle.std.proofs.lemmas.List.Sums.{AllPass-from_list_all}
 use Rattle.std.proofs.lemmas.Bool.{cases_Bool}
 use Rattle.std.proofs.lemmas.Bool.Decides.{nat_tests}
 use Rattle.httparse.specs.Grammar.{AllPass, ResponseHead, IsResponseHead, print_response, Field, IsField, field_value}
 use Rattle.httparse.specs.Grammar.{crlf, print_field, trim_ows, skip_ows, is_ows, is_value_byte, is_token_byte, is_uri_byte}
-use Rattle.httparse.specs.Grammar as grammar
 use Rattle.httparse.proofs.OnLiterals.{httparse_on_literals}
 use Rattle.httparse.proofs.TrimLemmas.{trim_ows_space, AllPass-reverse}
 use Rattle.feed_range.proofs.Digits.{numerals}
@@ -23,13 +22,12 @@ use Rattle.feed_http_heads.specs.Options.{lists, lacks_close, SaysWhetherItKeeps
 use Rattle.feed_resolver_request.specs.declared.representation.Representation.{Representation}
 use Rattle.feed_resolver_request.specs.declared.representation.Representation.TheVariants.{Text, Json, Html}
 use Rattle.feed_resolver_reply.specs.Replies.{ReplyValue, ResponseValue, status_code, reason_text, status_line, status_field}
-use Rattle.feed_resolver_reply.specs.Replies.{type_text, is_bodiless, connection_field, reply_head, reply_body, response_of}
+use Rattle.feed_resolver_reply.specs.Replies.{type_text, is_bodiless, reply_head, reply_body, response_of}
 use Rattle.feed_resolver_reply.specs.Laws.{NotModifiedIsHeadOfGood}
-use Rattle.feed_resolver_reply.specs.Replies.{with_tag, not_modified, content_fields, tag_field, cache_field, policy_field, last_fields}
+use Rattle.feed_resolver_reply.specs.Replies.{with_tag, not_modified, content_fields, tag_field, cache_field, last_fields}
 use Rattle.feed_resolver_reply.specs.Messages.{EndsInCrlf, IsSentHead, IsMessage, IsHeadOf, IsSentAs, IsSendable, StatesLength}
-use Rattle.feed_resolver_reply.specs.Messages.{StatesBody, IsMessageFor, BeginsStream, locations, unless_bodiless, tags, cache_text}
+use Rattle.feed_resolver_reply.specs.Messages.{IsMessageFor, BeginsStream, locations, tags, cache_text}
 use Rattle.feed_resolver_reply.specs.Messages.{StatesConnection, connection_values}
-use Rattle.feed_resolver_reply.specs.Pieces.{joined}
 use Rattle.feed_resolver_reply.specs.FetchReplies.{progress_head, progress_response}
 use Rattle.feed_resolver_reply.specs.declared.status.Status.{Status}
 use Rattle.feed_resolver_reply.specs.declared.status.Status.TheVariants as status
@@ -103,22 +101,24 @@ tag_pairs (b ∷ tag) = (codes "ETag", b ∷ tag) ∷ []
 abbrev cache_pairs : ℕ → Pairs
 cache_pairs max_age = (codes "Cache-Control", cache_text max_age) ∷ []
 
-abbrev policy_pairs : Representation → Pairs
-policy_pairs Text = (codes "Access-Control-Allow-Origin", codes "*") ∷ []
-policy_pairs Json = (codes "Access-Control-Allow-Origin", codes "*") ∷ []
-policy_pairs Html = (codes "Content-Security-Policy", codes "default-src 'none'; style-src 'unsafe-inline'; form-action 'self'; base-uri 'none'") ∷ []
+abbrev policy_pairs : Representation → Bool → Pairs
+policy_pairs Text redirects = (codes "Access-Control-Allow-Origin", codes "*") ∷ []
+policy_pairs Json redirects = (codes "Access-Control-Allow-Origin", codes "*") ∷ []
+policy_pairs Html true =
+    (codes "Content-Security-Policy", codes "default-src 'none'; style-src 'unsafe-inline'; form-action 'self' http: https:; base-uri 'none'") ∷ []
+policy_pairs Html false = (codes "Content-Security-Policy", codes "default-src 'none'; style-src 'unsafe-inline'; form-action 'self'; base-uri 'none'") ∷ []
 
-abbrev last_pairs : Bool → Representation → Pairs
-last_pairs keeps representation =
+abbrev last_pairs : Bool → Representation → Bool → Pairs
+last_pairs keeps representation redirects =
     (codes "Vary", codes "Accept") ∷ (codes "X-Content-Type-Options", codes "nosniff") ∷ (codes "Referrer-Policy", codes "no-referrer") ∷
-    (policy_pairs representation ++ connection_pairs keeps)
+    (policy_pairs representation redirects ++ connection_pairs keeps)
 
 abbrev content_of : ReplyValue → Pairs
 content_of reply = content_pairs (is_bodiless (status_code reply.status)) (type_text reply.representation) (decimal (length reply.body))
 
 abbrev pairs_of : Bool → ReplyValue → Pairs
 pairs_of keeps reply =
-    status_pairs reply.status reply.location ++ (content_of reply ++ (tag_pairs reply.tag ++ (cache_pairs reply.max_age ++ last_pairs keeps reply.representation)))
+    status_pairs reply.status reply.location ++ (content_of reply ++ (tag_pairs reply.tag ++ (cache_pairs reply.max_age ++ last_pairs keeps reply.representation reply.redirects)))
 
 abbrev pub head_of : Bool → ReplyValue → ResponseHead
 head_of keeps reply = record {
@@ -173,13 +173,16 @@ cache_written max_age rest = elim (cases_Bool (max_age == 0)) [
   | inr e ↦ rw e (simp append-nil refl)
 ]
 
-last_written : (keeps : Bool) (representation : Representation) → last_fields keeps representation ≡ lines (last_pairs keeps representation) (13 ∷ 10 ∷ 13 ∷ 10 ∷ [])
-last_written true Text = refl
-last_written true Json = refl
-last_written true Html = refl
-last_written false Text = refl
-last_written false Json = refl
-last_written false Html = refl
+last_written : (keeps : Bool) (representation : Representation) (redirects : Bool)
+    → last_fields keeps representation redirects ≡ lines (last_pairs keeps representation redirects) (13 ∷ 10 ∷ 13 ∷ 10 ∷ [])
+last_written true Text redirects = refl
+last_written true Json redirects = refl
+last_written true Html true = refl
+last_written true Html false = refl
+last_written false Text redirects = refl
+last_written false Json redirects = refl
+last_written false Html true = refl
+last_written false Html false = refl
 
 -- lines in five steps
 five_lines : (a b c d e : Pairs) (rest : List ℕ) → lines (a ++ (b ++ (c ++ (d ++ e)))) rest ≡ lines a (lines b (lines c (lines d (lines e rest))))
@@ -190,15 +193,16 @@ pub head_printed : (keeps : Bool) (reply : ReplyValue) → print_response (head_
 unfolding reply_head
 head_printed keeps reply =
     let end : List ℕ = 13 ∷ 10 ∷ 13 ∷ 10 ∷ [] in
-    let last : last_fields keeps reply.representation ≡ lines (last_pairs keeps reply.representation) end = last_written keeps reply.representation in
-    let cached = cache_written reply.max_age (lines (last_pairs keeps reply.representation) end) in
-    let tagged = tag_written reply.tag (lines (cache_pairs reply.max_age) (lines (last_pairs keeps reply.representation) end)) in
+    let last : last_fields keeps reply.representation reply.redirects ≡ lines (last_pairs keeps reply.representation reply.redirects) end = last_written keeps reply.representation reply.redirects in
+    let cached = cache_written reply.max_age (lines (last_pairs keeps reply.representation reply.redirects) end) in
+    let tagged = tag_written reply.tag (lines (cache_pairs reply.max_age) (lines (last_pairs keeps reply.representation reply.redirects) end)) in
     let content = content_written (is_bodiless (status_code reply.status)) reply.representation (length reply.body)
-    (lines (tag_pairs reply.tag) (lines (cache_pairs reply.max_age) (lines (last_pairs keeps reply.representation) end))) in
+    (lines (tag_pairs reply.tag) (lines (cache_pairs reply.max_age) (lines (last_pairs keeps reply.representation reply.redirects) end))) in
     start_printed keeps reply
     ∙ ap (λ t. status_line reply.status ++ t) (lines_printed (pairs_of keeps reply) (13 ∷ 10 ∷ [])
-    ∙ five_lines (status_pairs reply.status reply.location) (content_of reply) (tag_pairs reply.tag) (cache_pairs reply.max_age) (last_pairs keeps reply.representation) end
-    ∙ sym (status_written reply.status reply.location (lines (content_of reply) (lines (tag_pairs reply.tag) (lines (cache_pairs reply.max_age) (lines (last_pairs keeps reply.representation) end)))))
+    ∙ five_lines (status_pairs reply.status reply.location) (content_of reply) (tag_pairs reply.tag) (cache_pairs reply.max_age) (last_pairs keeps reply.representation reply.redirects) end
+    ∙ sym (status_written reply.status reply.location
+    (lines (content_of reply) (lines (tag_pairs reply.tag) (lines (cache_pairs reply.max_age) (lines (last_pairs keeps reply.representation reply.redirects) end)))))
     ∙ ap (λ t. status_field reply.status reply.location ++ t) (sym content
     ∙ ap (λ t. content_fields (is_bodiless (status_code reply.status)) reply.representation (length reply.body) ++ t) (sym tagged
     ∙ ap (λ t. tag_field reply.tag ++ t) (sym cached ∙ ap (λ t. cache_field reply.max_age ++ t) (sym last)))))
@@ -333,14 +337,16 @@ unfolding httparse_on_literals
 cache_valid max_age small = All-from_recursion IsField (fields_of (cache_pairs max_age))
     (visible_field (codes "Cache-Control") (cache_text max_age) (omega arith) refl (cache_passes max_age small), tt)
 
-last_valid : (keeps : Bool) (representation : Representation) → All IsField (fields_of (last_pairs keeps representation))
+last_valid : (keeps : Bool) (representation : Representation) (redirects : Bool) → All IsField (fields_of (last_pairs keeps representation redirects))
 unfolding httparse_on_literals
-last_valid true Text = literals_valid (last_pairs true Text) refl
-last_valid true Json = literals_valid (last_pairs true Json) refl
-last_valid true Html = literals_valid (last_pairs true Html) refl
-last_valid false Text = literals_valid (last_pairs false Text) refl
-last_valid false Json = literals_valid (last_pairs false Json) refl
-last_valid false Html = literals_valid (last_pairs false Html) refl
+last_valid true Text redirects = literals_valid (last_pairs true Text redirects) refl
+last_valid true Json redirects = literals_valid (last_pairs true Json redirects) refl
+last_valid true Html true = literals_valid (last_pairs true Html true) refl
+last_valid true Html false = literals_valid (last_pairs true Html false) refl
+last_valid false Text redirects = literals_valid (last_pairs false Text redirects) refl
+last_valid false Json redirects = literals_valid (last_pairs false Json redirects) refl
+last_valid false Html true = literals_valid (last_pairs false Html true) refl
+last_valid false Html false = literals_valid (last_pairs false Html false) refl
 
 -- two lists of valid fields
 both_valid : (ps qs : Pairs) → All IsField (fields_of ps) → All IsField (fields_of qs) → All IsField (fields_of (ps ++ qs))
@@ -348,14 +354,14 @@ both_valid ps qs one other = rw (fields_of-append ps qs) (All-append IsField (fi
 
 fields_valid : (keeps : Bool) (reply : ReplyValue) → IsSendable reply → All IsField (fields_of (pairs_of keeps reply))
 fields_valid keeps reply sendable =
-    let last = last_pairs keeps reply.representation in
+    let last = last_pairs keeps reply.representation reply.redirects in
     let cached = cache_pairs reply.max_age ++ last in
     let tagged = tag_pairs reply.tag ++ cached in
     both_valid (status_pairs reply.status reply.location) (content_of reply ++ tagged) (status_valid reply.status reply.location sendable.location)
     (both_valid (content_of reply) tagged
     (content_valid (is_bodiless (status_code reply.status)) reply.representation reply.body sendable.size)
     (both_valid (tag_pairs reply.tag) cached (tag_valid reply.tag sendable.tag)
-    (both_valid (cache_pairs reply.max_age) last (cache_valid reply.max_age sendable.age) (last_valid keeps reply.representation))))
+    (both_valid (cache_pairs reply.max_age) last (cache_valid reply.max_age sendable.age) (last_valid keeps reply.representation reply.redirects))))
 
 head_valid : (keeps : Bool) (reply : ReplyValue) → IsSendable reply → IsResponseHead (head_of keeps reply)
 head_valid keeps reply sendable = let right = status_digits reply.status in
@@ -467,14 +473,16 @@ accept_trimmed : trim_ows (32 ∷ codes "Accept") ≡ codes "Accept"
 unfolding httparse_on_literals
 accept_trimmed = refl
 
-last_values : (keeps : Bool) (representation : Representation)
-    → AreValues (last_pairs keeps representation) [] [] [] [] (codes "Accept" ∷ []) [] (unless_kept keeps (trim_ows (32 ∷ codes "close")))
-last_values true Text = (refl, refl, refl, refl, ap (λ (t : List ℕ). t ∷ []) accept_trimmed, refl, refl)
-last_values true Json = (refl, refl, refl, refl, ap (λ (t : List ℕ). t ∷ []) accept_trimmed, refl, refl)
-last_values true Html = (refl, refl, refl, refl, ap (λ (t : List ℕ). t ∷ []) accept_trimmed, refl, refl)
-last_values false Text = (refl, refl, refl, refl, ap (λ (t : List ℕ). t ∷ []) accept_trimmed, refl, refl)
-last_values false Json = (refl, refl, refl, refl, ap (λ (t : List ℕ). t ∷ []) accept_trimmed, refl, refl)
-last_values false Html = (refl, refl, refl, refl, ap (λ (t : List ℕ). t ∷ []) accept_trimmed, refl, refl)
+last_values : (keeps : Bool) (representation : Representation) (redirects : Bool)
+    → AreValues (last_pairs keeps representation redirects) [] [] [] [] (codes "Accept" ∷ []) [] (unless_kept keeps (trim_ows (32 ∷ codes "close")))
+last_values true Text redirects = (refl, refl, refl, refl, ap (λ (t : List ℕ). t ∷ []) accept_trimmed, refl, refl)
+last_values true Json redirects = (refl, refl, refl, refl, ap (λ (t : List ℕ). t ∷ []) accept_trimmed, refl, refl)
+last_values true Html true = (refl, refl, refl, refl, ap (λ (t : List ℕ). t ∷ []) accept_trimmed, refl, refl)
+last_values true Html false = (refl, refl, refl, refl, ap (λ (t : List ℕ). t ∷ []) accept_trimmed, refl, refl)
+last_values false Text redirects = (refl, refl, refl, refl, ap (λ (t : List ℕ). t ∷ []) accept_trimmed, refl, refl)
+last_values false Json redirects = (refl, refl, refl, refl, ap (λ (t : List ℕ). t ∷ []) accept_trimmed, refl, refl)
+last_values false Html true = (refl, refl, refl, refl, ap (λ (t : List ℕ). t ∷ []) accept_trimmed, refl, refl)
+last_values false Html false = (refl, refl, refl, refl, ap (λ (t : List ℕ). t ∷ []) accept_trimmed, refl, refl)
 
 -- the values of the five parts of a head
 parts_values : (name : List ℕ) (a b c d e : Pairs) (va vb vc vd ve : List (List ℕ))
@@ -493,12 +501,12 @@ head_states keeps reply sendable =
     let b : Pairs = content_of reply in
     let c : Pairs = tag_pairs reply.tag in
     let d : Pairs = cache_pairs reply.max_age in
-    let e : Pairs = last_pairs keeps reply.representation in
+    let e : Pairs = last_pairs keeps reply.representation reply.redirects in
     let va = status_values reply.status reply.location in
     let vb = content_values bodiless (type_text reply.representation) (decimal (length reply.body)) in
     let vc = tag_values reply.tag sendable.tag in
     let vd = cache_values reply.max_age sendable.age in
-    let ve = last_values keeps reply.representation in
+    let ve = last_values keeps reply.representation reply.redirects in
     record {
       status = (status_digits reply.status).2;
       size = parts_values (codes "content-length") a b c d e _ _ _ _ _ va.0 vb.0 vc.0 vd.0 ve.0 ∙ append-nil _

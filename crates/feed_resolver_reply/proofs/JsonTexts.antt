@@ -9,7 +9,7 @@ use borrow.Author.Tests.{le-ltb}
 use Rattle.json.specs.Token.{Token}
 use Rattle.json.specs.Text.{content, plain, prepend, code_unit, short_escape}
 use Rattle.json.specs.Word.{is_operator, is_space}
-use Rattle.json.specs.Lex.{Lexeme, token, comma, colon, Mode, lex, lex_byte, between, in_string, operator, space, other, string_token}
+use Rattle.json.specs.Lex.{Lexeme, token, colon, Mode, lex, lex_byte, between, in_string, operator, space, other, string_token}
 use Rattle.json.specs.Lex.{punctuate, Place, fresh, after_value, after_comma, after_key, may_begin, tokens}
 use Rattle.json.specs.Json.{Json, string, array, object, member, no_members, items, if_last, max_depth, document}
 use Rattle.json.specs.Json as json
@@ -18,7 +18,7 @@ use Rattle.json.specs.Tree.{json_tokens, items_tokens, depth, items_depth}
 use Rattle.json.proofs.Printed.Trees.{value-json_tokens}
 use Rattle.feed_resolver_request.specs.declared.representation.Representation.TheVariants as representation
 use Rattle.feed_resolver_reply.specs.JsonStrings.{json_byte, json_string}
-use Rattle.feed_resolver_reply.specs.JsonLists.{comma_before, items_from, json_list}
+use Rattle.feed_resolver_reply.specs.JsonLists.{items_from, json_list}
 use Rattle.feed_resolver_reply.specs.Pages.{fault_body}
 
 -- ---- strings

@@ -2,3 +2,4 @@ pub mod HeadsRead
 pub mod EscapedTexts
 pub mod JsonTexts
 pub mod Written
+pub mod Utf8Texts

@@ -26,12 +26,12 @@ pub head_written : (keeps : Bool) (old one two three four five new : List ℕ) (
     → three ≡ two ++ content_fields (is_bodiless (status_code reply.status)) reply.representation size
     → four ≡ three ++ tag_field reply.tag
     → five ≡ four ++ cache_field age
-    → new ≡ five ++ last_fields keeps reply.representation
+    → new ≡ five ++ last_fields keeps reply.representation reply.redirects
     → new ≡ old ++ reply_head keeps reply
 unfolding reply_head
 head_written keeps old one two three four five new reply size age sized aged first second third fourth fifth sixth =
     in_six old one two three four five new
     (status_line reply.status) (status_field reply.status reply.location)
     (content_fields (is_bodiless (status_code reply.status)) reply.representation (length reply.body))
-    (tag_field reply.tag) (cache_field reply.max_age) (last_fields keeps reply.representation)
+    (tag_field reply.tag) (cache_field reply.max_age) (last_fields keeps reply.representation reply.redirects)
     first second (rw (← sized) third) fourth (rw (← aged) fifth) sixth

@@ -3,6 +3,7 @@ use Rattle.std.specs.Prelude.{ℕ, ◌==◌, ◌||◌, nat_lt, Bool, if◌then�
 use Rattle.std.specs.List.{flat_map}
 use Rattle.std.specs.Option.{option_and_then}
 use Rattle.std.specs.Str.{bytes_eq}
+use Rattle.feed_resolver_reply.specs.Utf8.{in_utf8}
 
 -- a control character of ASCII
 abbrev pub is_control : ℕ → Bool
@@ -12,9 +13,9 @@ is_control b = nat_lt b 32 || (b == 127)
 abbrev pub shown_byte : ℕ → ℕ
 shown_byte b = if is_control b then 32 else b
 
--- a text as a page shows it
+-- a text as a page shows it, in UTF-8
 abbrev pub shown : List ℕ → List ℕ
-shown text = map shown_byte text
+shown text = map shown_byte (in_utf8 text)
 
 -- a byte of a text, escaped for a page
 abbrev pub escape_byte : ℕ → List ℕ
@@ -26,9 +27,13 @@ escape_byte b =
     else (if b == 38 then codes "&amp;"
     else shown_byte b ∷ []))))
 
--- a text, escaped for a page
+-- bytes, escaped for a page
+abbrev pub escaped_bytes : List ℕ → List ℕ
+escaped_bytes text = flat_map escape_byte text
+
+-- a text in UTF-8, escaped for a page
 abbrev pub escaped : List ℕ → List ℕ
-escaped text = flat_map escape_byte text
+escaped text = escaped_bytes (in_utf8 text)
 
 -- `<`, `>`, `"` and `'`
 abbrev pub is_markup : ℕ → Bool

@@ -1,5 +1,6 @@
 -- Laws of replies and of escaped texts.
-use Rattle.std.specs.Prelude.{◌≡◌, ◌||◌, ℕ, Bool, List, [], Some, false, All, codes}
+use Rattle.std.specs.Prelude.{◌≡◌, ◌||◌, ℕ, Bool, List, [], Some, true, false, All, codes}
+use Rattle.std.specs.Str.{IsUtf8}
 use Rattle.feed_resolver_reply.specs.Escapes.{escaped, is_control, is_markup, shown, unescaped}
 use Rattle.json.specs.Json.{document, string, object, member, no_members}
 use Rattle.feed_resolver_request.specs.declared.representation.Representation.TheVariants.{Json}
@@ -7,7 +8,7 @@ use Rattle.feed_resolver_reply.specs.JsonStrings.{json_string}
 use Rattle.feed_resolver_reply.specs.Pages.{fault_body}
 use Rattle.httparse.specs.Grammar.{ResponseHead}
 use Rattle.feed_http_heads.specs.Fields.{values_named}
-use Rattle.feed_resolver_reply.specs.Replies.{ReplyValue, with_tag, not_modified, response_of}
+use Rattle.feed_resolver_reply.specs.Replies.{ReplyValue, is_page, of_site, with_tag, not_modified, response_of}
 use Rattle.feed_resolver_reply.specs.Messages.{IsSentAs, IsSendable, IsHeadOf, IsMessage}
 
 -- an escaped text has no `<`, `>`, `"` and `'`, and no control character
@@ -18,6 +19,10 @@ EscapedHasNoMarkup = (text : List ℕ) → All (λ b. (is_markup b || is_control
 -- five references
 abbrev pub EscapedReadsBack : Type 0
 EscapedReadsBack = (text : List ℕ) → unescaped (escaped text) ≡ Some (shown text)
+
+-- a page that a site sends is UTF-8, whatever texts are in it
+abbrev pub PagesAreUtf8 : Type 0
+PagesAreUtf8 = (redirects : Bool) (page : ReplyValue) → is_page page.representation ≡ true → IsUtf8 (of_site redirects page).body
 
 -- a JSON string is, by the grammar of JSON, the text from which it was written
 abbrev pub JsonReadsBack : Type 0

@@ -1,3 +1,4 @@
+pub mod Utf8
 pub mod Escapes
 pub mod JsonStrings
 pub mod JsonLists

@@ -1,16 +1,18 @@
 -- Replies, and their bytes.
-use Rattle.std.specs.Prelude.{ℕ, ◌==◌, ◌||◌, Bool, true, false, if◌then◌else◌, List, [], ◌∷◌, ◌++◌, length, codes}
+use Rattle.std.specs.Prelude.{ℕ, ◌==◌, ◌||◌, ◌&&◌, Bool, true, false, if◌then◌else◌, List, [], ◌∷◌, ◌++◌, length, codes}
 use Rattle.std.specs.Fmt.{decimal}
 use Rattle.feed_resolver_request.specs.declared.representation.Representation.{Representation}
 use Rattle.feed_resolver_request.specs.declared.representation.Representation.TheVariants.{Text, Json, Html}
 use Rattle.feed_resolver_reply.specs.Pieces.{joined}
+use Rattle.feed_resolver_reply.specs.Utf8.{in_utf8}
 use Rattle.feed_resolver_reply.specs.Pages.{fault_body, fault_representation}
-use Rattle.feed_resolver_reply.specs.declared.reply.TheConstants.{LAST_FIELDS, PAGE_FIELDS, SHARED_FIELDS, PREFLIGHT_FIELDS, QUERY_PREFLIGHT_FIELDS}
+use Rattle.feed_resolver_reply.specs.declared.reply.TheConstants.{LAST_FIELDS, PAGE_FIELDS, REDIRECTING_FIELDS, SHARED_FIELDS, PREFLIGHT_FIELDS, QUERY_PREFLIGHT_FIELDS}
 use Rattle.feed_resolver_reply.specs.declared.status.Status.{Status}
 use Rattle.feed_resolver_reply.specs.declared.status.Status.TheVariants as status
 
 -- a reply: its status, the location of a redirect, if any, its representation, its body, its entity tag, which is empty if
--- there is none, and for how many seconds a cache may use it without asking again
+-- there is none, for how many seconds a cache may use it without asking again, and whether it is a page of a site that
+-- redirects browsers to a sole hit
 pub record ReplyValue : Type 0 where
   pub status : Status
   pub location : List ℕ
@@ -18,6 +20,7 @@ pub record ReplyValue : Type 0 where
   pub body : List ℕ
   pub tag : List ℕ
   pub max_age : ℕ
+  pub redirects : Bool
 
 -- the bytes of a reply, its status code, and the length of the body in them
 pub record ResponseValue : Type 0 where
@@ -28,12 +31,12 @@ pub record ResponseValue : Type 0 where
 -- a reply that is not a redirect
 abbrev pub reply_with : Status → Representation → List ℕ → ReplyValue
 reply_with code representation body =
-    record { status = code; location = []; representation = representation; body = body; tag = []; max_age = 0 }
+    record { status = code; location = []; representation = representation; body = body; tag = []; max_age = 0; redirects = false }
 
 -- a redirect
 abbrev pub redirect_to : List ℕ → ReplyValue
 redirect_to url =
-    record { status = status.Found; location = url; representation = Text; body = []; tag = []; max_age = 0 }
+    record { status = status.Found; location = url; representation = Text; body = []; tag = []; max_age = 0; redirects = false }
 
 -- the same reply with an entity tag, and fresh for this many seconds
 abbrev pub with_tag : List ℕ → ℕ → ReplyValue → ReplyValue
@@ -44,6 +47,31 @@ with_tag tag max_age reply = record {
   body = reply.body;
   tag = tag;
   max_age = max_age;
+  redirects = reply.redirects;
+}
+
+-- a page
+abbrev pub is_page : Representation → Bool
+is_page Text = false
+is_page Json = false
+is_page Html = true
+
+-- the body that a site sends: a page is UTF-8
+abbrev pub sent_page : Representation → List ℕ → List ℕ
+sent_page Text body = body
+sent_page Json body = body
+sent_page Html body = in_utf8 body
+
+-- the reply of a site that redirects browsers to a sole hit, or not
+abbrev pub of_site : Bool → ReplyValue → ReplyValue
+of_site redirects reply = record {
+  status = reply.status;
+  location = reply.location;
+  representation = reply.representation;
+  body = sent_page reply.representation reply.body;
+  tag = reply.tag;
+  max_age = reply.max_age;
+  redirects = is_page reply.representation && redirects;
 }
 
 -- the reply to a client that has what such a reply would send (RFC 9110, section 15.4.5)
@@ -152,17 +180,18 @@ cache_field max_age =
     if max_age == 0 then codes "\r\nCache-Control: no-cache"
     else joined (codes "\r\nCache-Control: max-age=" ∷ decimal max_age ∷ [])
 
--- what a browser may do with the reply: a page runs no script, has its own styles and sends forms to its own site; the
--- scripts of any site may read a text
-abbrev pub policy_field : Representation → List ℕ
-policy_field Text = SHARED_FIELDS.now
-policy_field Json = SHARED_FIELDS.now
-policy_field Html = PAGE_FIELDS.now
+-- what a browser may do with the reply: a page runs no script, has its own styles and sends forms to its own site, and, on a
+-- site that redirects, to where the form is redirected; the scripts of any site may read a text
+abbrev pub policy_field : Representation → Bool → List ℕ
+policy_field Text redirects = SHARED_FIELDS.now
+policy_field Json redirects = SHARED_FIELDS.now
+policy_field Html true = REDIRECTING_FIELDS.now
+policy_field Html false = PAGE_FIELDS.now
 
 -- the last fields, and the end of the head
-abbrev pub last_fields : Bool → Representation → List ℕ
-last_fields keeps representation =
-    joined (LAST_FIELDS.now ∷ policy_field representation ∷ connection_field keeps ∷ codes "\r\n\r\n" ∷ [])
+abbrev pub last_fields : Bool → Representation → Bool → List ℕ
+last_fields keeps representation redirects =
+    joined (LAST_FIELDS.now ∷ policy_field representation redirects ∷ connection_field keeps ∷ codes "\r\n\r\n" ∷ [])
 
 -- the head of a reply, on a connection that is kept or not
 unfoldable pub reply_head : Bool → ReplyValue → List ℕ
@@ -172,7 +201,7 @@ reply_head keeps reply =
     ++ (content_fields (is_bodiless (status_code reply.status)) reply.representation (length reply.body)
     ++ (tag_field reply.tag
     ++ (cache_field reply.max_age
-    ++ last_fields keeps reply.representation))))
+    ++ last_fields keeps reply.representation reply.redirects))))
 
 -- the body that is sent; the reply to a HEAD has none, and nor has one whose status excludes it
 abbrev pub reply_body : Bool → ReplyValue → List ℕ

@@ -1,7 +1,8 @@
 //! Writes bytes, and texts escaped for HTML pages.
 ghost use Rattle.std.specs.Prelude.{◌≡◌, ◌++◌, OnOk};
-ghost use Rattle.feed_resolver_reply.specs.Escapes.{escape_byte, escaped, shown_byte};
+ghost use Rattle.feed_resolver_reply.specs.Escapes.{escape_byte, escaped, escaped_bytes, shown_byte};
 
+use crate::utf8::in_utf8;
 use std::alloc::AllocError;
 
 /// Writes the bytes of a text.
@@ -31,13 +32,20 @@ fn put_escaped_byte(out: &mut Vec<u8>, byte: u8) -> Result<(), AllocError>
     }
 }
 
-/// Writes a text escaped for an HTML page, as text or as an attribute's value (WHATWG HTML, section 13.1.4). A space
-/// replaces each control character.
-pub(crate) fn put_escaped(out: &mut Vec<u8>, text: &[u8]) -> Result<(), AllocError>
-    ensures { OnOk result (out.new.items ≡ out.old.items ++ escaped text.now) }
+fn put_escaped_bytes(out: &mut Vec<u8>, text: &[u8]) -> Result<(), AllocError>
+    ensures { OnOk result (out.new.items ≡ out.old.items ++ escaped_bytes text.now) }
 {
     for byte in text {
         put_escaped_byte(out, *byte)?;
     }
     Ok(())
+}
+
+/// Writes a text escaped for an HTML page, as text or as an attribute's value (WHATWG HTML, section 13.1.4). A space
+/// replaces each control character. A text that is not UTF-8 is taken for Windows-1252.
+pub(crate) fn put_escaped(out: &mut Vec<u8>, text: &[u8]) -> Result<(), AllocError>
+    ensures { OnOk result (out.new.items ≡ out.old.items ++ escaped text.now) }
+{
+    let shown = in_utf8(*out.allocator(), text)?;
+    put_escaped_bytes(out, &shown)
 }

@@ -1,6 +1,6 @@
 //! Laws of replies and of escaped texts, each stated as the contract of a function with an empty body.
 ghost use Rattle.feed_resolver_reply.specs.Laws.{EscapedHasNoMarkup, EscapedReadsBack, JsonReadsBack};
-ghost use Rattle.feed_resolver_reply.specs.Laws.{FaultIsJson, ReplyReadsBack, NotModifiedIsHeadOfGood};
+ghost use Rattle.feed_resolver_reply.specs.Laws.{FaultIsJson, PagesAreUtf8, ReplyReadsBack, NotModifiedIsHeadOfGood};
 
 /// A text escaped for a page has no `<`, `>`, `"` and `'`, and no control character.
 pub fn escaped_has_no_markup()
@@ -11,6 +11,11 @@ pub fn escaped_has_no_markup()
 /// a character reference.
 pub fn escaped_reads_back()
     ensures { EscapedReadsBack }
+{}
+
+/// A page that a site sends is UTF-8, whatever texts are in it.
+pub fn pages_are_utf8()
+    ensures { PagesAreUtf8 }
 {}
 
 /// A JSON string is, by the grammar of JSON (RFC 8259, section 7), the text from which it was written.

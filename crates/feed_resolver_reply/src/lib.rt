@@ -11,6 +11,7 @@ mod piece;
 mod reply;
 mod response;
 mod status;
+mod utf8;
 
 pub use escape::put;
 pub use fault::{bad_head_response, put_fault, refusal};
@@ -18,7 +19,7 @@ pub use fetch_replies::fetch_reply;
 pub use json_text::{put_comma, put_list_end, put_list_start};
 pub use laws::{
     escaped_has_no_markup, escaped_reads_back, fault_is_json, json_reads_back,
-    not_modified_is_head_of_good, reply_reads_back,
+    not_modified_is_head_of_good, pages_are_utf8, reply_reads_back,
 };
 pub use piece::Piece;
 pub use reply::Reply;

@@ -5,12 +5,14 @@ ghost use Rattle.feed_resolver_reply.specs.Replies.{reply_head, reply_body, repl
 ghost use Rattle.feed_resolver_reply.specs.Replies.{status_code, status_line, status_field, type_text, is_bodiless};
 ghost use Rattle.feed_resolver_reply.specs.Replies.{content_fields, tag_field, cache_field, policy_field};
 ghost use Rattle.feed_resolver_reply.specs.Replies.{connection_field, last_fields, with_tag, not_modified, is_good};
+ghost use Rattle.feed_resolver_reply.specs.Replies.{is_page, of_site, sent_page};
 ghost use Rattle.feed_resolver_reply.specs.Messages.{IsLocation, IsMessageFor};
 
 use crate::escape::put;
 use crate::piece::Piece;
 use crate::response::Response;
 use crate::status::{Status, is_bodiless, reason_text, status_code};
+use crate::utf8::page_in_utf8;
 use feed_pieces::put_all;
 use feed_resolver_request::Representation;
 use std::alloc::{AllocError, Global};
@@ -25,6 +27,11 @@ const LAST_FIELDS: &[u8] =
 const PAGE_FIELDS: &[u8] =
     b"\r\nContent-Security-Policy: default-src 'none'; style-src 'unsafe-inline'; \
     form-action 'self'; base-uri 'none'";
+
+// The same of a site that redirects browsers to a sole hit: browsers check `form-action` for each redirect of a form.
+const REDIRECTING_FIELDS: &[u8] =
+    b"\r\nContent-Security-Policy: default-src 'none'; style-src 'unsafe-inline'; \
+    form-action 'self' http: https:; base-uri 'none'";
 
 // The scripts of any site may read a text (Fetch standard, section 3.3.3).
 const SHARED_FIELDS: &[u8] = b"\r\nAccess-Control-Allow-Origin: *";
@@ -48,6 +55,8 @@ pub struct Reply {
     tag: Option<Vec<u8>>,
     /// For how many seconds a cache may use the reply without asking again.
     max_age: u32,
+    /// Whether it is a page of a site that redirects browsers to a sole hit.
+    redirects: bool,
 }
 
 impl Model for Reply {
@@ -64,6 +73,7 @@ impl Model for Reply {
       body = r.body.items;
       tag = option_map_or (λ t. t.items) r.tag [];
       max_age = r.max_age;
+      redirects = r.redirects;
     } };
 }
 
@@ -83,12 +93,36 @@ fn connection_field(keeps: bool) -> &'static [u8]
     if keeps { b"" } else { b"\r\nConnection: close" }
 }
 
-fn policy_field(representation: Representation) -> &'static [u8]
-    ensures { result.now ≡ policy_field representation }
+fn policy_field(representation: Representation, redirects: bool) -> &'static [u8]
+    ensures { result.now ≡ policy_field representation redirects }
 {
     match representation {
         Representation::Text | Representation::Json => SHARED_FIELDS,
+        Representation::Html if redirects => REDIRECTING_FIELDS,
         Representation::Html => PAGE_FIELDS,
+    }
+}
+
+fn is_page(representation: Representation) -> bool
+    ensures { result ≡ is_page representation }
+{
+    match representation {
+        Representation::Text | Representation::Json => false,
+        Representation::Html => true,
+    }
+}
+
+// Returns the body that a site sends: a page is UTF-8.
+fn sent_page(
+    alloc: Global,
+    representation: Representation,
+    body: Vec<u8>,
+) -> Result<Vec<u8>, AllocError>
+    ensures { IfOk result (λ sent. sent.items ≡ sent_page representation body.items) }
+{
+    match representation {
+        Representation::Text | Representation::Json => Ok(body),
+        Representation::Html => page_in_utf8(alloc, body),
     }
 }
 
@@ -184,14 +218,15 @@ fn put_last(
     out: &mut Vec<u8>,
     keeps: bool,
     representation: Representation,
+    redirects: bool,
 ) -> Result<(), AllocError>
-    ensures { OnOk result (out.new.items ≡ out.old.items ++ last_fields keeps representation) }
+    ensures { OnOk result (out.new.items ≡ out.old.items ++ last_fields keeps representation redirects) }
 {
     put_all(
         out,
         &[
             Piece::Plain(LAST_FIELDS),
-            Piece::Plain(policy_field(representation)),
+            Piece::Plain(policy_field(representation, redirects)),
             Piece::Plain(connection_field(keeps)),
             Piece::Plain(b"\r\n\r\n"),
         ],
@@ -210,6 +245,7 @@ impl Reply {
             body,
             tag: None,
             max_age: 0,
+            redirects: false,
         }
     }
 
@@ -229,6 +265,7 @@ impl Reply {
             body: Vec::new(alloc),
             tag: Some(tag),
             max_age,
+            redirects: false,
         }
     }
 
@@ -243,7 +280,28 @@ impl Reply {
             body: self.body,
             tag: Some(tag),
             max_age,
+            redirects: self.redirects,
         }
+    }
+
+    /// Returns the reply of a site that redirects browsers to a sole hit or not. A page is UTF-8.
+    ///
+    /// # Errors
+    ///
+    /// Running out of memory.
+    pub fn of_site(self, alloc: Global, redirects: bool) -> Result<Reply, AllocError>
+        ensures { IfOk result (λ reply. reply ≡ of_site redirects self) }
+    {
+        let body = sent_page(alloc, self.representation, self.body)?;
+        Ok(Reply {
+            status: self.status,
+            location: self.location,
+            representation: self.representation,
+            body,
+            tag: self.tag,
+            max_age: self.max_age,
+            redirects: is_page(self.representation) && redirects,
+        })
     }
 
     /// Returns a redirect.
@@ -257,6 +315,7 @@ impl Reply {
             body: Vec::new(alloc),
             tag: None,
             max_age: 0,
+            redirects: false,
         }
     }
 
@@ -323,7 +382,7 @@ impl Reply {
         put_content(out, self.status, self.representation, size)?;
         put_tag(out, tag)?;
         put_cache(out, age)?;
-        put_last(out, keeps, self.representation)
+        put_last(out, keeps, self.representation, self.redirects)
     }
 
     // The body that is sent: none if only the head was requested, or if the status excludes one.

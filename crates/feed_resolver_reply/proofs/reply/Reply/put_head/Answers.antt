@@ -1,4 +1,4 @@
-use Rattle.std.proofs.Common.{◌<◌, ◌^◌, ℕ, sym, ap, ◌∙◌, ◌++◌, length, subst}
+use Rattle.std.proofs.Common.{◌<◌, ◌^◌, ℕ, ap, ◌∙◌, ◌++◌, subst}
 use Rattle.std.proofs.lemmas.Result.{on_ok_weaker}
 use Rattle.feed_resolver_reply.specs.Replies.{ReplyValue, status_line, status_field, status_code, is_bodiless, content_fields, tag_field, last_fields}
 use Rattle.feed_resolver_reply.proofs.Written.{head_written}
@@ -16,7 +16,7 @@ returns-clause-text c = on_ok_weaker c.put_last.result
     ∙ ap (λ (r : ReplyValue). c.put_status_field.new.out.items ++ content_fields (is_bodiless (status_code r.status)) r.representation c.size-size.result) c.self.view_is)
     (c.in_ok-put_tag.ensures ∙ ap (λ t. c.put_content.new.out.items ++ tag_field t) c.tag-tag.ensures)
     c.in_ok-put_cache.ensures
-    (sixth ∙ ap (λ (r : ReplyValue). c.put_cache.new.out.items ++ last_fields c.args.keeps r.representation) c.self.view_is))
+    (sixth ∙ ap (λ (r : ReplyValue). c.put_cache.new.out.items ++ last_fields c.args.keeps r.representation r.redirects) c.self.view_is))
     c.put_last.ensures
 
 pub returns-clause-size : goal.returns-clause-size
