@@ -6,7 +6,7 @@ ghost use Rattle.feed_site.specs.Hosts.{is_link, is_name, is_port, is_reachable,
 ghost use Rattle.feed_site.specs.Hosts.{written_host};
 
 use crate::cuts::has;
-use crate::url::{after_scheme, authority_of, is_all_visible, is_host};
+use crate::urls::{after_scheme, authority_of, is_all_visible, is_host};
 use std::alloc::{AllocError, Global};
 use std::net::{Ipv4Addr, Ipv6Addr};
 

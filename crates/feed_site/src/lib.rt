@@ -20,7 +20,7 @@ mod site_file;
 mod template;
 mod text;
 mod texts;
-mod url;
+mod urls;
 mod values;
 
 pub use fault::Reason;
@@ -38,4 +38,4 @@ pub use request::{Cited, request_link};
 pub use site_fault::{KeyFault, SiteFault};
 pub use site_file::{SITE_LIMIT, SiteFile};
 pub use texts::text_of;
-pub use url::{begins_with, is_all_visible};
+pub use urls::{begins_with, is_all_visible};

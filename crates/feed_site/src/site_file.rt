@@ -15,7 +15,7 @@ use crate::checks::fault_of;
 use crate::lookup::{items_at, switch_at, table_at, text_at};
 use crate::position::position_of;
 use crate::site_fault::{KeyFault, SiteFault};
-use crate::url::is_within;
+use crate::urls::is_within;
 use std::alloc::Global;
 use std::marker::Model;
 use std::str;

@@ -8,7 +8,7 @@ ghost use Rattle.feed_site.specs.Urls.{parts_between};
 
 use crate::cuts::{after, before, has};
 use crate::hosts::is_link;
-use crate::url::after_scheme;
+use crate::urls::after_scheme;
 
 /// Returns whether a name is this word.
 pub(crate) fn is(name: &[u8], word: &str) -> bool

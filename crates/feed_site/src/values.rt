@@ -6,7 +6,7 @@ ghost use Rattle.feed_site.specs.Faults.{flaw, host_flaws, host_reason, reason_o
 
 use crate::fault::{Flaw, Reason};
 use crate::kind::Kind;
-use crate::url::is_host;
+use crate::urls::is_host;
 use toml::Value;
 use toml::value::Array;
 

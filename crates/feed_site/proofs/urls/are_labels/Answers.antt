@@ -3,7 +3,7 @@ use borrow.Author.Tests.{tests}
 use Rattle.std.proofs.lemmas.Iterator.Search.{all_from_yields_List}
 use Rattle.std.proofs.lemmas.Iterator.Splits.{YieldsList-from_slice_split}
 use Rattle.feed_site.specs.Urls.{is_label}
-use Rattle.feed_site.proofs.url.are_labels.Goals as goal
+use Rattle.feed_site.proofs.urls.are_labels.Goals as goal
 
 pub returns : goal.returns
 returns c =
