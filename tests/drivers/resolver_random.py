@@ -10,6 +10,7 @@ import argparse
 import calendar
 import datetime
 import html.parser
+import ipaddress
 import json
 import random
 import re
@@ -24,6 +25,9 @@ LABELS = ["publication_title", "print_identifier", "online_identifier", "date_fi
 ISSNS = ["2434-561X", "0317-8471", "1050-124X"]
 ISBNS = ["9780306406157", "9781849302043"]
 HOSTS = ["a.example", "b.example", "c.a.example"]
+# Behind `//` of an address: what is a host, and what is none.
+ODD_HOSTS = ["A.Example", "b.example:8080", "b.example:65536", "x@a.example", "a.example:80@c.example", "", "-a.example",
+             "a_b.example", "1.2.3", "1.2.3.4", "1.2.3.04", "0x7f.1", "[::1]", "[0:0::1]:80", "[1:2]", "a.example\\"]
 FIRSTS, LASTS = ["", "", "1990", "1995", "1998-03", "1999-12-31"], ["", "", "", "2001", "2004-02", "2024", "1996"]
 VOLUMES = ["", "", "1", "5", "007", "12", "x"]
 EMBARGOES = ["", "", "P1Y", "P12M", "P30D", "R10Y", "R1Y;P1Y", "P30D;R2Y", "12 months"]
@@ -55,6 +59,32 @@ def query_days_of(text):
 
 def volume_of(text):
     return int(text) if re.fullmatch(r"\d{1,9}", text) else None
+
+
+def is_ip(kind, text):
+    try:
+        return bool(kind(text))
+    except ValueError:
+        return False
+
+
+def host_of(url):
+    """Returns the host of an address to which a page links, in lower case, or None if it is text."""
+    found = re.fullmatch(r"(?i:https?)://([^/?#]*)[!-~]*", url)
+    found = found and "\\" not in url and re.fullmatch(r"(\[[^\]]*\]|[^:@]*)(?::(\d*))?", found[1])
+    if not found or int(found[2] or 0) > 65_535:
+        return None
+    host, labels = found[1].lower(), found[1].split(".")
+    is_name = all(re.fullmatch(r"(?=.{1,63}$)[0-9A-Za-z](?:[-0-9A-Za-z]*[0-9A-Za-z])?", it) for it in labels)
+    if is_name and re.match(r"[A-Za-z]", labels[-1]) or is_ip(ipaddress.IPv4Address, host):
+        return host
+    return host if re.fullmatch(r"\[.*\]", host) and is_ip(ipaddress.IPv6Address, host[1:-1]) else None
+
+
+def shown_host(url):
+    """Returns the host that a page shows for an address: an IPv6 address in its shortest form."""
+    host = host_of(url) or ""
+    return f"[{ipaddress.IPv6Address(host[1:-1]).compressed}]" if host.startswith("[") else host
 
 
 class Row:
@@ -188,7 +218,7 @@ class Hit:
             else:
                 self.availability = "partly" if days[0] <= days[1] and meet(query.days, days) else "embargoed"
         self.url = row.cells["title_url"]
-        self.is_link = re.fullmatch(r"(?i:https?)://[!-~]+", self.url) is not None
+        self.is_link = host_of(self.url) is not None
         self.link = world.through_proxy(row) if self.is_link else self.url
 
     def rank(self, world):
@@ -223,7 +253,8 @@ class World:
                 pick(["Acta", "Beta <b>", "Gamma & \"Delta\"", "Straße"]),
                 pick([*known, known[0], ""]), pick([*known, "", "x"]),
                 pick(FIRSTS), pick(VOLUMES), pick(LASTS), pick(VOLUMES),
-                pick(["", "javascript:alert(1)"] + [f"https://{host}/{number}?a=1&b=2" for host in HOSTS * 2]),
+                pick(["", "javascript:alert(1)", f"http://{pick(ODD_HOSTS)}/{number}"]
+                     + [f"https://{host}/{number}?a=1&b=2" for host in HOSTS * 2]),
                 f"id{number}", pick(EMBARGOES), pick(["", "fulltext", "fulltext", "abstracts"]),
                 pick(["", "F", "P"]), kind]))
             rows.append(Row(package, number, cells))
@@ -268,7 +299,7 @@ class World:
 
     def through_proxy(self, row):
         """Returns the link of a row, through the proxy if it needs that."""
-        url, host = row.cells["title_url"], re.match(r"https://([^/]*)", row.cells["title_url"])[1]
+        url, host = row.cells["title_url"], host_of(row.cells["title_url"])
         is_free = row.cells["access_type"] == "F"
         if not self.proxy or is_free or any(host == it or host.endswith(f".{it}") for it in self.except_hosts):
             return url
@@ -437,6 +468,7 @@ def json_of(hit):
     return {"package": hit.row.package, "release": name_of(hit.row.package), "record": hit.row.number,
             "grade": hit.grade, "availability": hit.availability, "title": cells["publication_title"], "url": hit.link,
             "title_id": cells["title_id"], "depth": cells["coverage_depth"], "target": hit.url,
+            "host": shown_host(hit.url),
             "embargo": cells["embargo_info"], "access": cells["access_type"]}
 
 
