@@ -198,6 +198,12 @@ fn feed_reply<K: Keep + Drop>(
     }
 }
 
+fn is_busy(policy: &FetchPolicy<'_>) -> bool
+    ensures { result ≡ policy.now.is_busy }
+{
+    policy.is_busy
+}
+
 /// Returns the reply of a node to a request for `/feed`, or to a GET or HEAD of a target below it. To a client that has
 /// the token a GET lists the recorded releases: the name, the state, the size, the missing bytes and the reason of
 /// each. A DELETE of such a client ends the fetch that is under way, if one is. Returns none for any other request, and
@@ -226,7 +232,7 @@ pub fn respond_about_feed<K: Keep + Drop>(
     let Some(target) = feed_target(&request) else {
         return Ok(None);
     };
-    let reply = feed_reply(alloc, token, policy.is_busy, &request, target, feed)?;
+    let reply = feed_reply(alloc, token, is_busy(policy), &request, target, feed)?;
     let response = reply.response(alloc, keeps, request.is_head())?;
     Ok(Some(response))
 }
