@@ -1,0 +1,4 @@
+mod Flags
+mod Served
+mod Without
+pub mod Ready
