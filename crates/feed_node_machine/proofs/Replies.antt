@@ -1,6 +1,6 @@
 -- The replies of a node to the requests of its connections.
-use Rattle.std.proofs.Common.{◌≡◌, ℕ, Bool, true, false, List, [], ◌∷◌, ◌++◌, Option, None, inl, inr, refl, sym, ap, subst, eqb-true}
-use Rattle.std.specs.Prelude.{◌==◌, if◌then◌else◌, IfSome}
+use Rattle.std.proofs.Common.{◌≡◌, ℕ, Bool, true, false, List, [], ◌∷◌, ◌++◌, Option, inl, inr, refl, sym, ap, subst, eqb-true}
+use Rattle.std.specs.Prelude.{◌==◌, if◌then◌else◌}
 use Rattle.httparse.specs.Grammar.{RequestHead}
 use Rattle.feed_node_connection.specs.Requests.{Request, Persistent, Last, Invalid}
 use Rattle.feed_node_connection.specs.Events.{Event, Received, Sent, Replied, Continued, Resumed, Elapsed, received_bytes, sent_bytes}

@@ -7,7 +7,7 @@ use Rattle.feed_model.specs.History.{History}
 use Rattle.feed_node_table.specs.declared.table.Table.{Table}
 use Rattle.feed_node_table.specs.Tables.{KeepsConnections}
 use Rattle.feed_node_machine.specs.declared.machine.NodeMachine.{NodeMachine}
-use Rattle.feed_node_machine.specs.NodeEvents.{NodeEvent, Served}
+use Rattle.feed_node_machine.specs.NodeEvents.{NodeEvent}
 use Rattle.feed_node_machine.specs.Rules.{Terms}
 use Rattle.feed_node_machine.specs.Nodes.{AreAt, HasHistory, HasServed, KeepsHistory, rules_of}
 use Rattle.feed_node_machine.proofs.Connections.{at_kept}

@@ -1,5 +1,7 @@
 //! The node as a value, and its connections.
-ghost use Rattle.std.specs.Prelude.{◌≡◌, ◌<◌, ◌≤◌, ◌∷◌, ℕ, List, None, IsSome};
+ghost use Rattle.std.specs.Prelude.{◌≡◌, ◌<◌, ◌≤◌, ◌+◌, ◌⊎◌, ◌∷◌, ℕ, true, List, None, IfSome, IsSome, IsSomeAnd};
+ghost use Rattle.feed_node_turns.specs.Queues.{MayServe};
+ghost use Rattle.feed_node_turns.specs.Turns.{behind_keys, fresh_keys, IsFromBehind, IsFromFresh, IsTaken};
 ghost use Rattle.feed_model.specs.Content.{IsContent};
 ghost use Rattle.feed_releases.specs.Feeds.{recorded};
 ghost use Rattle.feed_node_table.specs.Peers.{held_limit};
@@ -17,6 +19,7 @@ use feed_keep::Keep;
 use feed_names::{NameFault, ReleaseName};
 use feed_node_connection::{Shortage, TimeLimits};
 use feed_node_table::{CloseCause, Log, Stream, Table};
+use feed_node_turns::TurnRest;
 use feed_releases::Feed;
 use std::alloc::Global;
 use std::net::SocketAddr;
@@ -145,7 +148,23 @@ impl<'a, T: Stream, K: Keep + Drop, S: FeedRespond + Drop> NodeMachine<'a, T, K,
         self.table.register(key, registry)
     }
 
-    /// Has the next turn serve a connection.
+    /// Takes the key of the connection that a turn serves next, as `Table::next_ready` does.
+    pub fn next_ready(&mut self, rest: &mut TurnRest, is_over: bool) -> Option<usize>
+        ensures history { KeepsHistory S.wanted S.replies self.old self.new }
+        ensures later { IsLater S.wanted S.replies self.old self.new }
+        ensures taken { IsTaken result (table_of self.old).ready (table_of self.new).ready }
+        ensures first { MayServe is_over rest.old.fresh (fresh_keys (table_of self.old).ready)
+            → IsSomeAnd result (λ key. IsFromFresh key (table_of self.old).ready (table_of self.new).ready) }
+        ensures some { MayServe is_over rest.old.behind (behind_keys (table_of self.old).ready) → IsSome result }
+        ensures served { rest.new.behind.has_served ≡ true → (rest.old.behind.has_served ≡ true)
+            ⊎ IsSomeAnd result (λ key. IsFromBehind key (table_of self.old).ready (table_of self.new).ready) }
+        ensures less { IfSome result (λ _. rest.new.fresh.left + rest.new.behind.left
+            < rest.old.fresh.left + rest.old.behind.left) }
+    {
+        self.table.next_ready(rest, is_over)
+    }
+
+    /// Marks a connection as ready, so that a turn serves it.
     pub fn mark_ready(&mut self, key: usize)
         ensures history { KeepsHistory S.wanted S.replies self.old self.new }
         ensures later { IsLater S.wanted S.replies self.old self.new }

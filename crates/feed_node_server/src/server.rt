@@ -11,6 +11,7 @@ use feed_keep::Keep;
 use feed_node_connection::{Share, TURN_SHARE, TimeLimits};
 use feed_node_machine::{FeedRespond, NodeMachine, Turn, node_is_right};
 use feed_node_table::{CloseCause, Log, Outcome};
+use mio::event::Event;
 use mio::net::{TcpListener, TcpStream};
 use mio::{Events, Interest, Poll, Token};
 use std::alloc::Global;
@@ -32,8 +33,11 @@ const TICK: u64 = 250;
 // The most events of a turn.
 const EVENTS: usize = 1_024;
 
-// The most connections that one turn accepts.
-const ACCEPTS: usize = 64;
+// The microseconds after which a turn serves no more than one of each queue.
+const TURN_MICROS: u64 = 2_000;
+
+// The most connections that a turn accepts before it serves those that are ready, and after.
+const ACCEPTS: usize = 256;
 
 // The most microseconds for which connections are served before all are closed.
 const DRAIN_MICROS: u64 = 250_000;
@@ -272,19 +276,22 @@ impl Server {
     ) -> io::Result<()>
         ensures { IsLater S.wanted S.replies node.old node.new }
     {
-        self.wait(rt, node.table().ready_len(), events)?;
+        self.wait(rt, node.table().has_ready(), events)?;
         for event in events.iter() {
-            self.on_event(node, event.token());
+            self.on_event(node, event, log);
         }
-        self.serve_ready(rt, node, log)?;
-        let has_more_work = self.accept_waiting(rt, node, log)?;
+        let end = self.now.saturating_add(TURN_MICROS);
+        self.accept_waiting(node, log);
+        self.serve_ready(rt, node, end, log)?;
+        // If all waited to be served, those that were served may make room now.
+        let has_more_work = self.accept_waiting(node, log);
         self.end_turn(has_more_work, node, log);
         Ok(())
     }
 
     // Waits for the sockets, unless a connection is ready or work is left, and reads the clock.
-    fn wait(&mut self, rt: &impl Clock, ready: usize, events: &mut Events) -> io::Result<()> {
-        let may_block = ready == 0 && !self.has_more_work;
+    fn wait(&mut self, rt: &impl Clock, has_ready: bool, events: &mut Events) -> io::Result<()> {
+        let may_block = !has_ready && !self.has_more_work;
         let wait = if may_block { TICK } else { 0 };
         self.poll.poll(events, Some(Duration::from_millis(wait)))?;
         self.read_clock(rt)
@@ -304,53 +311,61 @@ impl Server {
         self.advance_clock(node, log);
     }
 
-    fn on_event<K: Keep + Drop, S: FeedRespond + Drop>(
+    // Marks the connection of an event as ready. If its client has reset it, it is removed: no reply would arrive.
+    fn on_event<K: Keep + Drop, S: FeedRespond + Drop, L: Log>(
         &mut self,
         node: &mut ServedNode<'_, K, S>,
-        token: Token,
+        event: &Event,
+        log: &mut L,
     )
         ensures { IsLater S.wanted S.replies node.old node.new }
     {
+        let token = event.token();
         if token == LISTENER {
             self.may_accept = self.is_accepting;
+        } else if event.is_error() {
+            let _ = node.remove(token.0, CloseCause::PeerClosed, self.now, log);
         } else {
             node.mark_ready(token.0);
         }
     }
 
-    // Gives each connection that is ready one share of the turn, the last one first: one that has more to do is added
-    // at the end, for the next turn.
+    // Gives the connections that are ready one share of the turn, until its time is over. One that has more to do waits
+    // for the next turn.
     fn serve_ready<K: Keep + Drop, S: FeedRespond + Drop, L: Log>(
         &mut self,
         rt: &impl Clock,
         node: &mut ServedNode<'_, K, S>,
+        end: u64,
         log: &mut L,
     ) -> io::Result<()>
         ensures { IsLater S.wanted S.replies node.old node.new }
     {
-        for place in (0..node.table().ready_len()).rev() {
-            if let Some(key) = node.table().ready_at(place) {
-                self.serve(rt, node, key, log)?;
-            }
+        let mut rest = node.table().begin_turn();
+        for _ in 0..u64::MAX {
+            let Some(key) = node.next_ready(&mut rest, end <= self.now) else {
+                return Ok(());
+            };
+            self.serve(rt, node, key, log)?;
         }
         Ok(())
     }
 
-    // Gives a connection one share of the turn. Returns whether it is still open.
+    // Gives a connection one share of the turn.
     fn serve<K: Keep + Drop, S: FeedRespond + Drop, L: Log>(
         &mut self,
         rt: &impl Clock,
         node: &mut ServedNode<'_, K, S>,
         key: usize,
         log: &mut L,
-    ) -> io::Result<bool>
+    ) -> io::Result<()>
         ensures { IsLater S.wanted S.replies node.old node.new }
     {
         let mut share = TURN_SHARE;
-        match self.advance(key, &mut share, rt, node, log)? {
-            Outcome::Resumed => Ok(is_open(self.advance(key, &mut share, rt, node, log)?)),
-            outcome => Ok(is_open(outcome)),
+        if self.advance(key, &mut share, rt, node, log)? == Outcome::Resumed {
+            self.advance(key, &mut share, rt, node, log)?;
         }
+        Ok(())
     }
 
     // Has a connection use its share until a reply was sent, once there is memory for another reply. The step begins at
@@ -413,77 +428,72 @@ impl Server {
     }
 
     // Accepts connections until none waits or the system refuses one. If it has no descriptor left, a connection is
-    // closed for the next one. A flood gets a bounded share of a turn. Returns whether it used all of it.
+    // closed for the next one. None is closed that waits for its share: then new ones wait for the next turn. A flood
+    // gets a bounded share of a turn. Returns whether it used all of it.
     fn accept_waiting<K: Keep + Drop, S: FeedRespond + Drop, L: Log>(
         &mut self,
-        rt: &impl Clock,
         node: &mut ServedNode<'_, K, S>,
         log: &mut L,
-    ) -> io::Result<bool>
+    ) -> bool
         ensures { IsLater S.wanted S.replies node.old node.new }
     {
         for _ in 0..ACCEPTS {
-            if !self.may_accept {
-                return Ok(false);
+            if !self.may_accept || !node.table().has_place() {
+                return false;
             }
-            if !self.accept_next(rt, node, log)? {
-                return Ok(false);
+            if !self.accept_next(node, log) {
+                return false;
             }
         }
-        Ok(true)
+        true
     }
 
     // Accepts a connection. Returns whether another may be accepted now.
     fn accept_next<K: Keep + Drop, S: FeedRespond + Drop, L: Log>(
         &mut self,
-        rt: &impl Clock,
         node: &mut ServedNode<'_, K, S>,
         log: &mut L,
-    ) -> io::Result<bool>
+    ) -> bool
         ensures { IsLater S.wanted S.replies node.old node.new }
     {
         match self.listener.accept() {
             Ok((stream, addr)) => {
-                self.admit(rt, node, stream, addr, log)?;
-                Ok(true)
+                self.admit(node, stream, addr, log);
+                true
             }
             Err(fault) => match fault.kind() {
                 ErrorKind::WouldBlock => {
                     self.may_accept = false;
-                    Ok(false)
+                    false
                 }
-                ErrorKind::Interrupted | ErrorKind::ConnectionAborted => Ok(true),
+                ErrorKind::Interrupted | ErrorKind::ConnectionAborted => true,
                 _ => {
                     node.make_room(self.now, log);
-                    Ok(false)
+                    false
                 }
             },
         }
     }
 
-    // Begins a new connection, and serves it at once: its client may have sent a request already. If it remains open,
-    // its socket is registered with the poll. If that fails, the connection is removed.
+    // Begins a new connection. Its socket is registered with the poll, and it is marked as ready: its client may have
+    // sent a request already.
     fn admit<K: Keep + Drop, S: FeedRespond + Drop, L: Log>(
         &mut self,
-        rt: &impl Clock,
         node: &mut ServedNode<'_, K, S>,
         stream: TcpStream,
         addr: SocketAddr,
         log: &mut L,
-    ) -> io::Result<()>
+    )
         ensures { IsLater S.wanted S.replies node.old node.new }
     {
         // Otherwise the system holds a reply back until the client acknowledges the one before it.
         let _ = stream.set_nodelay(true);
         let socket = Socket { stream };
         let Some(key) = node.accept(socket, addr, self.limits, self.now, log) else {
-            return Ok(());
+            return;
         };
-        if !self.serve(rt, node, key, log)? {
-            return Ok(());
-        }
         self.watch(node, key, log);
-        Ok(())
+        node.mark_ready(key);
     }
 
     // Registers the socket of a connection with the poll. If that fails, the connection is removed.
@@ -521,14 +531,6 @@ impl Server {
         }
         self.advance_streams();
         node.advance_clock(self.now, log);
-    }
-}
-
-// Returns whether a connection is still open after an outcome.
-fn is_open(outcome: Outcome) -> bool {
-    match outcome {
-        Outcome::Waits | Outcome::Ready | Outcome::Resumed => true,
-        Outcome::Streams | Outcome::Over => false,
     }
 }
 

@@ -1,10 +1,12 @@
 -- The table stays as its fields say.
-use Rattle.std.proofs.Common.{◌≡◌, ◌≢◌, ℕ, true, List, cond, get_or, set, Option, Some, None, is_some, IsSome, count_by, refl, sym, ap, subst, ◌∙◌, arith, inl, inr}
+use Rattle.std.proofs.Common.{◌≡◌, ◌≢◌, ℕ, Bool, List, cond, get_or, set, Option, Some, None, is_some, IsSome, count_by, refl, sym, ap, subst, ◌∙◌, arith, inl, inr}
 use Rattle.std.proofs.lemmas.Bool.{cases_eq}
 use Rattle.slab.specs.Slab.{Slab, get, ContainsKey, Updates, with_value}
 use Rattle.slab.proofs.SlabLemmas.{Updates-with_value}
 use Rattle.feed_node_table.specs.declared.peer.Peer.{Peer}
-use Rattle.feed_node_table.specs.Lists.{HasKey}
+use Rattle.feed_node_turns.proofs.Ready.{ready_before_gone, ready_before_marked}
+use Rattle.feed_node_turns.specs.declared.ready_queues.ReadyQueues.{ReadyQueues}
+use Rattle.feed_node_turns.specs.Turns.{IsGone, IsMarked, IsReady}
 use Rattle.feed_node_table.proofs.Slots.{sum_of_write}
 
 module _ {T : Type 0} where
@@ -24,24 +26,30 @@ module _ {T : Type 0} where
   there_after_write slab key old new there =
       subst (λ slot. IsSome slot) (sym (Updates-with_value slab key new (subst (λ slot. IsSome slot) (sym there) refl)).changed) refl
 
-  pub known_after_removal : (old new : Slab (Peer T)) (key : ℕ) (keys left : List ℕ) → Updates old new key None
-      → ((other : ℕ) → HasKey keys other → ContainsKey old other) → ¬ (HasKey left key) → ((other : ℕ) → HasKey left other → HasKey keys other)
-      → (other : ℕ) → HasKey left other → ContainsKey new other
-  known_after_removal old new key keys left updates known gone listed other is =
-      let differs : other ≢ key = λ same. gone (subst (λ k. HasKey left k) same is) in
-      subst (λ slot. IsSome slot) (sym (updates.others other differs)) (known other (listed other is))
+  pub known_after_removal : (old new : Slab (Peer T)) (key : ℕ) (queues left : ReadyQueues) → Updates old new key None
+      → ((other : ℕ) → IsReady queues other → ContainsKey old other) → IsGone key queues left → (other : ℕ) → IsReady left other → ContainsKey new other
+  known_after_removal old new key queues left updates known gone other is =
+      let was = ready_before_gone key queues left gone other is in subst (λ slot. IsSome slot) (sym (updates.others other was.1)) (known other was.0)
 
-  pub known_after_update : (old new : Slab (Peer T)) (key : ℕ) (peer : Peer T) (keys left : List ℕ) → Updates old new key (Some peer)
-      → ((other : ℕ) → HasKey keys other → ContainsKey old other) → ((other : ℕ) → HasKey left other → HasKey keys other)
-      → (other : ℕ) → HasKey left other → ContainsKey new other
-  known_after_update old new key peer keys left updates known listed other is = elim (cases_eq other key) [
+  pub known_after_update : (old new : Slab (Peer T)) (key : ℕ) (peer : Peer T) (queues left : ReadyQueues) → Updates old new key (Some peer)
+      → ((other : ℕ) → IsReady queues other → ContainsKey old other) → ((other : ℕ) → IsReady left other → IsReady queues other)
+      → (other : ℕ) → IsReady left other → ContainsKey new other
+  known_after_update old new key peer queues left updates known listed other is = elim (cases_eq other key) [
     | inl same ↦ subst (λ slot. IsSome slot) (sym (ap (get new) same ∙ updates.changed)) refl
     | inr differs ↦ subst (λ slot. IsSome slot) (sym (updates.others other differs)) (known other (listed other is))
   ]
 
   -- a connection changed, and others are no longer ready
-  pub known_after_write : (slab : Slab (Peer T)) (key : ℕ) (old new : Peer T) (keys left : List ℕ) → get slab key ≡ Some old
-      → ((other : ℕ) → HasKey keys other → ContainsKey slab other) → ((other : ℕ) → HasKey left other → HasKey keys other)
-      → (other : ℕ) → HasKey left other → ContainsKey (with_value slab key new) other
-  known_after_write slab key old new keys left there known listed =
-      known_after_update slab (with_value slab key new) key new keys left (Updates-with_value slab key new (subst (λ slot. IsSome slot) (sym there) refl)) known listed
+  pub known_after_write : (slab : Slab (Peer T)) (key : ℕ) (old new : Peer T) (queues left : ReadyQueues) → get slab key ≡ Some old
+      → ((other : ℕ) → IsReady queues other → ContainsKey slab other) → ((other : ℕ) → IsReady left other → IsReady queues other)
+      → (other : ℕ) → IsReady left other → ContainsKey (with_value slab key new) other
+  known_after_write slab key old new queues left there known listed =
+      known_after_update slab (with_value slab key new) key new queues left (Updates-with_value slab key new (subst (λ slot. IsSome slot) (sym there) refl)) known listed
+
+  -- a connection was marked as ready
+  pub known_after_mark : (slab : Slab (Peer T)) (key : ℕ) (is_behind : Bool) (old new : ReadyQueues) → ContainsKey slab key
+      → ((other : ℕ) → IsReady old other → ContainsKey slab other) → IsMarked is_behind key old new → (other : ℕ) → IsReady new other → ContainsKey slab other
+  known_after_mark slab key is_behind old new there known marked other is = elim (ready_before_marked is_behind key old new marked other is) [
+    | inl was ↦ known other was
+    | inr same ↦ subst (λ k. ContainsKey slab k) (sym same) there
+  ]

@@ -1,7 +1,5 @@
 pub mod Shares
 pub mod Slots
-pub mod Places
-pub mod Keys
 pub mod Invariants
 pub mod Order
 pub mod Held

@@ -1,6 +1,7 @@
 -- The order in which connections are closed.
-use Rattle.std.proofs.Common.{◌≡◌, ◌<◌, ◌≤◌, ◌⊎◌, ℕ, Bool, true, false, ◌==◌, ◌&&◌, ◌||◌, ◌∙◌, arith, inl, inr}
+use Rattle.std.proofs.Common.{◌≡◌, ◌<◌, ◌≤◌, ◌⊎◌, ℕ, Bool, true, false, ◌==◌, ◌&&◌, ◌||◌, ◌∙◌, arith, refl, inl, inr}
 use Rattle.std.specs.Prelude.{nat_lt}
+use Rattle.feed_node_table.specs.Tables.{goes_first}
 use Rattle.std.proofs.lemmas.Bool.{or_cases, and_parts, or_left, or_right, or_from, and_from, and_right, ltb-true, lt-ltb, le-ltb, eqb-true, eq-eqb, both_ways, cases_lt, false_from_ne_true}
 
 -- a rank and a time come before others
@@ -33,6 +34,27 @@ not_before c t d u e v is not =
 
 pub not_before_itself : (c t : ℕ) → comes_before c t c t ≡ false
 not_before_itself c t = or_from (nat_lt c c) ((c == c) && nat_lt t t) (le-ltb c c (omega arith)) (and_right (c == c) (nat_lt t t) (le-ltb t t (omega arith)))
+
+-- the same where one that waits comes last
+pub not_first : (a b e : Bool) (c t d u f v : ℕ) → goes_first a b (comes_before c t d u) ≡ true → goes_first e b (comes_before f v d u) ≡ false
+    → goes_first e a (comes_before f v c t) ≡ false
+not_first false false false c t d u f v is not = not_before c t d u f v is not
+not_first false false true c t d u f v is not = refl
+not_first false true false c t d u f v is not = absurd (cc)
+not_first false true true c t d u f v is not = refl
+not_first true false e c t d u f v is not = absurd (cc)
+not_first true true false c t d u f v is not = absurd (cc)
+not_first true true true c t d u f v is not = not_before c t d u f v is not
+
+pub not_first_itself : (a : Bool) (c t : ℕ) → goes_first a a (comes_before c t c t) ≡ false
+not_first_itself false c t = not_before_itself c t
+not_first_itself true c t = not_before_itself c t
+
+-- what waits and does not come before the other leaves one that waits
+pub waits_too : (a b by_state : Bool) → b ≡ true → goes_first a b by_state ≡ false → a ≡ true
+waits_too true b by_state is not = refl
+waits_too false true by_state is not = absurd (cc)
+waits_too false false by_state is not = absurd (cc)
 
 -- what does not come before ranks no higher
 pub ranks_no_higher : (c t d u : ℕ) → comes_before c t d u ≡ false → c ≤ d

@@ -1,12 +1,11 @@
 -- The records of a log about a table.
-use Rattle.std.proofs.Common.{◌≡◌, ◌+◌, ◌≤◌, ℕ, List, [], ◌∷◌, ◌++◌, Some, refl, sym, ap, subst, ◌∙◌, arith}
+use Rattle.std.proofs.Common.{◌≡◌, ◌+◌, ℕ, List, [], ◌∷◌, ◌++◌, Some, refl, sym, ap, subst, ◌∙◌, arith}
 use Rattle.feed_node_table.specs.declared.log.CloseCause.{CloseCause}
 use Rattle.feed_node_table.specs.declared.table.Table.{Table}
 use Rattle.feed_node_table.specs.Logs.{Entry, Accepted, Replied, Closed, AreFor, AreRecorded, HasRecorded, cause_in, closings}
 use Rattle.feed_node_table.specs.declared.peer.Peer.{Peer}
 use Rattle.feed_node_table.specs.Peers.{cause_of, micros_of}
-use Rattle.feed_node_table.specs.Lists.{HasKey, KeepsBefore}
-use Rattle.feed_node_table.specs.Tables.{peer_at, size_of, bytes_held, ready_keys, KeepsReady, IsRemoved, HasClosed}
+use Rattle.feed_node_table.specs.Tables.{peer_at, size_of, bytes_held, IsRemoved, HasClosed}
 use Rattle.feed_node_table.proofs.Firsts.{same_peer}
 
 closings-append : (these those : List Entry) → closings (these ++ those) ≡ closings these + closings those
@@ -20,26 +19,6 @@ are_for-append cause [] those first second = second
 are_for-append cause (Accepted addr ∷ these) those first second = are_for-append cause these those first second
 are_for-append cause (Replied addr connection micros ∷ these) those first second = are_for-append cause these those first second
 are_for-append cause (Closed addr connection given micros ∷ these) those first second = (first.0, are_for-append cause these those first.1 second)
-
-same_before : (key : ℕ) (keys : List ℕ) → KeepsBefore key keys keys
-same_before key keys limit within differs place below = (omega (arith, within, below), refl)
-
-module _ {T : Type 0} where
-  -- the ready list is as it was
-  pub ready_same : (key : ℕ) (old new : Table T) → ready_keys new ≡ ready_keys old → KeepsReady key old new
-  ready_same key old new same = record {
-    kept = λ other differs is. subst (λ keys. HasKey keys other) (sym same) is;
-    none_added = λ other differs is. subst (λ keys. HasKey keys other) same is;
-    before = subst (λ keys. KeepsBefore key (ready_keys old) keys) (sym same) (same_before key (ready_keys old));
-  }
-
-  -- it changed after a step that left it
-  pub ready_after : (key : ℕ) (old middle new : Table T) → ready_keys middle ≡ ready_keys old → KeepsReady key middle new → KeepsReady key old new
-  ready_after key old middle new same rest = record {
-    kept = λ other differs is. rest.kept other differs (subst (λ keys. HasKey keys other) (sym same) is);
-    none_added = λ other differs is. subst (λ keys. HasKey keys other) same (rest.none_added other differs is);
-    before = subst (λ keys. KeepsBefore key keys (ready_keys new)) same rest.before;
-  }
 
 module _ {L : Type 0} (records : L → Entry → L → Type 0) (cause : CloseCause) where
   recorded-append : (later earlier : List Entry) (a b c : L) → AreRecorded records a earlier b → AreRecorded records b later c → AreRecorded records a (later ++ earlier) c

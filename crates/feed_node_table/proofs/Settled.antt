@@ -1,5 +1,5 @@
 -- The table after a connection had its share of a turn.
-use Rattle.std.proofs.Common.{◌≡◌, ◌+◌, ◌≤◌, ℕ, false, Option, Some, None, IsSome, sum_by, refl, sym, ap, subst, ◌∙◌}
+use Rattle.std.proofs.Common.{◌≡◌, ◌+◌, ◌≤◌, ℕ, true, false, Option, Some, None, sum_by, refl, sym, ap, subst, ◌∙◌, inl, inr}
 use Rattle.std.proofs.lemmas.Bool.{false≢true}
 use Rattle.slab.specs.Slab.{get, slab_len}
 use Rattle.feed_node_connection.specs.declared.streams.Progress.{Progress}
@@ -9,9 +9,10 @@ use Rattle.feed_node_table.specs.declared.peer.Outcome.TheVariants.{Over}
 use Rattle.feed_node_table.specs.declared.peer.Peer.{Peer}
 use Rattle.feed_node_table.specs.declared.table.Table.{Table}
 use Rattle.feed_node_table.specs.Logs.{Entry}
-use Rattle.feed_node_table.specs.Peers.{IsFollowed, cause_of, held_in}
-use Rattle.feed_node_table.specs.Tables.{peer_at, bytes_held, ready_keys, has_more, IsReady, KeepsOthers, KeepsReady, IsRemoved, HasClosed, IsFollowedAt, IsSettled}
-use Rattle.feed_node_table.proofs.Records.{closed_both, closed_removed, ready_same, ready_after}
+use Rattle.feed_node_turns.specs.Turns.{IsGone, IsMarked}
+use Rattle.feed_node_table.specs.Peers.{IsFollowed, cause_of, held_in, is_behind}
+use Rattle.feed_node_table.specs.Tables.{peer_at, bytes_held, has_more, IsReadyAfter, KeepsOthers, IsRemoved, HasClosed, IsFollowedAt, IsSettled}
+use Rattle.feed_node_table.proofs.Records.{closed_both, closed_removed}
 
 module _ {T L : Type 0} (records : L → Entry → L → Type 0) where
   -- the connection did what follows its share
@@ -19,14 +20,14 @@ module _ {T L : Type 0} (records : L → Entry → L → Type 0) where
   IsNext key progress now outcome old new log after =
       (peer : Peer T) → peer_at old key ≡ Some peer → (next : Peer T) × (peer_at new key ≡ Some next) × IsFollowed records outcome progress now peer next log after
 
-  -- and the list of those that are ready is not changed
+  -- and the queues are not changed
   pub settled_still : (key : ℕ) (progress : Progress) (now : ℕ) (outcome : Outcome) (old new : Table T) (log after : L) → has_more outcome ≡ false
-      → KeepsOthers key old new → ready_keys new ≡ ready_keys old → HasClosed records PeerClosed old new log after
+      → KeepsOthers key old new → new.ready ≡ old.ready → HasClosed records PeerClosed old new log after
       → ((peer : Peer T) → peer_at old key ≡ Some peer → IsFollowedAt records key progress now outcome peer new log after)
       → IsSettled records key progress now outcome old new log after
   settled_still key progress now outcome old new log after no_more others ready closed followed = record {
     others = others;
-    ready = ready_same key old new ready;
+    still = λ _. inl ready;
     marked = λ more. absurd (false≢true (sym no_more ∙ more));
     closed = closed;
     followed = followed;
@@ -34,14 +35,15 @@ module _ {T L : Type 0} (records : L → Entry → L → Type 0) where
 
   -- and it is marked as ready
   pub settled_ready : (key : ℕ) (progress : Progress) (now : ℕ) (outcome : Outcome) (old middle new : Table T) (log after : L)
-      → KeepsOthers key old middle → ready_keys middle ≡ ready_keys old → HasClosed records PeerClosed old middle log after
+      → KeepsOthers key old middle → middle.ready ≡ old.ready → HasClosed records PeerClosed old middle log after
       → ((peer : Peer T) → peer_at old key ≡ Some peer → IsFollowedAt records key progress now outcome peer new log after)
-      → new.peers ≡ middle.peers → new.clients ≡ middle.clients → KeepsReady key middle new → (IsSome (peer_at middle key) → IsReady new key)
-      → IsSettled records key progress now outcome old new log after
-  settled_ready key progress now outcome old middle new log after others ready closed followed peers clients kept marked = record {
+      → new.peers ≡ middle.peers → new.clients ≡ middle.clients → has_more outcome ≡ true
+      → ((peer : Peer T) → peer_at middle key ≡ Some peer → IsReadyAfter key peer middle new) → IsSettled records key progress now outcome old new log after
+  settled_ready key progress now outcome old middle new log after others ready closed followed peers clients more marked = record {
     others = λ other differs. ap (λ slab. get slab other) peers ∙ others other differs;
-    ready = ready_after key old middle new ready kept;
-    marked = λ more there. marked (subst (λ slab. IsSome (get slab key)) peers there);
+    still = λ no_more. absurd (false≢true (sym no_more ∙ more));
+    marked = λ _ peer there. subst (λ queues. IsMarked (is_behind peer.connection) key queues new.ready) ready
+        (marked peer (subst (λ slab. get slab key ≡ Some peer) peers there));
     closed = record {
       count = closed.count;
       recorded = closed.recorded;
@@ -54,12 +56,12 @@ module _ {T L : Type 0} (records : L → Entry → L → Type 0) where
 
   -- or it is removed
   settled_removed : (key : ℕ) (progress : Progress) (now : ℕ) (old middle new : Table T) (log between after : L)
-      → KeepsOthers key old middle → ready_keys middle ≡ ready_keys old → HasClosed records PeerClosed old middle log between
+      → KeepsOthers key old middle → middle.ready ≡ old.ready → HasClosed records PeerClosed old middle log between
       → IsNext key progress now Over old middle log between → (peer : Peer T) → peer_at middle key ≡ Some peer
       → IsRemoved records key (cause_of peer PeerClosed) now middle new between after → IsSettled records key progress now Over old new log after
   settled_removed key progress now old middle new log between after others ready closed next peer there removed = record {
     others = λ other differs. removed.others other differs ∙ others other differs;
-    ready = ready_after key old middle new ready removed.ready;
+    still = λ _. inr (removed.gone, subst (λ queues. IsGone key queues new.ready) ready removed.ready);
     marked = λ more. absurd (false≢true more);
     closed = closed_both records PeerClosed old middle new log between after closed (closed_removed records PeerClosed key now middle new between after peer there removed);
     followed = λ was is. ((next was is).2.0, removed.gone);
@@ -67,14 +69,14 @@ module _ {T L : Type 0} (records : L → Entry → L → Type 0) where
 
   -- or there is none
   settled_absent : (key : ℕ) (progress : Progress) (now : ℕ) (old middle : Table T) (log between : L)
-      → KeepsOthers key old middle → ready_keys middle ≡ ready_keys old → HasClosed records PeerClosed old middle log between
+      → KeepsOthers key old middle → middle.ready ≡ old.ready → HasClosed records PeerClosed old middle log between
       → IsNext key progress now Over old middle log between → peer_at middle key ≡ None → IsSettled records key progress now Over old middle log between
   settled_absent key progress now old middle log between others ready closed next none =
       settled_still key progress now Over old middle log between refl others ready closed (λ was is. ((next was is).2.0, none))
 
   -- by whether it is there
   pub settled_over : (key : ℕ) (progress : Progress) (now : ℕ) (old middle new : Table T) (log between after : L)
-      → KeepsOthers key old middle → ready_keys middle ≡ ready_keys old → HasClosed records PeerClosed old middle log between
+      → KeepsOthers key old middle → middle.ready ≡ old.ready → HasClosed records PeerClosed old middle log between
       → IsNext key progress now Over old middle log between
       → ((peer : Peer T) → peer_at middle key ≡ Some peer → IsRemoved records key (cause_of peer PeerClosed) now middle new between after)
       → (peer_at middle key ≡ None → (new ≡ middle) × (after ≡ between)) → IsSettled records key progress now Over old new log after

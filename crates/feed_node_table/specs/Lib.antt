@@ -1,4 +1,3 @@
-pub mod Lists
 pub mod Connections
 pub mod Logs
 pub mod Peers

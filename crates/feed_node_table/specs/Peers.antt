@@ -2,11 +2,12 @@
 use Rattle.std.specs.Prelude.{◌≡◌, ◌≢◌, ◌==◌, ◌&&◌, ◌≤◌, ◌+◌, ◌-◌, ◌/◌, ℕ, Bool, true, false, List, ◌∷◌, length, get_or, Option, Some, None, sum_by}
 use Rattle.std.specs.Option.{option_map_or}
 use Rattle.feed_node_connection.specs.declared.connection.Connection.{Connection}
+use Rattle.feed_node_connection.specs.declared.connection.Wants.{Wants}
 use Rattle.feed_node_connection.specs.declared.connection.Wants.TheVariants as wants
 use Rattle.feed_node_connection.specs.declared.streams.Progress.{Progress}
 use Rattle.feed_node_connection.specs.declared.streams.Progress.TheVariants.{Blocked}
 use Rattle.feed_node_connection.specs.Events.{Event, Elapsed, Resumed}
-use Rattle.feed_node_connection.specs.States.{HasState, allocated_bytes, is_idle_in, is_reply_sent_in, limit_in, rest_of, wants_in}
+use Rattle.feed_node_connection.specs.States.{HasState, allocated_bytes, is_idle_in, is_lingering_in, is_reply_sent_in, limit_in, rest_of, wants_in}
 use Rattle.feed_node_table.specs.declared.log.CloseCause.{CloseCause}
 use Rattle.feed_node_table.specs.declared.peer.Outcome.{Outcome}
 use Rattle.feed_node_table.specs.declared.peer.Outcome.TheVariants as outcome
@@ -25,6 +26,16 @@ micros_in (Some began) micros now = now - began
 -- the head of a streamed reply was sent
 abbrev pub begins_stream : Connection → Bool
 begins_stream connection = option_map_or (λ summary. summary.is_streamed) connection.summary false && is_reply_sent_in connection.phase
+
+-- a connection that waits for bytes of a request is not behind the others, and one that drops what it receives is
+abbrev pub is_behind_by : Wants → Bool → Bool
+is_behind_by wants.Bytes lingers = lingers
+is_behind_by wanted lingers = true
+
+-- the connection has more to do than to receive its next request: bytes that it did not parse, a part of a reply to send, or
+-- bytes to drop
+abbrev pub is_behind : Connection → Bool
+is_behind connection = is_behind_by (wants_in connection.phase) (is_lingering_in connection.phase)
 
 -- the connection is neither over nor ready for its next request
 abbrev pub IsUnderWay : Connection → Type 0

@@ -1,9 +1,10 @@
 -- The connections of a node.
-use Rattle.std.specs.Prelude.{◌≡◌, ◌≢◌, ◌+◌, ◌<◌, ◌≤◌, ℕ, Bool, true, false, List, Option, Some, None, IsSome, sum_by}
+use Rattle.std.specs.Prelude.{◌≡◌, ◌≢◌, ◌+◌, ◌<◌, ◌≤◌, ◌⊎◌, ℕ, Bool, true, false, Option, Some, None, IsSome, sum_by}
 use Rattle.slab.specs.Slab.{get, slab_len}
 use Rattle.feed_node_connection.specs.declared.streams.Progress.{Progress}
 use Rattle.feed_node_connection.specs.declared.streams.Share.{Share}
 use Rattle.feed_node_connection.specs.declared.connection.Shortage.{Shortage}
+use Rattle.feed_node_connection.specs.declared.connection.Shortage.TheVariants.{Places, Memory}
 use Rattle.feed_node_connection.specs.declared.connection.Wants.TheVariants as wants
 use Rattle.feed_node_connection.specs.Replies.{Replies}
 use Rattle.feed_node_connection.specs.States.{is_closed_before, wants_in}
@@ -14,9 +15,10 @@ use Rattle.feed_node_table.specs.declared.peer.Outcome.TheVariants.{Waits, Ready
 use Rattle.feed_node_table.specs.declared.peer.Peer.{Peer}
 use Rattle.feed_node_table.specs.declared.table.Table.{Table}
 use Rattle.feed_node_table.specs.Connections.{HasServed}
-use Rattle.feed_node_table.specs.Lists.{HasKey, KeepsBefore}
+use Rattle.feed_node_turns.specs.Flags.{has_key}
+use Rattle.feed_node_turns.specs.Turns.{fresh_keys, IsGone, IsMarked}
 use Rattle.feed_node_table.specs.Logs.{Entry, Closed, HasRecorded}
-use Rattle.feed_node_table.specs.Peers.{held_in, micros_of, HasElapsed, IsFollowed, IsLate}
+use Rattle.feed_node_table.specs.Peers.{held_in, is_behind, micros_of, HasElapsed, IsFollowed, IsLate}
 
 -- the connection has more to do
 abbrev pub has_more : Outcome → Bool
@@ -25,6 +27,13 @@ has_more Ready = true
 has_more Resumed = true
 has_more Streams = false
 has_more Over = false
+
+-- one that does not wait goes before one that does; otherwise their states decide
+abbrev pub goes_first : Bool → Bool → Bool → Bool
+goes_first false true by_state = true
+goes_first true false by_state = false
+goes_first false false by_state = by_state
+goes_first true true by_state = by_state
 
 module _ {T : Type 0} where
   -- the connection with this key
@@ -43,22 +52,13 @@ module _ {T : Type 0} where
   abbrev pub held_at : Table T → ℕ → ℕ
   held_at table key = held_in (peer_at table key)
 
-  -- the keys of the connections that the next turn serves
-  abbrev pub ready_keys : Table T → List ℕ
-  ready_keys table = table.ready.keys.items
-
-  abbrev pub IsReady : Table T → ℕ → Type 0
-  IsReady table key = HasKey (ready_keys table) key
-
   -- the other keys have what they had
   abbrev pub KeepsOthers : ℕ → Table T → Table T → Type 0
   KeepsOthers key old new = (other : ℕ) → other ≢ key → peer_at new other ≡ peer_at old other
 
-  -- the other connections that were ready are still, and no others
-  pub record KeepsReady (key : ℕ) (old new : Table T) : Type 0 where
-    pub kept : (other : ℕ) → other ≢ key → IsReady old other → IsReady new other
-    pub none_added : (other : ℕ) → other ≢ key → IsReady new other → IsReady old other
-    pub before : KeepsBefore key (ready_keys old) (ready_keys new)
+  -- the connection with this key is marked as ready: behind the others if it has more to do
+  abbrev pub IsReadyAfter : ℕ → Peer T → Table T → Table T → Type 0
+  IsReadyAfter key peer old new = IsMarked (is_behind peer.connection) key old.ready new.ready
 
   -- the connection with this key had its share of a turn
   abbrev pub IsServed : Replies → ℕ → Progress → Share → Share → Table T → Table T → Type 0
@@ -86,17 +86,29 @@ module _ {T : Type 0} where
       (key : ℕ) (peer : Peer T) → peer_at new key ≡ Some peer
       → (was : Peer T) × (peer_at old key ≡ Some was) × (peer.connection ≡ was.connection)
 
+  -- whether the connection with this key waits for its share of a turn among those that were idle. For memory, that does not
+  -- count
+  abbrev pub waits : Shortage → Table T → ℕ → Bool
+  waits Places table key = has_key key (fresh_keys table.ready)
+  waits Memory table key = false
+
+  -- the first connection is closed before the second: it does not wait, and the second does; or none or both do, and it
+  -- is closed first by its state
+  abbrev pub is_closed_first : Shortage → Table T → ℕ → Peer T → ℕ → Peer T → Bool
+  is_closed_first shortage table key peer other rival =
+      goes_first (waits shortage table key) (waits shortage table other) (is_closed_before shortage peer.connection rival.connection)
+
   -- the connection with this key is closed for a place or for memory: none is closed before it
   pub record IsFirstToClose (shortage : Shortage) (table : Table T) (key : ℕ) : Type 0 where
     pub peer : Peer T
     pub there : peer_at table key ≡ Some peer
-    pub first : (other : ℕ) (rival : Peer T) → peer_at table other ≡ Some rival → is_closed_before shortage rival.connection peer.connection ≡ false
+    pub first : (other : ℕ) (rival : Peer T) → peer_at table other ≡ Some rival → is_closed_first shortage table other rival key peer ≡ false
 
   -- the same among the keys below a limit
   pub record IsFirstAmong (shortage : Shortage) (table : Table T) (limit key : ℕ) : Type 0 where
     pub peer : Peer T
     pub there : peer_at table key ≡ Some peer
-    pub first : (other : ℕ) (rival : Peer T) → other < limit → peer_at table other ≡ Some rival → is_closed_before shortage rival.connection peer.connection ≡ false
+    pub first : (other : ℕ) (rival : Peer T) → other < limit → peer_at table other ≡ Some rival → is_closed_first shortage table other rival key peer ≡ false
 
   abbrev pub IsFirstBelow : Shortage → Table T → ℕ → Option ℕ → Type 0
   IsFirstBelow shortage table limit None = (key : ℕ) → key < limit → peer_at table key ≡ None
@@ -111,7 +123,7 @@ module _ {T : Type 0} where
       pub gone : peer_at new key ≡ None
       pub others : KeepsOthers key old new
       pub size : size_of new + 1 ≡ size_of old
-      pub ready : KeepsReady key old new
+      pub ready : IsGone key old.ready new.ready
       pub clients : new.clients ≡ old.clients
       pub held : bytes_held new + held_at old key ≡ bytes_held old
 
@@ -129,11 +141,11 @@ module _ {T : Type 0} where
     IsFollowedAt key progress now outcome peer new log after =
         (next : Peer T) × (peer_at new key ≡ Some next) × IsFollowed records outcome progress now peer next log after
 
-    -- what follows a share of a turn was done for the connection with this key: it is removed if it is over, and ready if it
-    -- has more to do
+    -- what follows a share of a turn was done for the connection with this key: it is removed if it is over, and marked as
+    -- ready if it has more to do. Otherwise the queues of those that are ready are as they were
     pub record IsSettled (key : ℕ) (progress : Progress) (now : ℕ) (outcome : Outcome) (old new : Table T) (log after : L) : Type 0 where
       pub others : KeepsOthers key old new
-      pub ready : KeepsReady key old new
-      pub marked : has_more outcome ≡ true → IsSome (peer_at new key) → IsReady new key
+      pub still : has_more outcome ≡ false → (new.ready ≡ old.ready) ⊎ ((peer_at new key ≡ None) × IsGone key old.ready new.ready)
+      pub marked : has_more outcome ≡ true → (peer : Peer T) → peer_at new key ≡ Some peer → IsReadyAfter key peer old new
       pub closed : HasClosed PeerClosed old new log after
       pub followed : (peer : Peer T) → peer_at old key ≡ Some peer → IsFollowedAt key progress now outcome peer new log after

@@ -1,8 +1,7 @@
-//! The connections of a node as a value, without their sockets: at most so many, which of them the next turn serves,
-//! how many bytes they hold, and which one is closed for its place or its memory.
+//! The connections of a node as a value, without their sockets: at most so many, which of them are ready and in
+//! which order they are served, how many bytes they hold, and which one is closed for its place or its memory.
 #![tactic(auto)]
 
-mod key_set;
 mod log;
 mod peer;
 mod stream;

@@ -48,7 +48,7 @@ pub(crate) struct Peer<T> {
 
 impl<T: Stream> Peer<T> {
     ghost use Rattle.feed_node_table.specs.Peers.{begins_stream, cause_of, micros_of, HasElapsed, HasResumed};
-    ghost use Rattle.feed_node_table.specs.Peers.{IsFollowed, IsLate};
+    ghost use Rattle.feed_node_table.specs.Peers.{is_behind, IsFollowed, IsLate};
 
     /// Returns a connection that was accepted now.
     pub(crate) fn new(
@@ -104,6 +104,17 @@ impl<T: Stream> Peer<T> {
         match self.began {
             Some(began) => now.saturating_sub(began),
             None => self.micros,
+        }
+    }
+
+    /// Returns whether the connection has more to do than to receive its next request: bytes that it did not parse, a
+    /// part of a reply to send, or bytes to drop.
+    pub(crate) fn is_behind(&self) -> bool
+        ensures { result ≡ is_behind self.now.connection }
+    {
+        match self.connection.wants() {
+            Wants::Bytes => self.connection.is_lingering(),
+            _ => true,
         }
     }
 

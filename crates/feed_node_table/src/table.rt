@@ -1,17 +1,17 @@
 //! The connections of a node as a value.
-ghost use Rattle.std.specs.Prelude.{◌≡◌, ◌≢◌, ◌≤◌, ◌<◌, ◌+◌, ℕ, []};
+ghost use Rattle.std.specs.Prelude.{◌≡◌, ◌≢◌, ◌≤◌, ◌<◌, ◌+◌, ◌⊎◌, ℕ, []};
 ghost use Rattle.std.specs.Prelude.{true, false, length, nat_le};
-ghost use Rattle.std.specs.Prelude.{sum_by, vec_len};
-ghost use Rattle.std.specs.Prelude.{slice_index, Some, None, IfOk, IfSome, IfNone, IsSome, IsSomeAnd};
+ghost use Rattle.std.specs.Prelude.{sum_by};
+ghost use Rattle.std.specs.Prelude.{Some, None, IfOk, IfSome, IfNone, IsSome, IsSomeAnd};
 ghost use Rattle.slab.specs.Slab.{ContainsKey, slab_len};
-ghost use Rattle.feed_node_table.specs.Lists.{HasKey};
+ghost use Rattle.feed_node_turns.specs.Turns.{key_count, IsReady};
 ghost use Rattle.feed_node_table.specs.Peers.{held_in, AreBounded};
 
-use crate::key_set::KeySet;
 use crate::log::{CloseCause, Log};
 use crate::peer::{Outcome, Peer};
 use crate::stream::Stream;
 use feed_node_connection::{Progress, Respond, Share, Shortage, TimeLimits};
+use feed_node_turns::{ReadyQueues, TurnRest};
 use slab::Slab;
 use std::alloc::{AllocError, Global};
 use std::net::SocketAddr;
@@ -23,16 +23,16 @@ pub const HELD_LIMIT: usize = 33_554_432;
 #[derive(Drop)]
 pub struct Table<T> {
     peers: Slab<Peer<T>>,
-    /// The keys of the connections that the next turn serves.
-    ready: KeySet,
+    /// The keys of the connections that are ready.
+    ready: ReadyQueues,
     /// The bytes that are allocated for the replies of all connections.
     held: usize,
     /// The most connections at a time.
     clients: usize,
     ghost few: { slab_len peers ≤ clients },
     ghost reserved: { clients ≤ peers.capacity },
-    ghost covered: { peers.capacity ≤ vec_len ready.places },
-    ghost known: { (key : ℕ) → HasKey ready.keys.items key → ContainsKey peers key },
+    ghost covered: { peers.capacity ≤ key_count ready },
+    ghost known: { (key : ℕ) → IsReady ready key → ContainsKey peers key },
     ghost counted: { held ≡ sum_by held_in peers.slots },
     ghost bounded: { AreBounded peers.slots },
 }
@@ -40,22 +40,25 @@ pub struct Table<T> {
 impl<T: Stream> Table<T> {
     ghost use Rattle.feed_node_connection.specs.States.{is_closed_before, request_of, HasState};
     ghost use Rattle.feed_node_table.specs.Logs.{Accepted, HasRecorded};
-    ghost use Rattle.feed_node_table.specs.Tables.{peer_at, size_of, bytes_held, ready_keys, IsReady, KeepsOthers};
-    ghost use Rattle.feed_node_table.specs.Tables.{KeepsReady};
+    ghost use Rattle.feed_node_table.specs.Tables.{peer_at, size_of, bytes_held, IsReadyAfter, KeepsOthers};
+    ghost use Rattle.feed_node_turns.specs.Flags.{IsDropped};
+    ghost use Rattle.feed_node_turns.specs.Queues.{IsWhole, MayServe};
+    ghost use Rattle.feed_node_turns.specs.Turns.{behind_keys, fresh_keys, IsFromBehind, IsFromFresh, IsTaken};
     ghost use Rattle.feed_node_table.specs.declared.peer.Peer.{Peer};
     ghost use Rattle.feed_node_table.specs.Peers.{cause_of, held_limit, IsFollowed, IsLate};
     ghost use Rattle.feed_node_table.specs.Tables.{IsFirstToClose, IsFirstBelow, IsRemoved, HasClosed, IsSettled};
     ghost use Rattle.feed_node_table.specs.Tables.{AreElapsed, IsElapsedAt, IsExpired, IsServed};
-    ghost use Rattle.feed_node_table.specs.Tables.{held_at, KeepsConnections};
+    ghost use Rattle.feed_node_table.specs.Tables.{held_at, is_closed_first, waits, KeepsConnections};
 
     /// Returns an empty table for at most this many connections, with the memory for all of them.
     pub fn new(alloc: Global, clients: usize) -> Result<Table<T>, AllocError>
         ensures empty { IfOk result (λ table. size_of table ≡ 0) }
         ensures clients { IfOk result (λ table. table.clients ≡ clients) }
-        ensures none_ready { IfOk result (λ table. ready_keys table ≡ []) }
+        ensures none_fresh { IfOk result (λ table. fresh_keys table.ready ≡ []) }
+        ensures none_behind { IfOk result (λ table. behind_keys table.ready ≡ []) }
     {
         let peers = Slab::with_capacity(alloc, clients)?;
-        let ready = KeySet::new(alloc, peers.capacity())?;
+        let ready = ReadyQueues::new(alloc, peers.capacity())?;
         Ok(Table {
             peers,
             ready,
@@ -158,6 +161,37 @@ impl<T: Stream> Table<T> {
         Some(peer.stream)
     }
 
+    // Returns whether a connection waits for its share of a turn among those that were idle. For memory, that does not
+    // count.
+    fn waits(&self, shortage: Shortage, key: usize) -> bool
+        ensures { result ≡ waits shortage self.now key }
+    {
+        match shortage {
+            Shortage::Places => self.ready.is_fresh(key),
+            Shortage::Memory => false,
+        }
+    }
+
+    // Returns whether the first of two connections is closed before the second.
+    fn is_closed_first(
+        &self,
+        shortage: Shortage,
+        key: usize,
+        peer: &Peer<T>,
+        other: usize,
+        rival: &Peer<T>,
+    ) -> bool
+        ensures { result ≡ is_closed_first shortage self.now key peer.now other rival.now }
+    {
+        let waits = self.waits(shortage, key);
+        if waits == self.waits(shortage, other) {
+            peer.connection
+                .is_closed_before(&rival.connection, shortage)
+        } else {
+            !waits
+        }
+    }
+
     // Returns the one of two connections that is closed before the other.
     fn closed_first(&self, shortage: Shortage, first: Option<usize>, key: usize) -> Option<usize>
         requires { IsFirstBelow shortage self.now key first }
@@ -168,10 +202,7 @@ impl<T: Stream> Table<T> {
         };
         if let Some(other) = first {
             if let Some(rival) = self.peers.get(other) {
-                if !peer
-                    .connection
-                    .is_closed_before(&rival.connection, shortage)
-                {
+                if !self.is_closed_first(shortage, key, peer, other, rival) {
                     return first;
                 }
             }
@@ -180,8 +211,8 @@ impl<T: Stream> Table<T> {
     }
 
     /// Returns the key of the connection that is closed first. For a place it is the one that is idle longest,
-    /// otherwise the slowest reader, otherwise the quietest. For memory it is the one whose reply takes the most, and
-    /// of equals the slowest reader.
+    /// otherwise the slowest reader, otherwise the quietest; and one that waits for its share only if all do. For memory
+    /// it is the one whose reply takes the most, and of equals the slowest reader.
     pub fn first_to_close(&self, shortage: Shortage) -> Option<usize>
         ensures first { IfSome result (λ key. IsFirstToClose shortage self.now key) }
         ensures none { IfNone result (size_of self.now ≡ 0) }
@@ -191,6 +222,24 @@ impl<T: Stream> Table<T> {
             first = self.closed_first(shortage, first, key);
         }
         first
+    }
+
+    /// Returns whether a connection can be added: there is a place, or one for which no connection is closed that waits
+    /// for its share.
+    pub fn has_place(&self) -> bool
+        ensures place { result ≡ true → (size_of self.now < self.now.clients)
+            ⊎ ((key : ℕ) × IsFirstToClose Shortage.Places self.now key × (waits Shortage.Places self.now key ≡ false)) }
+        ensures full { result ≡ false → self.now.clients ≤ size_of self.now }
+        ensures waiting { result ≡ false → (key : ℕ) → IsSome (peer_at self.now key)
+            → waits Shortage.Places self.now key ≡ true }
+    {
+        if !self.is_full() {
+            return true;
+        }
+        match self.first_to_close(Shortage::Places) {
+            Some(key) => !self.waits(Shortage::Places, key),
+            None => false,
+        }
     }
 
     /// Closes the connection that is closed for a place, if there is any.
@@ -222,37 +271,62 @@ impl<T: Stream> Table<T> {
         let _ = self.remove(key, CloseCause::Unread, now, log);
     }
 
-    /// Returns how many connections are ready: the next turn serves them.
-    pub fn ready_len(&self) -> usize
-        ensures { result ≡ length (ready_keys self.now) }
+    /// Returns whether a turn has a connection to serve.
+    pub fn has_ready(&self) -> bool
+        ensures some { result ≡ true → 0 < length (fresh_keys self.now.ready) + length (behind_keys self.now.ready) }
+        ensures none { result ≡ false
+            → length (fresh_keys self.now.ready) + length (behind_keys self.now.ready) ≡ 0 }
     {
-        self.ready.len()
+        !self.ready.is_empty()
     }
 
-    /// Returns the key of the connection at a place among those that are ready.
-    pub fn ready_at(&self, place: usize) -> Option<usize>
-        ensures found { IfSome result (λ key. slice_index (ready_keys self.now) place ≡ key) }
-        ensures known { IfSome result (λ key. IsSome (peer_at self.now key)) }
-        ensures past { IfNone result (length (ready_keys self.now) ≤ place) }
+    /// Begins a turn: it serves the connections that are ready now, once each at most.
+    pub fn begin_turn(&self) -> TurnRest
+        ensures fresh { IsWhole (fresh_keys self.now.ready) result.fresh }
+        ensures behind { IsWhole (behind_keys self.now.ready) result.behind }
     {
-        self.ready.key_at(place)
+        self.ready.begin_turn()
     }
 
-    /// Has the next turn serve a connection.
-    pub fn mark_ready(&mut self, key: usize)
-        ensures marked { IsSome (peer_at self.old key) → IsReady self.new key }
-        ensures ready { KeepsReady key self.old self.new }
+    /// Takes the key of the connection that the turn serves next. Those that were idle, or have their first request, go
+    /// first. Once the time of the turn is over, it still serves one of each kind, if it has served none.
+    pub fn next_ready(&mut self, rest: &mut TurnRest, is_over: bool) -> Option<usize>
+        ensures taken { IsTaken result self.old.ready self.new.ready }
+        ensures first { MayServe is_over rest.old.fresh (fresh_keys self.old.ready)
+            → IsSomeAnd result (λ key. IsFromFresh key self.old.ready self.new.ready) }
+        ensures some { MayServe is_over rest.old.behind (behind_keys self.old.ready) → IsSome result }
+        ensures served { rest.new.behind.has_served ≡ true → (rest.old.behind.has_served ≡ true)
+            ⊎ IsSomeAnd result (λ key. IsFromBehind key self.old.ready self.new.ready) }
+        ensures less { IfSome result (λ _. rest.new.fresh.left + rest.new.behind.left
+            < rest.old.fresh.left + rest.old.behind.left) }
+        ensures known { IfSome result (λ key. IsSome (peer_at self.new key)) }
         ensures peers { self.new.peers ≡ self.old.peers }
         ensures clients { self.new.clients ≡ self.old.clients }
     {
-        if key < self.peers.capacity() && self.peers.contains(key) {
-            self.ready.insert(key);
+        self.ready.next(rest, is_over)
+    }
+
+    /// Marks a connection as ready: behind the others if it has more to do, and otherwise among those that were idle.
+    pub fn mark_ready(&mut self, key: usize)
+        ensures marked { (peer : Peer T) → peer_at self.old key ≡ Some peer
+            → IsReadyAfter key peer self.old self.new }
+        ensures absent { peer_at self.old key ≡ None → self.new ≡ self.old }
+        ensures peers { self.new.peers ≡ self.old.peers }
+        ensures clients { self.new.clients ≡ self.old.clients }
+    {
+        if self.peers.capacity() <= key {
+            return;
         }
+        let Some(peer) = self.peers.get(key) else {
+            return;
+        };
+        let is_behind = peer.is_behind();
+        self.ready.mark(key, is_behind);
     }
 
     /// Gives a connection a share of the turn: it receives, replies and sends until its stream would block, a reply was
-    /// sent, or the share is used. It is no longer ready. `free_memory` was called before, so that its reply is the
-    /// only one past the limit.
+    /// sent, or the share is used. `free_memory` was called before, so that its reply is the only one past the limit.
+    /// If the last step marked it as ready, it is not any more.
     pub fn advance<S: Respond>(
         &mut self,
         key: usize,
@@ -269,10 +343,10 @@ impl<T: Stream> Table<T> {
         ensures others { KeepsOthers key self.old self.new }
         ensures size { size_of self.new ≡ size_of self.old }
         ensures clients { self.new.clients ≡ self.old.clients }
-        ensures ready { KeepsReady key self.old self.new }
-        ensures once { ¬ (IsReady self.new key) }
+        ensures fresh { IsDropped key (fresh_keys self.old.ready) (fresh_keys self.new.ready) }
+        ensures behind { IsDropped key (behind_keys self.old.ready) (behind_keys self.new.ready) }
     {
-        self.ready.remove(key);
+        self.ready.drop_last(key);
         let Some(peer) = self.peers.get_mut(key) else {
             return Progress::Blocked;
         };
@@ -282,7 +356,7 @@ impl<T: Stream> Table<T> {
         progress
     }
 
-    // Does what follows `advance`, but leaves the list of ready connections as it is.
+    // Does what follows `advance`, but leaves the queues as they are.
     fn settle_peer<L: Log>(
         &mut self,
         key: usize,

@@ -7,8 +7,5 @@ loop-init g c = later_same c.args.node.now
 pub loop-preserved : goal.loop-preserved
 loop-preserved g c = later_after c.args.node.now c.loop.node c.accept_next.new.node c.loop.invariant c.accept_next.ensures
 
-pub returns-in_err-accept_next : goal.returns-in_err-accept_next
-returns-in_err-accept_next g c = later_after c.args.node.now c.loop.node c.accept_next.new.node c.loop.invariant c.accept_next.ensures
-
-pub returns-then-not-branch : goal.returns-then-not-branch
-returns-then-not-branch g c = later_after c.args.node.now c.loop.node c.accept_next.new.node c.loop.invariant c.accept_next.ensures
+pub returns-then-not-accept_next : goal.returns-then-not-accept_next
+returns-then-not-accept_next g c = later_after c.args.node.now c.loop.node c.accept_next.new.node c.loop.invariant c.accept_next.ensures

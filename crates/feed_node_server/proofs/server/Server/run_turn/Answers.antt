@@ -8,15 +8,15 @@ pub loop-event-preserved : goal.loop-event-preserved
 loop-event-preserved g c = later_after c.args.node.now c.loop-event.node c.on_event.new.node c.loop-event.invariant c.on_event.ensures
 
 pub returns-in_err-serve_ready : goal.returns-in_err-serve_ready
-returns-in_err-serve_ready g c = later_after c.args.node.now c.loop-event.node c.serve_ready.new.node c.loop-event.invariant c.serve_ready.ensures
-
-pub returns-in_err-has_more_work : goal.returns-in_err-has_more_work
-returns-in_err-has_more_work g c =
-    later_after c.args.node.now c.serve_ready.new.node c.accept_waiting.new.node
-    (later_after c.args.node.now c.loop-event.node c.serve_ready.new.node c.loop-event.invariant c.serve_ready.ensures) c.accept_waiting.ensures
+returns-in_err-serve_ready g c =
+    later_after c.args.node.now c.accept_waiting.new.node c.serve_ready.new.node
+    (later_after c.args.node.now c.loop-event.node c.accept_waiting.new.node c.loop-event.invariant c.accept_waiting.ensures) c.serve_ready.ensures
 
 pub returns : goal.returns
 returns g c =
-    later_after c.args.node.now c.serve_ready.new.node c.end_turn.new.node
-    (later_after c.args.node.now c.loop-event.node c.serve_ready.new.node c.loop-event.invariant c.serve_ready.ensures)
-    (later_after c.serve_ready.new.node c.accept_waiting.new.node c.end_turn.new.node c.accept_waiting.ensures c.end_turn.ensures)
+    later_after c.args.node.now c.accept_waiting-has_more_work.new.node c.end_turn.new.node
+    (later_after c.args.node.now c.serve_ready.new.node c.accept_waiting-has_more_work.new.node
+    (later_after c.args.node.now c.accept_waiting.new.node c.serve_ready.new.node
+    (later_after c.args.node.now c.loop-event.node c.accept_waiting.new.node c.loop-event.invariant c.accept_waiting.ensures) c.serve_ready.ensures)
+    c.accept_waiting-has_more_work.ensures)
+    c.end_turn.ensures

@@ -1,5 +1,6 @@
 use Rattle.std.proofs.Common.{◌≡◌, IsSome, arith, refl, sym, subst}
 use Rattle.slab.proofs.SlabLemmas.{Updates-with_value}
+use Rattle.feed_node_turns.proofs.Ready.{ready_before_dropped}
 use Rattle.feed_node_table.specs.Connections.{HasServed}
 use Rattle.feed_node_table.specs.Tables.{peer_at}
 use Rattle.feed_node_table.proofs.Firsts.{same_peer}
@@ -22,11 +23,6 @@ pub invariant_of-self-2-clause-bounded : goal.invariant_of-self-2-clause-bounded
 invariant_of-self-2-clause-bounded g c =
     bounded_after_write c.args.self.now.peers.slots c.args.key c.in-Some.peer.now c.advance-progress.new.self (sym c.in-Some.ensures.value) c.requires
 
-pub invariant_of-self-2-clause-known : goal.invariant_of-self-2-clause-known
-invariant_of-self-2-clause-known g c =
-    known_after_write c.args.self.now.peers c.args.key c.in-Some.peer.now c.advance-progress.new.self c.args.self.now.ready.keys.items c.remove.new.self.keys.items (sym c.in-Some.ensures.value)
-    c.args.self.now.known c.remove.ensures.listed
-
 pub returns-clause-served : goal.returns-clause-served
 returns-clause-served g c = λ peer is.
     let same : c.in-Some.peer.now ≡ peer = same_peer peer c.in-Some.peer.now (peer_at c.args.self.now c.args.key) is (sym c.in-Some.ensures.value) in (
@@ -37,17 +33,14 @@ returns-clause-served g c = λ peer is.
     )
 
 pub invariant_of-self-clause-covered : goal.invariant_of-self-clause-covered
-invariant_of-self-clause-covered g c = omega (arith, c.args.self.now.covered, c.remove.ensures.places)
-
-pub invariant_of-self-clause-known : goal.invariant_of-self-clause-known
-invariant_of-self-clause-known g c = λ key is. c.args.self.now.known key (c.remove.ensures.listed key is)
+invariant_of-self-clause-covered g c = omega (arith, c.args.self.now.covered, c.drop_last.ensures.count)
 
 pub invariant_of-self-2-clause-few : goal.invariant_of-self-2-clause-few
 invariant_of-self-2-clause-few g c =
     omega (arith, c.args.self.now.few, size_after_write c.args.self.now.peers.slots c.args.key c.in-Some.peer.now c.advance-progress.new.self (sym c.in-Some.ensures.value))
 
 pub invariant_of-self-2-clause-covered : goal.invariant_of-self-2-clause-covered
-invariant_of-self-2-clause-covered g c = omega (arith, c.args.self.now.covered, c.remove.ensures.places)
+invariant_of-self-2-clause-covered g c = omega (arith, c.args.self.now.covered, c.drop_last.ensures.count)
 
 pub returns-clause-absent : goal.returns-clause-absent
 returns-clause-absent g c = λ none. never_none _ c.in-Some.peer.now (sym c.in-Some.ensures.value) none
@@ -58,16 +51,12 @@ returns-clause-others g c = others_after_write c.args.self.now.peers c.args.key 
 pub returns-clause-size : goal.returns-clause-size
 returns-clause-size g c = size_after_write c.args.self.now.peers.slots c.args.key c.in-Some.peer.now c.advance-progress.new.self (sym c.in-Some.ensures.value)
 
-pub returns-clause-ready : goal.returns-clause-ready
-returns-clause-ready g c = record {
-  kept = λ other differs is. c.remove.ensures.others other is differs;
-  none_added = λ other differs is. c.remove.ensures.listed other is;
-  before = c.remove.ensures.before;
-}
+pub invariant_of-self-clause-known : goal.invariant_of-self-clause-known
+invariant_of-self-clause-known g c = λ key is.
+    c.args.self.now.known key (ready_before_dropped c.args.key c.args.self.now.ready c.drop_last.new.self c.drop_last.ensures.fresh c.drop_last.ensures.behind key is)
 
-pub returns-in_default-clause-ready : goal.returns-in_default-clause-ready
-returns-in_default-clause-ready g c = record {
-  kept = λ other differs is. c.remove.ensures.others other is differs;
-  none_added = λ other differs is. c.remove.ensures.listed other is;
-  before = c.remove.ensures.before;
-}
+pub invariant_of-self-2-clause-known : goal.invariant_of-self-2-clause-known
+invariant_of-self-2-clause-known g c =
+    known_after_write c.args.self.now.peers c.args.key c.in-Some.peer.now c.advance-progress.new.self c.args.self.now.ready c.drop_last.new.self
+    (sym c.in-Some.ensures.value) c.args.self.now.known
+    (ready_before_dropped c.args.key c.args.self.now.ready c.drop_last.new.self c.drop_last.ensures.fresh c.drop_last.ensures.behind)

@@ -15,11 +15,6 @@ pub invariant_of-self-clause-bounded : goal.invariant_of-self-clause-bounded
 invariant_of-self-clause-bounded g c =
     bounded_after_same c.args.self.now.peers.slots c.args.key c.in-Some.peer.now c.advance_clock.new.self (sym c.in-Some.ensures.value) c.advance_clock.ensures.held c.args.self.now.bounded
 
-pub invariant_of-self-clause-known : goal.invariant_of-self-clause-known
-invariant_of-self-clause-known g c =
-    known_after_write c.args.self.now.peers c.args.key c.in-Some.peer.now c.advance_clock.new.self c.args.self.now.ready.keys.items c.args.self.now.ready.keys.items
-    (sym c.in-Some.ensures.value) c.args.self.now.known (λ other is. is)
-
 pub invariant_of-self-clause-few : goal.invariant_of-self-clause-few
 invariant_of-self-clause-few g c =
     omega (arith, c.args.self.now.few, size_after_write c.args.self.now.peers.slots c.args.key c.in-Some.peer.now c.advance_clock.new.self (sym c.in-Some.ensures.value))
@@ -55,3 +50,8 @@ returns-in-Some-clause-in_time g c = λ peer is early. (
 
 pub returns-in-Some-clause-there : goal.returns-in-Some-clause-there
 returns-in-Some-clause-there g c = λ late. there_after_write c.args.self.now.peers c.args.key c.in-Some.peer.now c.advance_clock.new.self (sym c.in-Some.ensures.value)
+
+pub invariant_of-self-clause-known : goal.invariant_of-self-clause-known
+invariant_of-self-clause-known g c =
+    known_after_write c.args.self.now.peers c.args.key c.in-Some.peer.now c.advance_clock.new.self c.args.self.now.ready c.args.self.now.ready
+    (sym c.in-Some.ensures.value) c.args.self.now.known (λ other is. is)

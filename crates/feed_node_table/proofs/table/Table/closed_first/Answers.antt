@@ -7,14 +7,14 @@ use Rattle.feed_node_table.proofs.table.Table.closed_first.Goals as goal
 pub returns-in_default : goal.returns-in_default
 returns-in_default g c = first_skips _ _ _ _ (sym c.get.ensures ∙ ap (λ slot. option_copied slot) c.in_default.is) c.requires
 
-pub returns-then-not-is_closed_before : goal.returns-then-not-is_closed_before
-returns-then-not-is_closed_before g c =
-    first_stays _ _ _ _ _ _ (sym c.in-Some.ensures) (sym c.in-Some-get.ensures) (sym c.is_closed_before.ensures ∙ c.if-not-is_closed_before.true)
+pub returns-then-not-is_closed_first : goal.returns-then-not-is_closed_first
+returns-then-not-is_closed_first g c =
+    first_stays _ _ _ _ _ _ (sym c.in-Some.ensures) (sym c.in-Some-get.ensures) (sym c.is_closed_first.ensures ∙ c.if-not-is_closed_first.true)
     (subst (λ first. IsFirstBelow c.args.shortage c.args.self.now c.args.key first) c.in-Some-first.is c.requires)
 
-pub returns-else-not-is_closed_before : goal.returns-else-not-is_closed_before
-returns-else-not-is_closed_before g c =
-    first_changes _ _ _ _ _ _ (sym c.in-Some.ensures) (sym c.in-Some-get.ensures) (sym c.is_closed_before.ensures ∙ c.if-not-is_closed_before.false)
+pub returns-else-not-is_closed_first : goal.returns-else-not-is_closed_first
+returns-else-not-is_closed_first g c =
+    first_changes _ _ _ _ _ _ (sym c.in-Some.ensures) (sym c.in-Some-get.ensures) (sym c.is_closed_first.ensures ∙ c.if-not-is_closed_first.false)
     (subst (λ first. IsFirstBelow c.args.shortage c.args.self.now c.args.key first) c.in-Some-first.is c.requires)
 
 pub returns-in_default-first : goal.returns-in_default-first

@@ -7,9 +7,9 @@ pub invariant_of-self-clause-counted : goal.invariant_of-self-clause-counted
 invariant_of-self-clause-counted g c =
     c.args.self.now.counted ∙ sym (held_after_insert _ _ _ _ c.insert_reserved.ensures.was_vacant c.insert_reserved.ensures.updates c.new-peer.ensures.held)
 
-pub invariant_of-self-clause-known : goal.invariant_of-self-clause-known
-invariant_of-self-clause-known g c = known_after_update _ _ _ _ _ _ c.insert_reserved.ensures.updates c.args.self.now.known (λ other is. is)
-
 pub invariant_of-self-clause-bounded : goal.invariant_of-self-clause-bounded
 invariant_of-self-clause-bounded g c =
     bounded_after_insert _ _ _ _ c.insert_reserved.ensures.was_vacant c.insert_reserved.ensures.updates c.new-peer.ensures.held c.args.self.now.bounded
+
+pub invariant_of-self-clause-known : goal.invariant_of-self-clause-known
+invariant_of-self-clause-known g c = known_after_update _ _ _ _ c.args.self.now.ready c.args.self.now.ready c.insert_reserved.ensures.updates c.args.self.now.known (λ other is. is)

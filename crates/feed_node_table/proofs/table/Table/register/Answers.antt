@@ -11,11 +11,6 @@ returns-in-Some-clause-connections g c = λ key peer is.
 pub invariant_of-self-clause-counted : goal.invariant_of-self-clause-counted
 invariant_of-self-clause-counted g c = counted_after_same c.args.self.now.peers.slots c.args.key c.in-Some.peer.now _ _ (sym c.in-Some.ensures.value) c.args.self.now.counted refl
 
-pub invariant_of-self-clause-known : goal.invariant_of-self-clause-known
-invariant_of-self-clause-known g c =
-    known_after_write c.args.self.now.peers c.args.key c.in-Some.peer.now _ c.args.self.now.ready.keys.items c.args.self.now.ready.keys.items (sym c.in-Some.ensures.value)
-    c.args.self.now.known (λ other is. is)
-
 pub returns-in-Some-clause-others : goal.returns-in-Some-clause-others
 returns-in-Some-clause-others g c = others_after_write c.args.self.now.peers c.args.key c.in-Some.peer.now _ (sym c.in-Some.ensures.value)
 
@@ -27,3 +22,8 @@ returns-in-Some-clause-held g c = sym (counted_after_same c.args.self.now.peers.
 
 pub invariant_of-self-clause-bounded : goal.invariant_of-self-clause-bounded
 invariant_of-self-clause-bounded g c = bounded_after_same c.args.self.now.peers.slots c.args.key c.in-Some.peer.now _ (sym c.in-Some.ensures.value) refl c.args.self.now.bounded
+
+pub invariant_of-self-clause-known : goal.invariant_of-self-clause-known
+invariant_of-self-clause-known g c =
+    known_after_write c.args.self.now.peers c.args.key c.in-Some.peer.now _ c.args.self.now.ready c.args.self.now.ready
+    (sym c.in-Some.ensures.value) c.args.self.now.known (λ other is. is)

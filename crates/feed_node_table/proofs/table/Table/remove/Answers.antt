@@ -8,10 +8,6 @@ pub invariant_of-self-2-clause-counted : goal.invariant_of-self-2-clause-counted
 invariant_of-self-2-clause-counted g c =
     counted_after_removal _ _ _ _ _ _ (sym c.in-Some.ensures.value) c.in-Some.ensures.slots c.args.self.now.counted c.held.ensures.held
 
-pub invariant_of-self-2-clause-known : goal.invariant_of-self-2-clause-known
-invariant_of-self-2-clause-known g c =
-    known_after_removal _ _ _ _ _ c.in-Some.ensures.updates c.args.self.now.known c.remove.ensures.gone c.remove.ensures.listed
-
 pub returns-clause-removed : goal.returns-clause-removed
 returns-clause-removed g c = λ there. record {
   peer = c.in-Some.peer;
@@ -20,11 +16,7 @@ returns-clause-removed g c = λ there. record {
   gone = c.in-Some.ensures.updates.changed;
   others = c.in-Some.ensures.updates.others;
   size = c.in-Some.ensures.len;
-  ready = record {
-    kept = λ other differs is. c.remove.ensures.others other is differs;
-    none_added = λ other differs is. c.remove.ensures.listed other is;
-    before = c.remove.ensures.before;
-  };
+  ready = c.remove.ensures.removed;
   clients = refl;
   held = held_after_removal _ _ _ _ (sym c.in-Some.ensures.value) c.in-Some.ensures.slots;
 }
@@ -40,3 +32,7 @@ returns-clause-absent g c = λ none. never_none _ c.in-Some.peer (sym c.in-Some.
 
 pub invariant_of-self-2-clause-bounded : goal.invariant_of-self-2-clause-bounded
 invariant_of-self-2-clause-bounded g c = bounded_after_removal _ _ _ _ (sym c.in-Some.ensures.value) c.in-Some.ensures.slots c.args.self.now.bounded
+
+pub invariant_of-self-2-clause-known : goal.invariant_of-self-2-clause-known
+invariant_of-self-2-clause-known g c =
+    known_after_removal _ _ _ c.args.self.now.ready c.remove.new.self c.in-Some.ensures.updates c.args.self.now.known c.remove.ensures.removed

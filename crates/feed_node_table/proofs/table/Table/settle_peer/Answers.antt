@@ -15,11 +15,6 @@ pub invariant_of-self-clause-bounded : goal.invariant_of-self-clause-bounded
 invariant_of-self-clause-bounded g c =
     bounded_after_same c.args.self.now.peers.slots c.args.key c.in-Some.peer.now c.settle.new.self (sym c.in-Some.ensures.value) c.settle.ensures.held c.args.self.now.bounded
 
-pub invariant_of-self-clause-known : goal.invariant_of-self-clause-known
-invariant_of-self-clause-known g c =
-    known_after_write c.args.self.now.peers c.args.key c.in-Some.peer.now c.settle.new.self c.args.self.now.ready.keys.items c.args.self.now.ready.keys.items (sym c.in-Some.ensures.value)
-    c.args.self.now.known (λ other is. is)
-
 pub invariant_of-self-clause-few : goal.invariant_of-self-clause-few
 invariant_of-self-clause-few g c =
     omega (arith, c.args.self.now.few, size_after_write c.args.self.now.peers.slots c.args.key c.in-Some.peer.now c.settle.new.self (sym c.in-Some.ensures.value))
@@ -46,3 +41,8 @@ returns-in-Some-clause-others g c = others_after_write c.args.self.now.peers c.a
 
 pub returns-in-Some-clause-size : goal.returns-in-Some-clause-size
 returns-in-Some-clause-size g c = size_after_write c.args.self.now.peers.slots c.args.key c.in-Some.peer.now c.settle.new.self (sym c.in-Some.ensures.value)
+
+pub invariant_of-self-clause-known : goal.invariant_of-self-clause-known
+invariant_of-self-clause-known g c =
+    known_after_write c.args.self.now.peers c.args.key c.in-Some.peer.now c.settle.new.self c.args.self.now.ready c.args.self.now.ready
+    (sym c.in-Some.ensures.value) c.args.self.now.known (λ other is. is)
