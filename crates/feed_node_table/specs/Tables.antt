@@ -142,7 +142,7 @@ module _ {T : Type 0} where
         (next : Peer T) × (peer_at new key ≡ Some next) × IsFollowed records outcome progress now peer next log after
 
     -- what follows a share of a turn was done for the connection with this key: it is removed if it is over, and marked as
-    -- ready if it has more to do. Otherwise the queues of those that are ready are as they were
+    -- ready if it has more to do. Otherwise the queues are as they were
     pub record IsSettled (key : ℕ) (progress : Progress) (now : ℕ) (outcome : Outcome) (old new : Table T) (log after : L) : Type 0 where
       pub others : KeepsOthers key old new
       pub still : has_more outcome ≡ false → (new.ready ≡ old.ready) ⊎ ((peer_at new key ≡ None) × IsGone key old.ready new.ready)

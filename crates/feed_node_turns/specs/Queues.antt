@@ -1,4 +1,4 @@
--- What a turn may still serve of a queue.
+-- The rest of a queue that a turn may serve.
 use Rattle.std.specs.Prelude.{◌≡◌, ◌<◌, ◌⊎◌, ℕ, Bool, false, List, length}
 use Rattle.feed_node_turns.specs.declared.key_queue.QueueRest.{QueueRest}
 

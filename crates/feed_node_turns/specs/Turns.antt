@@ -19,7 +19,7 @@ key_count queues = vec_len queues.fresh.flags
 abbrev pub IsReady : ReadyQueues → ℕ → Type 0
 IsReady queues key = HasKey (fresh_keys queues) key ⊎ HasKey (behind_keys queues) key
 
--- the first of those that were idle was taken; or that of the others
+-- the first key of the one queue was taken, or that of the other
 abbrev pub IsFromFresh : ℕ → ReadyQueues → ReadyQueues → Type 0
 IsFromFresh key old new = (fresh_keys old ≡ key ∷ fresh_keys new) × (behind_keys new ≡ behind_keys old)
 

@@ -7,10 +7,10 @@ ghost use Rattle.feed_node_turns.specs.Flags.{has_key, without, AreAsMany, AreFl
 use std::alloc::{AllocError, Global};
 use std::collections::VecDeque;
 
-/// What a turn may still serve of a queue.
+/// The rest of a queue that a turn may serve.
 #[derive(Clone, Copy)]
 pub struct QueueRest {
-    /// How many of those that were ready when the turn began.
+    /// The number of keys that were ready when the turn began, and that it has not taken.
     left: usize,
     has_served: bool,
 }

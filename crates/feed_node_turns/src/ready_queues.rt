@@ -1,4 +1,4 @@
-//! The two queues of those that are ready, and what a turn has still to serve.
+//! The two queues of the connections that are ready, and the rest of them that a turn may serve.
 ghost use Rattle.std.specs.Prelude.{◌≡◌, ◌<◌, ◌⊎◌, ◌+◌, [], false, true, length, vec_len};
 ghost use Rattle.std.specs.Prelude.{IfOk, IfSome, IsSome, IsSomeAnd};
 ghost use Rattle.feed_node_turns.specs.Flags.{has_key, IsDropped};
@@ -6,7 +6,7 @@ ghost use Rattle.feed_node_turns.specs.Flags.{has_key, IsDropped};
 use crate::key_queue::{KeyQueue, QueueRest};
 use std::alloc::{AllocError, Global};
 
-/// The keys of those that are ready, each below a number, in two queues. A key is in a queue once at most.
+/// The keys of the connections that are ready, each below a number, in two queues. A queue has each key once at most.
 #[derive(Drop)]
 pub struct ReadyQueues {
     /// Those that were idle, or have their first request.
@@ -16,7 +16,7 @@ pub struct ReadyQueues {
     ghost same: { vec_len fresh.flags ≡ vec_len behind.flags },
 }
 
-/// What a turn may still serve.
+/// The rest of both queues that a turn may serve.
 #[derive(Clone, Copy)]
 pub struct TurnRest {
     fresh: QueueRest,
