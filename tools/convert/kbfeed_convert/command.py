@@ -4,34 +4,28 @@ import codecs
 import io
 import os
 import re
-import signal
-import sys
-import traceback
-from types import FrameType
 from typing import IO
 
-from . import dates, encoding, form, labels, mapping, names, source, strict
-from .faults import BYTES, Internal, Refused, Stopped, WrongArguments
+from . import dates, encoding, ending, form, labels, mapping, names, source, strict
+from .faults import BYTES, Refused, WrongArguments
 from .files import Output, ReportOutput, standard_output
 from .record import DATES, NUMBERS, Cells, Converter, Settings
 from .report import Report
 
+PROGRAM = "kbfeed-convert"
 DESCRIPTION = "Converts a vendor's holdings list to a KBART list that kbfeed reads."
 EPILOG = """The list is text of any usual encoding and separator, or a spreadsheet (.xlsx), also inside ZIP or gzip.
 The status is 0 if the list was written, 1 if it is refused, or with --strict if a record was dropped, 2 for wrong
 arguments, and 3 if a file cannot be read or written."""
-SIGNALS = (signal.SIGHUP, signal.SIGINT, signal.SIGTERM)
 # The records by which the column of titles is guessed.
 SAMPLE = 50
 # The labels whose absence is worth a warning. Identifiers need none: without them there is no row.
 EXPECTED = ("publication_title", "title_url")
-# Records dropped for these reasons hold nothing.
-NOTHING_LOST = {"Blank", "Header"}
 
 
 def arguments(given: list[str] | None = None) -> argparse.Namespace:
     """Parses the arguments."""
-    parser = argparse.ArgumentParser(prog="kbfeed-convert", description=DESCRIPTION, epilog=EPILOG, allow_abbrev=False)
+    parser = argparse.ArgumentParser(prog=PROGRAM, description=DESCRIPTION, epilog=EPILOG, allow_abbrev=False)
     parser.add_argument("file", metavar="FILE", help="the list; - is standard input")
     parser.add_argument("--into", metavar="DIR", help="write DIR/NAME and print NAME, in place of standard output")
     parser.add_argument("--name", metavar="NAME", help="the file name to take the package and the day from")
@@ -186,10 +180,10 @@ def run(given: argparse.Namespace) -> int:
         if report_out:
             report_out.close()
         for line in report.summary(given.verbose):
-            say(line)
+            ending.say(PROGRAM, line)
         if not report.rows:
             raise Refused("no record is a row: such a release would hide its package")
-        return 1 if given.strict and set(report.dropped) - NOTHING_LOST else 0
+        return 1 if given.strict and report.lost() else 0
     finally:
         for it in (out, report_out):
             if it:
@@ -225,45 +219,6 @@ def check_paths(given: argparse.Namespace, name: str) -> None:
             raise WrongArguments(f"--report: {given.report} is another file of this run")
 
 
-def say(text: str) -> None:
-    """Prints a line on standard error. Control characters of a list cannot command a terminal."""
-    print("kbfeed-convert: " + re.sub("[\x00-\x1f\x7f-\x9f]", "?", text), file=sys.stderr)
-
-
-def stop(number: int, _frame: FrameType | None) -> None:
-    """Ends the run at a signal. A second one does not interrupt the removal of files."""
-    for it in SIGNALS:
-        signal.signal(it, signal.SIG_IGN)
-    raise Stopped(number)
-
-
 def main() -> int:
     """Runs the program, and returns the exit status."""
-    for it in SIGNALS:
-        if signal.getsignal(it) != signal.SIG_IGN:
-            signal.signal(it, stop)
-    try:
-        return run(arguments())
-    except Refused as fault:
-        status, text = 1, str(fault)
-    except WrongArguments as fault:
-        status, text = 2, str(fault)
-    except Internal as fault:
-        status, text = 3, str(fault)
-    except BrokenPipeError:
-        os.dup2(os.open(os.devnull, os.O_WRONLY), sys.stdout.fileno())
-        return 3
-    except OSError as fault:
-        status, text = 3, f"{fault.filename}: {fault.strerror}" if fault.filename else str(fault.strerror or fault)
-    except MemoryError:
-        status, text = 3, "there was no memory"
-    except Exception as fault:
-        place = traceback.extract_tb(fault.__traceback__)[-1]
-        where = f"{os.path.basename(place.filename)}:{place.lineno}"
-        status, text = 3, f"an error of this program: {type(fault).__name__}: {fault} ({where})"
-    except Stopped as fault:
-        signal.signal(fault.number, signal.SIG_DFL)
-        os.kill(os.getpid(), fault.number)
-        return 128 + fault.number
-    say(text)
-    return status
+    return ending.status_of(PROGRAM, lambda: run(arguments()))

@@ -12,6 +12,8 @@ from .values import PLACEHOLDER
 # The rules that guess, lose or add something.
 DOUBTFUL = re.compile("not read|not decided|placeholder|no link|rows|begin again|is open|are open|decide the type")
 PLACEHOLDER_BEGIN = re.compile(r"[\[{<%$]")
+# Records dropped for these reasons hold nothing.
+NOTHING_LOST = {"Blank", "Header"}
 # The lines on standard error, unless all are asked for.
 SHORT = 10
 # The cells of a dropped record that the report has.
@@ -104,6 +106,10 @@ class Report:
                   "rows": self.rows}
         end = {"warnings": self.warnings, "counts": counts, **({"refused": refused} if refused else {})}
         self.write("\n],\n" + ",\n".join(f"{as_json(key)}: {as_json(value)}" for key, value in end.items()) + "}\n")
+
+    def lost(self) -> int:
+        """Returns the number of dropped records that hold something."""
+        return sum(count for reason, count in self.dropped.items() if reason not in NOTHING_LOST)
 
     def summary(self, is_whole: bool) -> list[str]:
         """Returns the counts and the warnings, at most ten lines unless all are asked for."""
