@@ -13,23 +13,24 @@ DOC = share/doc/kbfeed
 PAGES = README.md CHANGELOG.md LICENSE SECURITY.md $(wildcard docs/*.md docs/*.svg docs/*.png samples/*.script samples/*.transcript \
 	samples/lists/* samples/fleet/* samples/vendor/*)
 # The scripts to install as programs, each with its place below PREFIX.
-SCRIPTS = samples/fleet/feed:bin/kbfeed-feed tools/statistics:bin/kbfeed-statistics tools/convert/kbfeed-convert:bin/kbfeed-convert
-# The modules of kbfeed-convert, which finds them beside its own folder.
-MODULES = $(wildcard tools/convert/kbfeed_convert/*.py tools/convert/kbfeed_convert/*.toml)
+SCRIPTS = samples/fleet/feed:bin/kbfeed-feed tools/statistics:bin/kbfeed-statistics tools/convert/kbfeed-convert:bin/kbfeed-convert \
+	tools/collect/kbfeed-collect:bin/kbfeed-collect
+# The modules of kbfeed-convert and kbfeed-collect, which find them beside their own folder.
+MODULES = $(wildcard tools/*/kbfeed_*/*.py tools/*/kbfeed_*/*.toml)
 # Files with the path of a program, /usr/local, which becomes PREFIX.
-UNITS = $(foreach unit,kbfeed-node@.service kbfeed-feed.service kbfeed-feed.timer, \
+UNITS = $(foreach unit,kbfeed-node@.service kbfeed-feed.service kbfeed-feed.timer \
+	kbfeed-collect.service kbfeed-collect.timer, \
 	samples/fleet/$(unit):lib/systemd/system/$(unit))
 # The other files to install.
 DATA = man/kbfeed.1:share/man/man1/kbfeed.1 man/kbfeed-feed.1:share/man/man1/kbfeed-feed.1 \
 	man/kbfeed-statistics.1:share/man/man1/kbfeed-statistics.1 man/kbfeed-convert.1:share/man/man1/kbfeed-convert.1 \
+	man/kbfeed-collect.1:share/man/man1/kbfeed-collect.1 \
 	samples/fleet/sysusers.conf:lib/sysusers.d/kbfeed.conf samples/fleet/tmpfiles.conf:lib/tmpfiles.d/kbfeed.conf \
-	completions/kbfeed.bash:share/bash-completion/completions/kbfeed \
-	completions/_kbfeed:$(ZSH_FUNCTIONS)/_kbfeed \
-	completions/kbfeed.fish:share/fish/vendor_completions.d/kbfeed.fish \
-	completions/kbfeed-convert.bash:share/bash-completion/completions/kbfeed-convert \
-	completions/_kbfeed-convert:$(ZSH_FUNCTIONS)/_kbfeed-convert \
-	completions/kbfeed-convert.fish:share/fish/vendor_completions.d/kbfeed-convert.fish \
-	$(foreach module,$(MODULES),$(module):share/kbfeed/$(patsubst tools/convert/%,%,$(module))) \
+	$(foreach name,kbfeed kbfeed-convert kbfeed-collect, \
+	completions/$(name).bash:share/bash-completion/completions/$(name) \
+	completions/_$(name):$(ZSH_FUNCTIONS)/_$(name) \
+	completions/$(name).fish:share/fish/vendor_completions.d/$(name).fish) \
+	$(foreach module,$(MODULES),$(module):share/kbfeed/$(patsubst tools/convert/%,%,$(module:tools/collect/%=%))) \
 	$(foreach page,$(PAGES),$(page):$(DOC)/$(page))
 INTO = $(DESTDIR)$(PREFIX)
 
@@ -114,7 +115,7 @@ uninstall:
 		rm -f "$(INTO)/$$place" || exit; \
 	done
 	@for folder in $(foreach folder,samples/lists samples/fleet samples/vendor samples docs,$(DOC)/$(folder)) $(DOC) \
-		share/kbfeed/kbfeed_convert share/kbfeed; do rmdir "$(INTO)/$$folder" 2> /dev/null; done; true
+		share/kbfeed/kbfeed_convert share/kbfeed/kbfeed_collect share/kbfeed; do rmdir "$(INTO)/$$folder" 2> /dev/null; done; true
 
 deb: $(PROGRAM)
 	@rm -rf "$(OUT)/deb"

@@ -113,7 +113,7 @@ class Client(threading.Thread):
 class Fleet:
     def __init__(self, folder):
         self.folder = folder
-        self.front, self.way, self.origin, *self.ports = ports(6)
+        self.front, self.way, self.shelf, self.origin, *self.ports = ports(7)
         self.begun = {}
         (folder / "token").write_text(TOKEN + "\n", encoding="ascii")
         (folder / "nodes").write_text("".join(f"127.0.0.1:{port}\n" for port in self.ports), encoding="ascii")
@@ -135,6 +135,7 @@ class Fleet:
             text = text.replace(f"127.0.0.1:{8081 + at}", f"127.0.0.1:{port}")
         for old, new in [("127.0.0.1:8080", f"127.0.0.1:{self.front}"), ("[::1]:8080", f"[::1]:{self.front}"),
                          ("127.0.0.1:8090", f"127.0.0.1:{self.way}"), ("[::1]:8090", f"[::1]:{self.way}"),
+                         ("127.0.0.1:8091", f"127.0.0.1:{self.shelf}"), ("[::1]:8091", f"[::1]:{self.shelf}"),
                          ("https://lists.example/kbart/", f"http://127.0.0.1:{self.origin}/"),
                          ("/var/cache/nginx", str(self.folder)), ("/var/log/nginx", str(self.folder)),
                          ("rate=20", "rate=90000")]:

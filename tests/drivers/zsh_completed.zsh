@@ -11,6 +11,7 @@ zle -C complete_all complete-word complete_all
 bindkey '^I' complete_all
 kbfeed() { print -r -- kbfeed $@ >> $ZDOTDIR/lines }
 kbfeed-convert() { print -r -- kbfeed-convert $@ >> $ZDOTDIR/lines }
+kbfeed-collect() { print -r -- kbfeed-collect $@ >> $ZDOTDIR/lines }
 END
 export ZDOTDIR=$settings COMPLETIONS=$1 TERM=dumb
 touch $settings/lines

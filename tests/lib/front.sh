@@ -1,13 +1,14 @@
 # nginx with the sample configuration for a session, beside fetching.sh: `fronted SCRIPT` starts it with
 # samples/fleet/nginx.conf as the sed script edits it, and waits until it listens. FRONT is the address for readers, WAY
-# the one for nodes, and NGINX the process. Its files are in the folder nginx. Nothing is at the address of
-# lists.example if the script does not edit it.
+# the one that leads to a knowledge base, SHELF the one of the folder lists, and NGINX the process. Its files are in the
+# folder nginx. Nothing is at the address of lists.example if the script does not edit it.
 fronted() {
   mkdir -p nginx
   for PORT in $(free_ports); do
-    FRONT=127.0.0.1:$PORT WAY=127.0.0.1:$((PORT + 1000))
+    FRONT=127.0.0.1:$PORT WAY=127.0.0.1:$((PORT + 1000)) SHELF=127.0.0.1:$((PORT + 2000))
     nginx_conf | sed "$1
       s|1\(]*\):8080|1\1:$PORT|; s|1\(]*\):8090|1\1:$((PORT + 1000))|
+      s|1\(]*\):8091|1\1:$((PORT + 2000))|; s|/var/lib/kbfeed-lists|$PWD/lists|
       s|/var/cache/nginx|$PWD/nginx|; s|/var/log/nginx|$PWD/nginx|; s|lists.example/|127.0.0.1:9/|" > nginx/conf
     rm -f nginx/pid
     timeout 600 nginx -p nginx -c conf -e errors -g 'daemon off;' 2> faults & NGINX=$!
