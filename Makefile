@@ -13,7 +13,8 @@ DOC = share/doc/kbfeed
 PAGES = README.md CHANGELOG.md LICENSE SECURITY.md $(wildcard docs/*.md docs/*.svg docs/*.png samples/*.script samples/*.transcript \
 	samples/lists/* samples/fleet/* samples/vendor/*)
 # The scripts to install as programs, each with its place below PREFIX.
-SCRIPTS = samples/fleet/feed:bin/kbfeed-feed tools/statistics:bin/kbfeed-statistics tools/convert/kbfeed-convert:bin/kbfeed-convert \
+SCRIPTS = samples/fleet/feed:bin/kbfeed-feed samples/fleet/node-restart:bin/kbfeed-node-restart \
+	tools/statistics:bin/kbfeed-statistics tools/convert/kbfeed-convert:bin/kbfeed-convert \
 	tools/collect/kbfeed-collect:bin/kbfeed-collect
 # The modules of kbfeed-convert and kbfeed-collect, which find them beside their own folder.
 MODULES = $(wildcard tools/*/kbfeed_*/*.py tools/*/kbfeed_*/*.toml)
@@ -23,6 +24,7 @@ UNITS = $(foreach unit,kbfeed-node@.service kbfeed-feed.service kbfeed-feed.time
 	samples/fleet/$(unit):lib/systemd/system/$(unit))
 # The other files to install.
 DATA = man/kbfeed.1:share/man/man1/kbfeed.1 man/kbfeed-feed.1:share/man/man1/kbfeed-feed.1 \
+	man/kbfeed-node-restart.1:share/man/man1/kbfeed-node-restart.1 \
 	man/kbfeed-statistics.1:share/man/man1/kbfeed-statistics.1 man/kbfeed-convert.1:share/man/man1/kbfeed-convert.1 \
 	man/kbfeed-collect.1:share/man/man1/kbfeed-collect.1 \
 	samples/fleet/sysusers.conf:lib/sysusers.d/kbfeed.conf samples/fleet/tmpfiles.conf:lib/tmpfiles.d/kbfeed.conf \
