@@ -26,8 +26,9 @@ ISSNS = ["2434-561X", "0317-8471", "1050-124X"]
 ISBNS = ["9780306406157", "9781849302043"]
 HOSTS = ["a.example", "b.example", "c.a.example"]
 # Behind `//` of an address: what is a host, and what is none.
-ODD_HOSTS = ["A.Example", "b.example:8080", "b.example:65536", "x@a.example", "a.example:80@c.example", "", "-a.example",
-             "a_b.example", "1.2.3", "1.2.3.4", "1.2.3.04", "0x7f.1", "[::1]", "[0:0::1]:80", "[1:2]", "a.example\\"]
+ODD_HOSTS = ["A.Example", "b.example:8080", "b.example:65536", "x@a.example", "a.example:80@c.example", "",
+             "-a.example", "a_b.example", "1.2.3", "1.2.3.4", "1.2.3.04", "0x7f.1", "[::1]", "[0:0::1]:80", "[1:2]",
+             "a.example\\"]
 FIRSTS, LASTS = ["", "", "1990", "1995", "1998-03", "1999-12-31"], ["", "", "", "2001", "2004-02", "2024", "1996"]
 VOLUMES = ["", "", "1", "5", "007", "12", "x"]
 EMBARGOES = ["", "", "P1Y", "P12M", "P30D", "R10Y", "R1Y;P1Y", "P30D;R2Y", "12 months"]

@@ -211,8 +211,8 @@ impl<T: Stream> Table<T> {
     }
 
     /// Returns the key of the connection that is closed first. For a place it is the one that is idle longest,
-    /// otherwise the slowest reader, otherwise the quietest; and one that waits for its share only if all do. For memory
-    /// it is the one whose reply takes the most, and of equals the slowest reader.
+    /// otherwise the slowest reader, otherwise the quietest; one that waits for its share only if all do. For memory it
+    /// is the one whose reply takes the most, and of equals the slowest reader.
     pub fn first_to_close(&self, shortage: Shortage) -> Option<usize>
         ensures first { IfSome result (λ key. IsFirstToClose shortage self.now key) }
         ensures none { IfNone result (size_of self.now ≡ 0) }

@@ -24,8 +24,8 @@ pub struct TurnRest {
 }
 
 impl ReadyQueues {
-    ghost use Rattle.feed_node_turns.specs.Turns.{fresh_keys, behind_keys, key_count, IsFromBehind, IsFromFresh, IsGone};
-    ghost use Rattle.feed_node_turns.specs.Turns.{IsMarked, IsTaken};
+    ghost use Rattle.feed_node_turns.specs.Turns.{fresh_keys, behind_keys, key_count, IsFromBehind, IsFromFresh};
+    ghost use Rattle.feed_node_turns.specs.Turns.{IsGone, IsMarked, IsTaken};
     ghost use Rattle.feed_node_turns.specs.Queues.{IsWhole, MayServe};
 
     /// Returns empty queues of keys below this number, with room for all of them.
