@@ -1,3 +1,4 @@
 pub mod EscapedTexts
 pub mod LineParts
 pub mod LastParts
+pub mod LinesWritten

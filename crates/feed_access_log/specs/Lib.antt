@@ -4,4 +4,5 @@ pub mod Pieces
 pub mod Queries
 pub mod Forwarded
 pub mod Lines
+pub mod LineLogs
 pub mod Laws

@@ -43,6 +43,7 @@ place_of counter.FetchDone = 9
 place_of counter.FetchRefused = 10
 place_of counter.FetchFailed = 11
 place_of counter.RefusedToken = 12
+place_of counter.DroppedLine = 13
 
 -- the place of a target
 abbrev pub target_place : Target → ℕ

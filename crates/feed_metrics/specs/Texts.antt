@@ -40,6 +40,7 @@ counter_front counter.FetchDone = front.FETCH_DONE.now
 counter_front counter.FetchRefused = front.FETCH_REFUSED.now
 counter_front counter.FetchFailed = front.FETCH_FAILED.now
 counter_front counter.RefusedToken = front.REFUSED_TOKEN.now
+counter_front counter.DroppedLine = front.DROPPED_LINE.now
 
 -- the line of a counter
 unfoldable pub counter_line : MetricsValue → Counter → List ℕ

@@ -25,10 +25,12 @@ pub enum Counter {
     FetchFailed,
     /// Requests without the token that they need.
     RefusedToken,
+    /// Lines of the log that were not written.
+    DroppedLine,
 }
 
 /// All counters, as they are printed.
-pub(crate) const COUNTERS: [Counter; 13] = [
+pub(crate) const COUNTERS: [Counter; 14] = [
     Counter::Opened,
     Counter::Complete,
     Counter::PeerClosed,
@@ -42,6 +44,7 @@ pub(crate) const COUNTERS: [Counter; 13] = [
     Counter::FetchRefused,
     Counter::FetchFailed,
     Counter::RefusedToken,
+    Counter::DroppedLine,
 ];
 
 pub(crate) const OPENED: &[u8] = b"# HELP kbfeed_connections_opened_total Connections accepted.\n\
@@ -87,11 +90,16 @@ pub(crate) const REFUSED_TOKEN: &[u8] =
     # TYPE kbfeed_refused_tokens_total counter\n\
     kbfeed_refused_tokens_total ";
 
+pub(crate) const DROPPED_LINE: &[u8] =
+    b"# HELP kbfeed_log_lines_dropped_total Lines of the log that were not written.\n\
+    # TYPE kbfeed_log_lines_dropped_total counter\n\
+    kbfeed_log_lines_dropped_total ";
+
 impl Counter {
     /// Returns the place of the counter among all.
     pub(crate) fn place(self) -> usize
         ensures value { result ≡ place_of self }
-        ensures below { result < 13 }
+        ensures below { result < 14 }
     {
         match self {
             Counter::Opened => 0,
@@ -107,6 +115,7 @@ impl Counter {
             Counter::FetchRefused => 10,
             Counter::FetchFailed => 11,
             Counter::RefusedToken => 12,
+            Counter::DroppedLine => 13,
         }
     }
 
@@ -129,6 +138,7 @@ impl Counter {
             Counter::FetchRefused => FETCH_REFUSED,
             Counter::FetchFailed => FETCH_FAILED,
             Counter::RefusedToken => REFUSED_TOKEN,
+            Counter::DroppedLine => DROPPED_LINE,
         }
     }
 }

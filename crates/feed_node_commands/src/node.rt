@@ -6,10 +6,11 @@ use feed_command::{DONE, FAILED, Faults, MISUSED, REFUSED, open_plain_file};
 use feed_database_commands::{Database, begin_feed, close_keeper, open_feed, report_keeper};
 use feed_file_commands::note_port;
 use feed_http::is_host;
+use feed_keep::Keep;
 use feed_node_server::{Server, Settings, TimeLimits};
 use feed_node_service::{
-    End, LogSettings, NodeSetup, NodeState, Source, SourceAddrs, StartFault, WatchedFile, run,
-    start,
+    End, LogSettings, NodeLog, NodeSetup, NodeState, Source, SourceAddrs, StartFault, WatchedFile,
+    run, start,
 };
 use feed_range::read_number;
 use feed_releases::Opening;
@@ -42,11 +43,13 @@ pub struct Hosting<'a> {
 /// records of the database are loaded. Until their lists are checked, readers get 503. If the node has a source, a
 /// client that has the token can make it fetch a release from there. It prints a line for each request, at once. The
 /// first fault is reported: of the source (`Host`, `Read`, `Token`), of the site file (`Read`, `Site`), of the
-/// database, of the address (`Bind`), of a list (`Damaged`), of the sockets (`Poll`), of the print, and of a database
-/// whose file is gone (`Device`). A host that has no address yet is reported too (`Resolve`), and the node runs. If
-/// there are too few descriptors for all clients, that is reported (`Descriptors`), and the node answers fewer at a
-/// time, or does not start with fewer than 16. A check answers no reader, and prints `ok` if all is well. It also
-/// reports a prefix of a proxy behind which a list can add parameters (`Prefix`), which is no fault.
+/// database, of the address (`Bind`), of a list (`Damaged`), of the sockets (`Poll`), and of a database whose file is
+/// gone (`Device`). Lines of the log that cannot be written are dropped and counted, and that is reported. A host that
+/// has no address yet is reported too (`Resolve`), and the node runs. If there are too few descriptors for all clients,
+/// that is reported (`Descriptors`), and the node answers fewer at a time, or does not start with fewer than 16.
+///
+/// A check answers no reader, and prints `ok` if all is well. It also reports a prefix of a proxy behind which a list
+/// can add parameters (`Prefix`), which is no fault.
 pub fn run_node<D: Database, O: Write, F: Write + Drop>(
     rt: &HostRuntime,
     database: &D,
@@ -123,7 +126,7 @@ fn token_of<F: Write + Drop>(
     }
 }
 
-// Opens the feed and answers readers, until the sockets or a print fail.
+// Opens the feed and answers readers, until the sockets fail, or the file of the database is gone.
 fn run_server<D: Database, O: Write, F: Write + Drop>(
     rt: &HostRuntime,
     database: &D,
@@ -154,7 +157,7 @@ fn run_server<D: Database, O: Write, F: Write + Drop>(
         state: &state,
     };
     match begin(rt, database, hosting, faults) {
-        Ok((opening, server)) => serve(rt, database, opening, server, setup, out, faults),
+        Ok((opening, server)) => serve(rt, database, opening, server, setup, faults),
         Err(status) => status,
     }
 }
@@ -174,7 +177,7 @@ fn check_server<D: Database, O: Write, F: Write + Drop>(
     let listening = listen(rt, hosting, faults);
     close_keeper(database, feed.restart(), faults);
     match listening {
-        Ok(_server) => faults.check_print(announce(out, "ok"), DONE),
+        Ok(_server) => faults.check_print(print_ok(out), DONE),
         Err(status) => status,
     }
 }
@@ -205,30 +208,39 @@ fn first_line(version: &str) -> &str {
 }
 
 // Opens the feed of a database and answers readers from it. Reports why the node ends, and returns the exit status.
-fn serve<D: Database, O: Write, F: Write + Drop>(
+fn serve<D: Database, F: Write + Drop>(
     rt: &HostRuntime,
     database: &D,
     opening: Opening<D::Keeper>,
     mut server: Server,
     setup: NodeSetup<'_>,
-    out: &mut O,
     faults: &mut Faults<F>,
 ) -> u8 {
     let file = match WatchedFile::new(rt, database.name()) {
         Ok(file) => file,
         Err(_) => return report_end(End::FileGone, database.name(), faults),
     };
-    if let Err(error) = announce(out, "listening") {
-        return end_node(database, opening.into_keeper(), End::Print(error), faults);
-    }
-    match start(rt, opening, &mut server, &setup, out) {
-        Ok(feed) => {
-            let (end, keeper) = run(rt, feed, &mut server, setup, file, out);
-            end_node(database, keeper, end, faults)
-        }
+    match run_with_log(rt, opening, &mut server, setup, file, faults.out()) {
+        Ok((end, keeper)) => end_node(database, keeper, end, faults),
         Err(StartFault::Ended(end)) => report_end(end, database.name(), faults),
         Err(StartFault::Keeper(cause)) => report_keeper(faults, cause, database.name()),
     }
+}
+
+// Opens a feed and answers readers from it until the node ends. The log is on standard output, without a buffer, so a
+// line is dropped exactly if it cannot be written.
+fn run_with_log<K: Keep + Drop, F: Write>(
+    rt: &HostRuntime,
+    opening: Opening<K>,
+    server: &mut Server,
+    setup: NodeSetup<'_>,
+    file: WatchedFile<'_>,
+    notes: &mut F,
+) -> Result<(End, K), StartFault> {
+    let mut log = NodeLog::new(io::writer(rt), notes);
+    setup.state.drop_lines(log.write_lines(b"listening\n"));
+    let feed = start(rt, opening, server, &setup, &mut log)?;
+    Ok(run(rt, feed, server, setup, file, &mut log))
 }
 
 // Closes the database and reports why a node ended. A file that is gone is left alone: another database may be in its
@@ -304,8 +316,8 @@ fn bind(rt: &HostRuntime, hosting: Hosting<'_>) -> io::Result<Server> {
 }
 
 // Prints that all is open.
-fn announce<O: Write>(out: &mut O, line: &str) -> io::Result<()> {
-    writeln!(out, "{line}")?;
+fn print_ok<O: Write>(out: &mut O) -> io::Result<()> {
+    writeln!(out, "ok")?;
     out.flush()
 }
 
@@ -314,7 +326,6 @@ fn report_end<F: Write + Drop>(end: End, path: &str, faults: &mut Faults<F>) -> 
     match end {
         End::Memory => faults.report("Memory", FAILED),
         End::Sockets(fault) => faults.report_with("Poll", "the sockets", fault, FAILED),
-        End::Print(fault) => faults.check_print(Err(fault), FAILED),
         End::FileGone => faults.report_with(
             "Device",
             path,

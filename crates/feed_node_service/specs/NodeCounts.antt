@@ -23,6 +23,10 @@ fetch_counter status =
     else (if status == 3 || status == 4 then counter.FetchFailed
     else counter.FetchRefused)
 
+-- this many more of a counter
+abbrev pub many_of : Counter → ℕ → Added
+many_of which count = record { place = place_of which; amount = count }
+
 -- one more of a counter
 abbrev pub one_of : Counter → Added
-one_of which = record { place = place_of which; amount = 1 }
+one_of which = many_of which 1

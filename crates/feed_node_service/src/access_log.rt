@@ -1,9 +1,9 @@
 //! The access log of a node, and the counters of its connections and requests.
+use crate::node_log::NodeLog;
 use crate::node_state::NodeState;
 use feed_monitoring::{Exchange, LogPolicy, put_exchange};
 use feed_node_connection::{Connection, ReplySummary};
 use feed_node_server::{CloseCause, Log, is_local};
-use std::io;
 use std::io::Write;
 use std::net::{IpAddr, SocketAddr};
 use std::time::{SystemTime, UNIX_EPOCH};
@@ -19,11 +19,11 @@ pub struct LogSettings {
     pub has_open_reports: bool,
 }
 
-/// A log that prints a line for each reply, and counts it.
+/// A log that has a line for each reply, and counts it.
 #[derive(Drop)]
-pub struct AccessLog<'o, O: Write> {
+pub struct AccessLog<'o, W: Write, F: Write> {
     rt: &'o HostRuntime,
-    out: &'o mut O,
+    out: &'o mut NodeLog<W, F>,
     state: &'o NodeState,
     settings: LogSettings,
     /// The lines of this turn.
@@ -33,13 +33,13 @@ pub struct AccessLog<'o, O: Write> {
     peer_text: Vec<u8>,
 }
 
-impl<'o, O: Write> AccessLog<'o, O> {
+impl<'o, W: Write, F: Write> AccessLog<'o, W, F> {
     pub fn new(
         rt: &'o HostRuntime,
-        out: &'o mut O,
+        out: &'o mut NodeLog<W, F>,
         state: &'o NodeState,
         settings: LogSettings,
-    ) -> AccessLog<'o, O> {
+    ) -> AccessLog<'o, W, F> {
         AccessLog {
             rt,
             out,
@@ -85,8 +85,8 @@ impl<'o, O: Write> AccessLog<'o, O> {
         };
     }
 
-    // Counts a request whose reply was sent, in whole or in part, and adds its line. If memory runs out, there is no
-    // line.
+    // Counts a request whose reply was sent, in whole or in part, and adds its line. If memory runs out, the line is
+    // dropped.
     fn put_reply(
         &mut self,
         addr: SocketAddr,
@@ -113,7 +113,7 @@ impl<'o, O: Write> AccessLog<'o, O> {
             .record(&mut self.lines, policy, &exchange)
             .is_err()
         {
-            self.lines.truncate(start);
+            self.drop_line(start);
         }
     }
 
@@ -133,22 +133,26 @@ impl<'o, O: Write> AccessLog<'o, O> {
             micros: 0,
         };
         if put_exchange(&mut self.lines, policy, &exchange).is_err() {
-            self.lines.truncate(start);
+            self.drop_line(start);
         }
     }
 
-    /// Prints the lines of the turn.
-    pub fn flush(&mut self) -> io::Result<()> {
-        if self.lines.is_empty() {
-            return Ok(());
+    // Drops the line that begins at a place.
+    fn drop_line(&mut self, start: usize) {
+        self.lines.truncate(start);
+        self.state.drop_lines(1);
+    }
+
+    /// Writes the lines of the turn, and counts those that are dropped.
+    pub fn flush(&mut self) {
+        if !self.lines.is_empty() {
+            self.state.drop_lines(self.out.write_lines(&self.lines));
+            self.lines.clear();
         }
-        self.out.write_all(&self.lines)?;
-        self.lines.clear();
-        self.out.flush()
     }
 }
 
-impl<'o, O: Write> Log for AccessLog<'o, O> {
+impl<'o, W: Write, F: Write> Log for AccessLog<'o, W, F> {
     fn on_accept(&mut self, _addr: SocketAddr) {
         self.state.accept();
     }

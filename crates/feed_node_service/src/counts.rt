@@ -3,7 +3,7 @@ ghost use Rattle.std.specs.Prelude.{◌≡◌, ◌∷◌, IfOk, List, []};
 ghost use Rattle.feed_metrics.specs.Counts.{Added, HasCounted};
 ghost use Rattle.feed_metrics.specs.Histograms.{HasObserved};
 ghost use Rattle.feed_metrics.specs.declared.counter.Counter.TheVariants as counter;
-ghost use Rattle.feed_node_service.specs.NodeCounts.{cause_counter, fetch_counter, one_of};
+ghost use Rattle.feed_node_service.specs.NodeCounts.{cause_counter, fetch_counter, many_of, one_of};
 
 use feed_metrics::{Counter, Metrics};
 use feed_node_server::CloseCause;
@@ -82,5 +82,15 @@ impl NodeCounts {
         ensures times { self.new.metrics.times ≡ self.old.metrics.times }
     {
         self.metrics.add(fetch_counter(status), 1);
+    }
+
+    /// Counts lines of the log that were not written.
+    pub fn drop_lines(&mut self, lines: u64)
+        ensures counted { (history : List Added) → HasCounted self.old.metrics.counters history
+            → HasCounted self.new.metrics.counters (many_of counter.DroppedLine lines ∷ history) }
+        ensures requests { self.new.metrics.requests ≡ self.old.metrics.requests }
+        ensures times { self.new.metrics.times ≡ self.old.metrics.times }
+    {
+        self.metrics.add(Counter::DroppedLine, lines);
     }
 }

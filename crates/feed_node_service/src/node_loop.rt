@@ -1,10 +1,11 @@
-//! Runs a node: the loop that ends only when its sockets, its log or the file of its database fail.
+//! Runs a node: the loop that ends only when its sockets or the file of its database fail.
 ghost use Rattle.std.specs.Prelude.{◌≡◌};
 ghost use Rattle.feed_node_table.specs.Tables.{size_of};
 ghost use Rattle.feed_node_service.specs.Runs.{HasGoneOn, IsLaterNode};
 
 use crate::access_log::{AccessLog, LogSettings};
 use crate::fetcher::{FeedNode, Fetcher, Source};
+use crate::node_log::NodeLog;
 use crate::node_state::{NodeState, TurnFacts};
 use crate::responder::FeedResponder;
 use crate::source_addrs::SourceAddrs;
@@ -27,8 +28,6 @@ pub enum End {
     Memory,
     /// The poll failed.
     Sockets(io::Error),
-    /// A print of the log failed.
-    Print(io::Error),
     /// The file of the database was removed or replaced.
     FileGone,
 }
@@ -48,16 +47,16 @@ pub struct NodeSetup<'a> {
     pub state: &'a NodeState,
 }
 
-/// Answers readers from a feed, until the poll or a print fails, or the file of the database is gone as a fetch stores
-/// in it. If there is a source, a client that has the token can have a release fetched from there. Prints the lines of
-/// the log after each turn. Returns why the node ends, and the keeper of the feed.
-pub fn run<K: Keep + Drop, O: Write>(
+/// Answers readers from a feed, until the poll fails, or the file of the database is gone as a fetch stores in it. If
+/// there is a source, a client that has the token can have a release fetched from there. Writes the lines of the log
+/// after each turn. Returns why the node ends, and the keeper of the feed.
+pub fn run<K: Keep + Drop, W: Write, F: Write>(
     rt: &HostRuntime,
     feed: Feed<K>,
     server: &mut Server,
     setup: NodeSetup<'_>,
     file: WatchedFile<'_>,
-    out: &mut O,
+    out: &mut NodeLog<W, F>,
 ) -> (End, K)
     ensures { HasGoneOn feed result }
 {
@@ -68,13 +67,13 @@ pub fn run<K: Keep + Drop, O: Write>(
 }
 
 // Runs a node over its table.
-fn run_over<'a, K: Keep + Drop, O: Write>(
+fn run_over<'a, K: Keep + Drop, W: Write, F: Write>(
     rt: &'a HostRuntime,
     feed: Feed<K>,
     server: &mut Server,
     setup: NodeSetup<'a>,
     file: WatchedFile<'a>,
-    out: &'a mut O,
+    out: &'a mut NodeLog<W, F>,
     table: Table<Socket>,
 ) -> (End, K)
     requires { size_of table ≡ 0 }
@@ -113,18 +112,18 @@ fn token_of<'a>(source: Option<Source<'a>>) -> Option<&'a [u8]> {
 
 // The parts of a running node beside its connections and its feed.
 #[derive(Drop)]
-struct RunningNode<'a, O: Write> {
+struct RunningNode<'a, W: Write, F: Write> {
     rt: &'a HostRuntime,
     state: &'a NodeState,
     fetcher: Fetcher<'a>,
-    log: AccessLog<'a, O>,
+    log: AccessLog<'a, W, F>,
     /// The number of the node's day.
     day: i32,
     /// When the active releases last changed.
     switched: Option<Instant>,
 }
 
-impl<'a, O: Write> RunningNode<'a, O> {
+impl<'a, W: Write, F: Write> RunningNode<'a, W, F> {
     #[tactic(auto, using(feed_node_machine::proofs::Later::later_after))]
     fn run<K: Keep + Drop>(&mut self, node: &mut FeedNode<'_, K>, server: &mut Server) -> End
         ensures { IsLaterNode node.old node.new }
@@ -156,9 +155,7 @@ impl<'a, O: Write> RunningNode<'a, O> {
         if let Err(fault) = server.turn(self.rt, node, events, &mut self.log) {
             return Some(End::Sockets(fault));
         }
-        if let Err(fault) = self.log.flush() {
-            return Some(End::Print(fault));
-        }
+        self.log.flush();
         // The fetch waits until the list is read as far as it has arrived. So its last piece leaves little to read.
         if node.catch_up() {
             server.skip_wait();

@@ -79,6 +79,13 @@ impl NodeState {
         }
     }
 
+    /// Counts lines of the log that were not written.
+    pub fn drop_lines(&self, lines: u64) {
+        if let Ok(mut counts) = self.counts.try_borrow_mut() {
+            counts.drop_lines(lines);
+        }
+    }
+
     /// Counts a request that was replied to, and appends its line.
     ///
     /// # Errors

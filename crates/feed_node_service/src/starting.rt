@@ -4,6 +4,7 @@ ghost use Rattle.feed_releases.specs.Openings.{IsOpeningStep};
 ghost use Rattle.feed_node_service.specs.Starting.{IsLaterStart, IsStartFault};
 
 use crate::access_log::AccessLog;
+use crate::node_log::NodeLog;
 use crate::node_loop::{End, NodeSetup};
 use crate::starting_responder::StartingResponder;
 use crate::today::{day_number, today};
@@ -38,14 +39,14 @@ pub enum StartFault {
 type StartingNode<'a> = ServedNode<'a, ListKeep, StartingResponder<'a>>;
 
 /// Opens a feed in steps, and runs a turn of a node after 50 ms and then after each 2 ms of them. This node replies to
-/// requests for reports, as one without an active release, and to all others by 503. Prints the lines of the log after
+/// requests for reports, as one without an active release, and to all others by 503. Writes the lines of the log after
 /// each turn. Once the feed is open, the connections of this node have 250 ms to end.
-pub fn start<K: Keep + Drop, O: Write>(
+pub fn start<K: Keep + Drop, W: Write, F: Write>(
     rt: &HostRuntime,
     opening: Opening<K>,
     server: &mut Server,
     setup: &NodeSetup<'_>,
-    out: &mut O,
+    out: &mut NodeLog<W, F>,
 ) -> Result<Feed<K>, StartFault>
     ensures opened { IfOk result (λ feed. IsOpeningStep opening (OpeningStep.Opened feed)) }
     ensures fault { IfErr result (IsStartFault opening) }
@@ -87,23 +88,23 @@ fn starting_node<'a>(
 
 // The parts of a node that starts, beside its connections.
 #[derive(Drop)]
-struct Starting<'a, O: Write> {
+struct Starting<'a, W: Write, F: Write> {
     rt: &'a HostRuntime,
     events: Events,
-    log: AccessLog<'a, O>,
+    log: AccessLog<'a, W, F>,
     /// When the last turn ended, or the first step began.
     last_turn: Option<Instant>,
     /// The milliseconds from then to the next turn.
     until_turn: u64,
 }
 
-impl<'a, O: Write> Starting<'a, O> {
+impl<'a, W: Write, F: Write> Starting<'a, W, F> {
     fn new(
         rt: &'a HostRuntime,
         server: &Server,
         setup: &'a NodeSetup<'_>,
-        out: &'a mut O,
-    ) -> Result<Starting<'a, O>, AllocError> {
+        out: &'a mut NodeLog<W, F>,
+    ) -> Result<Starting<'a, W, F>, AllocError> {
         let Ok(events) = server.events() else {
             return Err(AllocError);
         };
@@ -179,14 +180,12 @@ impl<'a, O: Write> Starting<'a, O> {
         self.end_turn(outcome)
     }
 
-    // Prints the lines of the log, if the sockets did not fail.
+    // Writes the lines of the log, if the sockets did not fail.
     fn end_turn(&mut self, outcome: io::Result<()>) -> Result<(), End> {
         if let Err(fault) = outcome {
             return Err(End::Sockets(fault));
         }
-        match self.log.flush() {
-            Ok(()) => Ok(()),
-            Err(fault) => Err(End::Print(fault)),
-        }
+        self.log.flush();
+        Ok(())
     }
 }

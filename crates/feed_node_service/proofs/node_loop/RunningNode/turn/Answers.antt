@@ -6,9 +6,6 @@ use Rattle.feed_node_service.proofs.node_loop.RunningNode.turn.Goals as goal
 pub returns-in-Err : goal.returns-in-Err
 returns-in-Err g c = later_after c.args.node.now c.begin_day.new.node c.turn.new.node c.begin_day.ensures c.turn.ensures.later
 
-pub returns-in-Err-flush : goal.returns-in-Err-flush
-returns-in-Err-flush g c = later_after c.args.node.now c.begin_day.new.node c.turn.new.node c.begin_day.ensures c.turn.ensures.later
-
 pub returns-then-catch_up : goal.returns-then-catch_up
 returns-then-catch_up g c =
     later_after c.args.node.now c.turn.new.node c.catch_up.new.self
