@@ -39,11 +39,16 @@ place_of counter.Unread = 5
 place_of counter.Streamed = 6
 place_of counter.RequestBytes = 7
 place_of counter.ReplyBytes = 8
-place_of counter.FetchDone = 9
-place_of counter.FetchRefused = 10
-place_of counter.FetchFailed = 11
-place_of counter.RefusedToken = 12
-place_of counter.DroppedLine = 13
+place_of counter.FetchActivated = 9
+place_of counter.FetchKnown = 10
+place_of counter.FetchOlder = 11
+place_of counter.FetchBroken = 12
+place_of counter.FetchMissing = 13
+place_of counter.FetchRefused = 14
+place_of counter.FetchHeld = 15
+place_of counter.FetchNetwork = 16
+place_of counter.RefusedToken = 17
+place_of counter.DroppedLine = 18
 
 -- the place of a target
 abbrev pub target_place : Target → ℕ

@@ -36,9 +36,14 @@ counter_front counter.Unread = front.UNREAD.now
 counter_front counter.Streamed = front.STREAMED.now
 counter_front counter.RequestBytes = front.REQUEST_BYTES.now
 counter_front counter.ReplyBytes = front.REPLY_BYTES.now
-counter_front counter.FetchDone = front.FETCH_DONE.now
+counter_front counter.FetchActivated = front.FETCH_ACTIVATED.now
+counter_front counter.FetchKnown = front.FETCH_KNOWN.now
+counter_front counter.FetchOlder = front.FETCH_OLDER.now
+counter_front counter.FetchBroken = front.FETCH_BROKEN.now
+counter_front counter.FetchMissing = front.FETCH_MISSING.now
 counter_front counter.FetchRefused = front.FETCH_REFUSED.now
-counter_front counter.FetchFailed = front.FETCH_FAILED.now
+counter_front counter.FetchHeld = front.FETCH_HELD.now
+counter_front counter.FetchNetwork = front.FETCH_NETWORK.now
 counter_front counter.RefusedToken = front.REFUSED_TOKEN.now
 counter_front counter.DroppedLine = front.DROPPED_LINE.now
 

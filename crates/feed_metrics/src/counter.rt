@@ -20,9 +20,14 @@ pub enum Counter {
     /// Bytes of replies that were sent.
     ReplyBytes,
     /// Fetches that ended, by outcome.
-    FetchDone,
+    FetchActivated,
+    FetchKnown,
+    FetchOlder,
+    FetchBroken,
+    FetchMissing,
     FetchRefused,
-    FetchFailed,
+    FetchHeld,
+    FetchNetwork,
     /// Requests without the token that they need.
     RefusedToken,
     /// Lines of the log that were not written.
@@ -30,7 +35,7 @@ pub enum Counter {
 }
 
 /// All counters, as they are printed.
-pub(crate) const COUNTERS: [Counter; 14] = [
+pub(crate) const COUNTERS: [Counter; 19] = [
     Counter::Opened,
     Counter::Complete,
     Counter::PeerClosed,
@@ -40,9 +45,14 @@ pub(crate) const COUNTERS: [Counter; 14] = [
     Counter::Streamed,
     Counter::RequestBytes,
     Counter::ReplyBytes,
-    Counter::FetchDone,
+    Counter::FetchActivated,
+    Counter::FetchKnown,
+    Counter::FetchOlder,
+    Counter::FetchBroken,
+    Counter::FetchMissing,
     Counter::FetchRefused,
-    Counter::FetchFailed,
+    Counter::FetchHeld,
+    Counter::FetchNetwork,
     Counter::RefusedToken,
     Counter::DroppedLine,
 ];
@@ -76,14 +86,24 @@ pub(crate) const REPLY_BYTES: &[u8] =
     # TYPE kbfeed_reply_bytes_total counter\n\
     kbfeed_reply_bytes_total ";
 
-pub(crate) const FETCH_DONE: &[u8] =
+pub(crate) const FETCH_ACTIVATED: &[u8] =
     b"# HELP kbfeed_fetches_total Fetches of releases that ended, by outcome.\n\
     # TYPE kbfeed_fetches_total counter\n\
-    kbfeed_fetches_total{outcome=\"done\"} ";
+    kbfeed_fetches_total{outcome=\"activated\"} ";
+
+pub(crate) const FETCH_KNOWN: &[u8] = b"kbfeed_fetches_total{outcome=\"known\"} ";
+
+pub(crate) const FETCH_OLDER: &[u8] = b"kbfeed_fetches_total{outcome=\"older\"} ";
+
+pub(crate) const FETCH_BROKEN: &[u8] = b"kbfeed_fetches_total{outcome=\"broken\"} ";
+
+pub(crate) const FETCH_MISSING: &[u8] = b"kbfeed_fetches_total{outcome=\"missing\"} ";
 
 pub(crate) const FETCH_REFUSED: &[u8] = b"kbfeed_fetches_total{outcome=\"refused\"} ";
 
-pub(crate) const FETCH_FAILED: &[u8] = b"kbfeed_fetches_total{outcome=\"failed\"} ";
+pub(crate) const FETCH_HELD: &[u8] = b"kbfeed_fetches_total{outcome=\"held\"} ";
+
+pub(crate) const FETCH_NETWORK: &[u8] = b"kbfeed_fetches_total{outcome=\"network\"} ";
 
 pub(crate) const REFUSED_TOKEN: &[u8] =
     b"# HELP kbfeed_refused_tokens_total Requests without the token that they need.\n\
@@ -99,7 +119,7 @@ impl Counter {
     /// Returns the place of the counter among all.
     pub(crate) fn place(self) -> usize
         ensures value { result ≡ place_of self }
-        ensures below { result < 14 }
+        ensures below { result < 19 }
     {
         match self {
             Counter::Opened => 0,
@@ -111,11 +131,16 @@ impl Counter {
             Counter::Streamed => 6,
             Counter::RequestBytes => 7,
             Counter::ReplyBytes => 8,
-            Counter::FetchDone => 9,
-            Counter::FetchRefused => 10,
-            Counter::FetchFailed => 11,
-            Counter::RefusedToken => 12,
-            Counter::DroppedLine => 13,
+            Counter::FetchActivated => 9,
+            Counter::FetchKnown => 10,
+            Counter::FetchOlder => 11,
+            Counter::FetchBroken => 12,
+            Counter::FetchMissing => 13,
+            Counter::FetchRefused => 14,
+            Counter::FetchHeld => 15,
+            Counter::FetchNetwork => 16,
+            Counter::RefusedToken => 17,
+            Counter::DroppedLine => 18,
         }
     }
 
@@ -134,9 +159,14 @@ impl Counter {
             Counter::Streamed => STREAMED,
             Counter::RequestBytes => REQUEST_BYTES,
             Counter::ReplyBytes => REPLY_BYTES,
-            Counter::FetchDone => FETCH_DONE,
+            Counter::FetchActivated => FETCH_ACTIVATED,
+            Counter::FetchKnown => FETCH_KNOWN,
+            Counter::FetchOlder => FETCH_OLDER,
+            Counter::FetchBroken => FETCH_BROKEN,
+            Counter::FetchMissing => FETCH_MISSING,
             Counter::FetchRefused => FETCH_REFUSED,
-            Counter::FetchFailed => FETCH_FAILED,
+            Counter::FetchHeld => FETCH_HELD,
+            Counter::FetchNetwork => FETCH_NETWORK,
             Counter::RefusedToken => REFUSED_TOKEN,
             Counter::DroppedLine => DROPPED_LINE,
         }

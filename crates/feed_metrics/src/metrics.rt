@@ -26,7 +26,7 @@ impl Model for Metrics {
 
     ghost view = { λ m. record { counters = m.counters; requests = m.requests; times = m.times } };
 
-    ghost invariant = { λ m. (length m.counters ≡ 14) × (length m.requests ≡ 36) };
+    ghost invariant = { λ m. (length m.counters ≡ 19) × (length m.requests ≡ 36) };
 }
 
 // Returns the place of the counter of a target and a class.
@@ -45,7 +45,7 @@ impl Metrics {
         ensures times { IfOk result (λ m. HasObserved m.times []) }
     {
         Ok(Metrics {
-            counters: Counters::new(alloc, 14)?,
+            counters: Counters::new(alloc, 19)?,
             requests: Counters::new(alloc, 36)?,
             times: Histogram::new(alloc)?,
         })

@@ -1,4 +1,5 @@
 pub mod NodeCounts
+pub mod FetchOutcomes
 pub mod Reports
 pub mod Responders
 pub mod Agreement

@@ -1,5 +1,5 @@
--- The counters of connections and fetches.
-use Rattle.std.specs.Prelude.{ℕ, ◌==◌, ◌||◌, if◌then◌else◌}
+-- The counters of connections, and the amounts that are added to counters.
+use Rattle.std.specs.Prelude.{ℕ}
 use Rattle.feed_metrics.specs.Counts.{Added, place_of}
 use Rattle.feed_metrics.specs.declared.counter.Counter.{Counter}
 use Rattle.feed_metrics.specs.declared.counter.Counter.TheVariants as counter
@@ -14,14 +14,6 @@ cause_counter cause.TimedOut = counter.TimedOut
 cause_counter cause.Evicted = counter.Evicted
 cause_counter cause.Unread = counter.Unread
 cause_counter cause.Streamed = counter.Streamed
-
--- the counter of the fetches that end with an exit status: a device failed or memory ran out (3), the node ended the fetch
--- (4), or the peer or the file is to blame
-abbrev pub fetch_counter : ℕ → Counter
-fetch_counter status =
-    if status == 0 then counter.FetchDone
-    else (if status == 3 || status == 4 then counter.FetchFailed
-    else counter.FetchRefused)
 
 -- this many more of a counter
 abbrev pub many_of : Counter → ℕ → Added

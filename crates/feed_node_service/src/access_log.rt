@@ -1,12 +1,12 @@
 //! The access log of a node, and the counters of its connections and requests.
 use crate::node_log::NodeLog;
 use crate::node_state::NodeState;
+use crate::today::unix_seconds;
 use feed_monitoring::{Exchange, LogPolicy, put_exchange};
 use feed_node_connection::{Connection, ReplySummary};
 use feed_node_server::{CloseCause, Log, is_local};
 use std::io::Write;
 use std::net::{IpAddr, SocketAddr};
-use std::time::{SystemTime, UNIX_EPOCH};
 
 /// The settings of a log, and who may have reports of the node.
 #[derive(Clone, Copy)]
@@ -61,16 +61,6 @@ impl<'o, W: Write, F: Write> AccessLog<'o, W, F> {
         }
     }
 
-    fn seconds(&self) -> u64 {
-        match SystemTime::now(self.rt) {
-            Ok(now) => match now.duration_since(UNIX_EPOCH) {
-                Ok(passed) => passed.as_secs(),
-                Err(_) => 0,
-            },
-            Err(_) => 0,
-        }
-    }
-
     // Keeps the address of a peer as text. If memory runs out, the text is not whole, and is made again for its next
     // line.
     fn note_peer(&mut self, addr: SocketAddr) {
@@ -96,7 +86,7 @@ impl<'o, W: Write, F: Write> AccessLog<'o, W, F> {
     ) {
         let unsent = connection.unsent_len();
         self.note_peer(addr);
-        let seconds = self.seconds();
+        let seconds = unix_seconds(self.rt);
         let policy = self.policy(addr);
         let start = self.lines.len();
         let exchange = Exchange {
@@ -120,7 +110,7 @@ impl<'o, W: Write, F: Write> AccessLog<'o, W, F> {
     // Adds the line of a connection that timed out before its request was whole (RFC 9110, section 15.5.9).
     fn put_timeout(&mut self, addr: SocketAddr, request: &[u8]) {
         self.note_peer(addr);
-        let seconds = self.seconds();
+        let seconds = unix_seconds(self.rt);
         let policy = self.policy(addr);
         let start = self.lines.len();
         let exchange = Exchange {
@@ -141,6 +131,14 @@ impl<'o, W: Write, F: Write> AccessLog<'o, W, F> {
     fn drop_line(&mut self, start: usize) {
         self.lines.truncate(start);
         self.state.drop_lines(1);
+    }
+
+    /// Prints the notes of the turn on standard error.
+    pub fn print_notes(&mut self, notes: &mut Vec<u8>) {
+        if !notes.is_empty() {
+            self.out.print_notes(notes);
+            notes.clear();
+        }
     }
 
     /// Writes the lines of the turn, and counts those that are dropped.

@@ -3,8 +3,10 @@ ghost use Rattle.std.specs.Prelude.{◌≡◌, ◌∷◌, IfOk, List, []};
 ghost use Rattle.feed_metrics.specs.Counts.{Added, HasCounted};
 ghost use Rattle.feed_metrics.specs.Histograms.{HasObserved};
 ghost use Rattle.feed_metrics.specs.declared.counter.Counter.TheVariants as counter;
-ghost use Rattle.feed_node_service.specs.NodeCounts.{cause_counter, fetch_counter, many_of, one_of};
+ghost use Rattle.feed_node_service.specs.FetchOutcomes.{fetch_counter};
+ghost use Rattle.feed_node_service.specs.NodeCounts.{cause_counter, many_of, one_of};
 
+use crate::fetch_outcome::FetchOutcome;
 use feed_metrics::{Counter, Metrics};
 use feed_node_server::CloseCause;
 use std::alloc::{AllocError, Global};
@@ -26,16 +28,6 @@ fn cause_counter(cause: CloseCause) -> Counter
         CloseCause::Evicted => Counter::Evicted,
         CloseCause::Unread => Counter::Unread,
         CloseCause::Streamed => Counter::Streamed,
-    }
-}
-
-fn fetch_counter(status: u8) -> Counter
-    ensures { result ≡ fetch_counter status }
-{
-    match status {
-        0 => Counter::FetchDone,
-        3 | 4 => Counter::FetchFailed,
-        _ => Counter::FetchRefused,
     }
 }
 
@@ -74,14 +66,14 @@ impl NodeCounts {
         self.open = self.open.saturating_sub(1);
     }
 
-    /// Counts a fetch that ended with this exit status.
-    pub fn end_fetch(&mut self, status: u8)
+    /// Counts a fetch with this outcome.
+    pub fn end_fetch(&mut self, outcome: FetchOutcome)
         ensures counted { (history : List Added) → HasCounted self.old.metrics.counters history
-            → HasCounted self.new.metrics.counters (one_of (fetch_counter status) ∷ history) }
+            → HasCounted self.new.metrics.counters (one_of (fetch_counter outcome) ∷ history) }
         ensures requests { self.new.metrics.requests ≡ self.old.metrics.requests }
         ensures times { self.new.metrics.times ≡ self.old.metrics.times }
     {
-        self.metrics.add(fetch_counter(status), 1);
+        self.metrics.add(outcome.counter(), 1);
     }
 
     /// Counts lines of the log that were not written.

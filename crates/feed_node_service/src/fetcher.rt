@@ -2,14 +2,17 @@
 ghost use Rattle.feed_node_service.specs.Runs.{IsLaterNode};
 
 use crate::exchange::{Arrival, Exchange, WholePart};
+use crate::fetch_outcome::FetchOutcome;
+use crate::fetch_report::{FetchReport, reason_of};
 use crate::node_state::NodeState;
 use crate::recorded_reply::RecordedReply;
 use crate::responder::FeedResponder;
 use crate::source_addrs::SourceAddrs;
+use crate::today::unix_seconds;
 use crate::watched_file::WatchedFile;
 use feed_dial::DialFault;
 use feed_fetch::{
-    FetchEnd, Next, Printer, Request, RequestFault, Stop, print_end, print_name_fault,
+    FetchEnd, Next, Printer, Request, RequestFault, Stop, is_reported, print_end, print_name_fault,
 };
 use feed_http::{Got, Method, is_host, read_reply, write_head_request, write_request};
 use feed_http_heads::HttpFault;
@@ -53,8 +56,10 @@ pub struct Fetcher<'a> {
     file: WatchedFile<'a>,
     state: &'a NodeState,
     running: Option<RunningExchange>,
-    /// When the last fetch began.
-    begun: Option<Instant>,
+    /// The facts of the last fetch.
+    report: FetchReport,
+    /// The lines of the fetches that ended, which are not printed yet.
+    pub notes: Vec<u8>,
 }
 
 // The last request of the fetch that is under way, and the place of the address in use.
@@ -106,7 +111,8 @@ impl<'a> Fetcher<'a> {
             file,
             state,
             running: None,
-            begun: None,
+            report: FetchReport::new(rt, false),
+            notes: Vec::new(rt.alloc()),
         }
     }
 
@@ -121,14 +127,19 @@ impl<'a> Fetcher<'a> {
         match node.begin_fetch(piece) {
             None => {}
             Some(Ok(())) => {
-                self.begun = Instant::now(self.rt).ok();
+                self.report = FetchReport::new(self.rt, is_answered(node));
                 self.addrs.renew(self.rt, source.addr);
                 let exchange = Exchange::new(Method::Head, piece);
                 self.send_next(server, node, RunningExchange { at: 0, exchange });
             }
             Some(Err(fault)) => {
                 let mut lines = self.lines();
-                self.state.end_fetch(print_name_fault(fault, &mut lines));
+                let _ = print_name_fault(fault, &mut lines);
+                self.report = FetchReport::new(self.rt, false);
+                let mut reason = Vec::new(self.rt.alloc());
+                let _ = write!(&mut reason, " {fault}");
+                self.note(b"-", FetchOutcome::Refused, &reason);
+                self.state.count_fetch(FetchOutcome::Refused);
                 finish(server, lines);
             }
         }
@@ -152,7 +163,7 @@ impl<'a> Fetcher<'a> {
         let Some(source) = self.source else {
             return false;
         };
-        let Some(begun) = self.begun else {
+        let Some(begun) = self.report.begun else {
             return false;
         };
         match Instant::now(self.rt) {
@@ -176,15 +187,42 @@ impl<'a> Fetcher<'a> {
     }
 
     // Reports the end of a fetch, and completes the reply to its client.
-    fn end<K: Keep + Drop>(&self, server: &mut Server, node: &mut FeedNode<'_, K>, end: FetchEnd)
+    fn end<K: Keep + Drop>(
+        &mut self,
+        server: &mut Server,
+        node: &mut FeedNode<'_, K>,
+        end: FetchEnd,
+    )
         ensures { IsLaterNode node.old node.new }
     {
         let mut lines = self.lines();
         if let Some(name) = node.end_fetch() {
-            self.state
-                .end_fetch(print_end(node.feed(), &name, end, &mut lines));
+            let status = print_end(node.feed(), &name, end, &mut lines);
+            let outcome = FetchOutcome::after(end, status, self.report.was_reported);
+            let reason = reason_of(self.rt.alloc(), node.feed(), &name, end);
+            self.note(name.text(), outcome, &reason);
+            self.state.end_fetch(name, outcome, unix_seconds(self.rt));
         }
         finish(server, lines);
+    }
+
+    // Adds the line of a fetch that ended to the notes. If memory runs out, there is none.
+    fn note(&mut self, name: &[u8], outcome: FetchOutcome, reason: &[u8]) {
+        let Some(source) = self.source else {
+            return;
+        };
+        let start = self.notes.len();
+        let written = self.report.write_line(
+            self.rt,
+            &mut self.notes,
+            name,
+            source.addr,
+            outcome,
+            reason,
+        );
+        if written.is_err() {
+            self.notes.truncate(start);
+        }
     }
 
     // Sends the next request of a fetch. If there is none, the fetch is over.
@@ -200,6 +238,9 @@ impl<'a> Fetcher<'a> {
             Ok(true) => self.running = Some(running),
             Ok(false) => self.end(server, node, FetchEnd::Done),
             Err(error) => {
+                if self.report.fault.is_none() {
+                    self.report.fault = Some(error.kind());
+                }
                 let fault = match error.kind() {
                     ErrorKind::OutOfMemory => DialFault::Memory,
                     _ => DialFault::Connect,
@@ -220,7 +261,7 @@ impl<'a> Fetcher<'a> {
             return Ok(false);
         };
         let Some(addr) = self.addrs.get(running.at) else {
-            return Err(io::Error::from(ErrorKind::NotFound));
+            return Err(io::Error::from(ErrorKind::AddrNotAvailable));
         };
         let Some(fetching) = node.fetching() else {
             return Ok(false);
@@ -290,7 +331,7 @@ impl<'a> Fetcher<'a> {
     // Takes the parts of the reply that have arrived, or the reply.
     #[tactic(auto, using(feed_node_machine::proofs::Later::later_after))]
     fn take_arrived<K: Keep + Drop>(
-        &self,
+        &mut self,
         server: &mut Server,
         node: &mut FeedNode<'_, K>,
         running: &mut RunningExchange,
@@ -311,7 +352,7 @@ impl<'a> Fetcher<'a> {
     }
 
     fn take_next<K: Keep + Drop>(
-        &self,
+        &mut self,
         node: &mut FeedNode<'_, K>,
         running: &mut RunningExchange,
         outgoing: &mut OutgoingRequest,
@@ -319,10 +360,17 @@ impl<'a> Fetcher<'a> {
     ) -> Step
         ensures { IsLaterNode node.old node.new }
     {
+        self.report.fault = outgoing.fault();
         match self.arrived(running, outgoing) {
             Arrived::Step(step) => step,
-            Arrived::Part(part) => take_part(node, running, outgoing, part, lines),
-            Arrived::Reply(reply) => take_reply(node, &reply, lines),
+            Arrived::Part(part) => {
+                self.report.add(part.to.saturating_sub(part.from));
+                take_part(node, running, outgoing, part, lines)
+            }
+            Arrived::Reply(reply) => {
+                self.report.add_reply(&reply);
+                take_reply(node, &reply, lines)
+            }
             Arrived::NoRanges => {
                 let fault = RequestFault::Http(HttpFault::BodyTooLong);
                 let _ = take_reply(node, &Err(fault), lines);
@@ -411,6 +459,14 @@ fn take_part<K: Keep + Drop>(
             }
         }
         Err(stop) => Step::End(FetchEnd::Stopped(stop)),
+    }
+}
+
+// Returns whether the node answers from the release that is fetched.
+fn is_answered<K: Keep + Drop>(node: &FeedNode<'_, K>) -> bool {
+    match node.fetching() {
+        Some(fetching) => is_reported(node.feed(), &fetching.name),
+        None => false,
     }
 }
 

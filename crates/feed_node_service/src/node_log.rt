@@ -44,6 +44,11 @@ impl<W: Write, F: Write> NodeLog<W, F> {
         }
     }
 
+    /// Prints notes that are whole lines.
+    pub fn print_notes(&mut self, notes: &[u8]) {
+        let _ = self.notes.write_all(notes);
+    }
+
     fn note<D: fmt::Display + Drop>(&mut self, what: &str, detail: D) {
         let _ = writeln!(&mut self.notes, "kbfeed: {what}{detail}");
     }

@@ -168,6 +168,7 @@ impl<'a, W: Write, F: Write> RunningNode<'a, W, F> {
         self.cancel(node, server);
         self.note_end(node, was_busy);
         self.fetcher.begin(server, node);
+        self.log.print_notes(&mut self.fetcher.notes);
         None
     }
 

@@ -1,15 +1,24 @@
-//! The state that the replies and the log of a node share: what the node counts.
+//! The state that the replies and the log of a node share: what the node counts, and the last fetches.
 ghost use Rattle.std.specs.Prelude.{IfOk, IfSome};
 ghost use Rattle.feed_http_heads.specs.Options.{SaysWhetherItKeeps};
+ghost use Rattle.feed_resolver.specs.FeedReplies.{IsFeedResponse};
 ghost use Rattle.feed_node_service.specs.Reports.{IsSomeReply};
 ghost use Rattle.feed_node_service.specs.Starting.{IsSomeStartingReply};
 
 use crate::counts::NodeCounts;
+use crate::fetch_outcome::FetchOutcome;
+use crate::last_fetches::LastFetches;
+use feed_keep::Keep;
 use feed_metrics::{Gauges, ReleaseTime};
 use feed_monitoring::{
     Exchange, LogPolicy, ReportReply, record_exchange, respond_about_node, respond_at_start,
 };
+use feed_names::ReleaseName;
 use feed_node_server::CloseCause;
+use feed_releases::Feed;
+use feed_resolver::{LastFetch, respond_about_feed};
+use feed_resolver_reply::Response;
+use feed_resolver_request::FetchPolicy;
 use std::alloc::{AllocError, Global};
 use std::cell::{Cell, RefCell};
 
@@ -29,6 +38,7 @@ pub struct NodeState {
     facts: Cell<TurnFacts>,
     /// Whether a client has asked that the fetch under way end.
     is_canceled: Cell<bool>,
+    fetches: RefCell<LastFetches>,
 }
 
 impl NodeState {
@@ -40,6 +50,7 @@ impl NodeState {
                 since_switch: None,
             }),
             is_canceled: Cell::new(false),
+            fetches: RefCell::new(LastFetches::new(alloc)),
         })
     }
 
@@ -72,10 +83,47 @@ impl NodeState {
         }
     }
 
-    /// Counts a fetch that ended with this exit status.
-    pub fn end_fetch(&self, status: u8) {
+    /// Counts a fetch with this outcome.
+    pub fn count_fetch(&self, outcome: FetchOutcome) {
         if let Ok(mut counts) = self.counts.try_borrow_mut() {
-            counts.end_fetch(status);
+            counts.end_fetch(outcome);
+        }
+    }
+
+    /// Counts the fetch of a release that ended, and keeps it as the last one of its package, unless memory runs out.
+    pub fn end_fetch(&self, name: ReleaseName, outcome: FetchOutcome, seconds: u64) {
+        self.count_fetch(outcome);
+        if let Ok(mut fetches) = self.fetches.try_borrow_mut() {
+            let _ = fetches.put(LastFetch {
+                name,
+                outcome: outcome.name(),
+                seconds,
+            });
+        }
+    }
+
+    /// Returns the reply to a request for `/feed`, or to a GET or HEAD of a target below it. Returns none for any other
+    /// request.
+    ///
+    /// # Errors
+    ///
+    /// Running out of memory.
+    pub fn feed_reply<K: Keep + Drop>(
+        &self,
+        alloc: Global,
+        bytes: &[u8],
+        persists: bool,
+        policy: &FetchPolicy<'_>,
+        feed: &Feed<K>,
+    ) -> Result<Option<Response>, AllocError>
+        ensures value { IfOk result (IsFeedResponse policy.now bytes.now persists) }
+        ensures says { IfOk result (λ found. IfSome found (λ response. SaysWhetherItKeeps persists response.bytes)) }
+    {
+        match self.fetches.try_borrow() {
+            Ok(fetches) => {
+                respond_about_feed(alloc, bytes, persists, policy, feed, fetches.as_slice())
+            }
+            Err(_) => Err(AllocError),
         }
     }
 

@@ -17,7 +17,7 @@ use feed_monitoring::{ReportReply, gets_report};
 use feed_node_connection::{BODY_LIMIT, IncomingRequest, Reply, ReplySummary, RespondFault};
 use feed_node_machine::{FeedRespond, Occasion};
 use feed_releases::Feed;
-use feed_resolver::{ends_fetch, keep_releases, respond_about_feed, respond_as_node};
+use feed_resolver::{ends_fetch, keep_releases, respond_as_node};
 use feed_resolver_reply::Response;
 use feed_resolver_request::{FetchPolicy, fetch_to_begin, form_length};
 use feed_resolver_tag::Site;
@@ -49,7 +49,10 @@ impl<'a> FeedResponder<'a> {
     {
         let policy = &occasion.policy;
         let feed = occasion.feed;
-        match respond_about_feed(alloc, request.head, request.persists, policy, feed)? {
+        match self
+            .state
+            .feed_reply(alloc, request.head, request.persists, policy, feed)?
+        {
             Some(response) => Ok(response),
             None => {
                 let response = respond_as_node(

@@ -25,3 +25,14 @@ pub fn today(number: i32) -> Today {
         None => Today::epoch(),
     }
 }
+
+/// Returns the seconds since 1970-01-01, in UTC, or 0 if the clock has none.
+pub fn unix_seconds(rt: &HostRuntime) -> u64 {
+    match SystemTime::now(rt) {
+        Ok(now) => match now.duration_since(UNIX_EPOCH) {
+            Ok(passed) => passed.as_secs(),
+            Err(_) => 0,
+        },
+        Err(_) => 0,
+    }
+}

@@ -1,4 +1,4 @@
-//! The replies of a node about its feed: to a GET of `/feed`, which lists the recorded releases, to a DELETE of it,
+//! The replies of a node about its feed: to a GET of `/feed`, which lists releases and fetches, to a DELETE of it,
 //! which ends the fetch that is under way, and to a GET of what is below it, which takes only a POST.
 ghost use Rattle.std.specs.Prelude.{◌≡◌, IfOk, IfSome, MatchBool};
 ghost use Rattle.httparse.specs.Grammar.{RequestHead};
@@ -10,6 +10,7 @@ ghost use Rattle.feed_resolver.specs.FeedReplies.{IsListReply};
 
 use feed_http_heads::{FIELD_LIMIT, Request, origin_form};
 use feed_keep::Keep;
+use feed_names::ReleaseName;
 use feed_pieces::put_all;
 use feed_range::strip_prefix;
 use feed_releases::{Feed, ReleaseStatus};
@@ -35,6 +36,16 @@ pub enum FeedTarget {
     OtherMethod,
     /// A GET or a HEAD of `/feed/` and more: a release, which only a POST may name.
     Release,
+}
+
+/// The last fetch of a package.
+#[derive(Drop)]
+pub struct LastFetch {
+    pub name: ReleaseName,
+    /// The name of its outcome.
+    pub outcome: &'static str,
+    /// When it ended, in seconds since 1970-01-01.
+    pub seconds: u64,
 }
 
 // Returns what a request asks of `/feed`.
@@ -116,32 +127,75 @@ fn put_object(
     put_all(out, &[Piece::Plain(b"}")])
 }
 
+// Writes the last fetch of a package as an object of JSON.
+fn put_fetch_object(out: &mut Vec<u8>, fetch: &LastFetch) -> Result<(), AllocError> {
+    put_all(
+        out,
+        &[
+            Piece::Plain(b"{\"fetch\":"),
+            Piece::Quoted(fetch.name.text()),
+            Piece::Plain(b",\"outcome\":"),
+            Piece::Quoted(fetch.outcome.as_bytes()),
+            Piece::Plain(b",\"time\":"),
+            Piece::Number(fetch.seconds),
+            Piece::Plain(b"}"),
+        ],
+    )
+}
+
+fn put_fetch_line(out: &mut Vec<u8>, fetch: &LastFetch) -> Result<(), AllocError> {
+    put_all(
+        out,
+        &[
+            Piece::Plain(fetch.name.text()),
+            Piece::Plain(b"\tfetch\t"),
+            Piece::Plain(fetch.outcome.as_bytes()),
+            Piece::Plain(b"\t"),
+            Piece::Number(fetch.seconds),
+            Piece::Plain(b"\n"),
+        ],
+    )
+}
+
 fn put_json(
     alloc: Global,
     out: &mut Vec<u8>,
     statuses: &[ReleaseStatus<'_>],
+    fetches: &[LastFetch],
 ) -> Result<(), AllocError> {
     put_list_start(out)?;
     for (place, status) in statuses.iter().enumerate() {
         put_comma(out, place)?;
         put_object(alloc, out, status)?;
     }
+    for (place, fetch) in fetches.iter().enumerate() {
+        put_comma(out, statuses.len().saturating_add(place))?;
+        put_fetch_object(out, fetch)?;
+    }
     put_list_end(out)
 }
 
-fn put_lines(out: &mut Vec<u8>, statuses: &[ReleaseStatus<'_>]) -> Result<(), AllocError> {
+fn put_lines(
+    out: &mut Vec<u8>,
+    statuses: &[ReleaseStatus<'_>],
+    fetches: &[LastFetch],
+) -> Result<(), AllocError> {
     for status in statuses {
         if status.write_line(out).is_err() {
             return Err(AllocError);
         }
     }
+    for fetch in fetches {
+        put_fetch_line(out, fetch)?;
+    }
     Ok(())
 }
 
-// Returns the reply with the recorded releases, as JSON or as text.
+// Returns the reply with the recorded releases and the last fetches, as JSON or as text.
 fn list_reply<K: Keep + Drop>(
     alloc: Global,
     feed: &Feed<K>,
+    fetches: &[LastFetch],
     representation: Representation,
 ) -> Result<Reply, AllocError>
     ensures { IfOk result IsListReply }
@@ -150,10 +204,10 @@ fn list_reply<K: Keep + Drop>(
     statuses.sort_unstable_by(|one, other| one.name.text().cmp(&other.name.text()));
     let mut body = Vec::new(alloc);
     if representation == Representation::Json {
-        put_json(alloc, &mut body, &statuses)?;
+        put_json(alloc, &mut body, &statuses, fetches)?;
         return Ok(Reply::new(Status::Listed, Representation::Json, body));
     }
-    put_lines(&mut body, &statuses)?;
+    put_lines(&mut body, &statuses, fetches)?;
     Ok(Reply::new(Status::Listed, Representation::Text, body))
 }
 
@@ -178,6 +232,7 @@ fn feed_reply<K: Keep + Drop>(
     request: &Request<'_>,
     target: FeedTarget,
     feed: &Feed<K>,
+    fetches: &[LastFetch],
 ) -> Result<Reply, AllocError>
     requires { IsInBuffer request.now }
     ensures { IfOk result (λ reply. (head : RequestHead) → HasHead request.now head
@@ -192,7 +247,12 @@ fn feed_reply<K: Keep + Drop>(
                 return refusal(alloc, Status::Unauthorized, text, b"Unauthorized");
             }
             let query = query_in(origin_form(request.target()));
-            list_reply(alloc, feed, representation_of(query, &request.fields()))
+            list_reply(
+                alloc,
+                feed,
+                fetches,
+                representation_of(query, &request.fields()),
+            )
         }
         FeedTarget::End => end_reply(alloc, is_authorized(token, request), is_busy),
     }
@@ -205,9 +265,9 @@ fn is_busy(policy: &FetchPolicy<'_>) -> bool
 }
 
 /// Returns the reply of a node to a request for `/feed`, or to a GET or HEAD of a target below it. To a client that has
-/// the token a GET lists the recorded releases: the name, the state, the size, the missing bytes and the reason of
-/// each. A DELETE of such a client ends the fetch that is under way, if one is. Returns none for any other request, and
-/// for a node without a token. `keeps` is whether the connection persists after the reply.
+/// the token a GET lists the recorded releases, with the name, the state, the size, the missing bytes and the reason of
+/// each, and then the last fetches. A DELETE of such a client ends the fetch that is under way, if one is. Returns none
+/// for any other request, and for a node without a token. `keeps` is whether the connection persists after the reply.
 ///
 /// # Errors
 ///
@@ -218,6 +278,7 @@ pub fn respond_about_feed<K: Keep + Drop>(
     keeps: bool,
     policy: &FetchPolicy<'_>,
     feed: &Feed<K>,
+    fetches: &[LastFetch],
 ) -> Result<Option<Response>, AllocError>
     ensures value { IfOk result (IsFeedResponse policy.now bytes.now keeps) }
     ensures says { IfOk result (λ found. IfSome found (λ response. SaysWhetherItKeeps keeps response.bytes)) }
@@ -232,7 +293,15 @@ pub fn respond_about_feed<K: Keep + Drop>(
     let Some(target) = feed_target(&request) else {
         return Ok(None);
     };
-    let reply = feed_reply(alloc, token, is_busy(policy), &request, target, feed)?;
+    let reply = feed_reply(
+        alloc,
+        token,
+        is_busy(policy),
+        &request,
+        target,
+        feed,
+        fetches,
+    )?;
     let response = reply.response(alloc, keeps, request.is_head())?;
     Ok(Some(response))
 }

@@ -1,0 +1,129 @@
+//! The line on standard error by which a node reports the end of a fetch.
+use crate::fetch_outcome::FetchOutcome;
+use feed_fetch::{FetchEnd, RequestFault, Stop};
+use feed_http::Got;
+use feed_keep::Keep;
+use feed_names::ReleaseName;
+use feed_releases::Feed;
+use std::alloc::Global;
+use std::io;
+use std::io::{ErrorKind, Write};
+use std::time::Instant;
+
+/// The facts of a fetch, for its line.
+#[derive(Clone, Copy)]
+pub struct FetchReport {
+    /// When it began.
+    pub begun: Option<Instant>,
+    /// Whether the node answered from the release then.
+    pub was_reported: bool,
+    /// The bytes of the list that have arrived.
+    pub bytes: u64,
+    /// The system's error, if the last connection failed.
+    pub fault: Option<ErrorKind>,
+}
+
+impl FetchReport {
+    /// Begins now.
+    pub fn new(rt: &HostRuntime, was_reported: bool) -> FetchReport {
+        FetchReport {
+            begun: Instant::now(rt).ok(),
+            was_reported,
+            bytes: 0,
+            fault: None,
+        }
+    }
+
+    /// Adds bytes of the list that have arrived.
+    pub fn add(&mut self, count: usize) {
+        self.bytes = self.bytes.saturating_add(count as u64);
+    }
+
+    /// Adds the bytes of a reply.
+    pub fn add_reply(&mut self, reply: &Result<Got, RequestFault>) {
+        match reply {
+            Ok(
+                Got::Piece {
+                    first: _,
+                    total: _,
+                    bytes,
+                },
+            ) => self.add(bytes.as_slice().len()),
+            Ok(Got::Whole { bytes }) => self.add(bytes.as_slice().len()),
+            _ => {}
+        }
+    }
+
+    // Returns the milliseconds since the fetch began.
+    fn millis(&self, rt: &HostRuntime) -> u64 {
+        let Some(begun) = self.begun else {
+            return 0;
+        };
+        match Instant::now(rt) {
+            Ok(now) => {
+                let passed = now.saturating_duration_since(begun).as_millis();
+                passed.min(u64::MAX as u128) as u64
+            }
+            Err(_) => 0,
+        }
+    }
+
+    /// Writes the line of a fetch that ended: the release, the server, the outcome with its reason and the system's error,
+    /// the bytes and the seconds.
+    pub fn write_line<W: Write>(
+        &self,
+        rt: &HostRuntime,
+        out: &mut W,
+        name: &[u8],
+        addr: &str,
+        outcome: FetchOutcome,
+        reason: &[u8],
+    ) -> io::Result<()> {
+        out.write_all(b"kbfeed: fetch ")?;
+        out.write_all(name)?;
+        let word = outcome.name();
+        write!(out, " from {addr}: {word}")?;
+        out.write_all(reason)?;
+        if let Some(fault) = self.fault {
+            write!(out, ": {fault}")?;
+        }
+        let bytes = self.bytes;
+        let millis = self.millis(rt);
+        let seconds = millis / 1_000;
+        let rest = millis % 1_000;
+        writeln!(out, ", {bytes} bytes, {seconds}.{rest:03} seconds")
+    }
+}
+
+/// Returns why a fetch ended so, behind a space, if its outcome does not say it. If memory runs out, a part is left out.
+pub fn reason_of<K: Keep + Drop>(
+    alloc: Global,
+    feed: &Feed<K>,
+    name: &ReleaseName,
+    end: FetchEnd,
+) -> Vec<u8> {
+    let mut out = Vec::new(alloc);
+    let _ = match end {
+        FetchEnd::Done | FetchEnd::Stopped(Stop::Broken) => match feed.reason(name) {
+            Some(why) => write!(&mut out, " {why}"),
+            None => Ok(()),
+        },
+        FetchEnd::Stopped(stop) => write_stop(&mut out, stop),
+        FetchEnd::NoRanges => out.write_all(b" NoRanges"),
+        FetchEnd::Canceled => out.write_all(b" Canceled"),
+        FetchEnd::TimedOut => out.write_all(b" FetchTimeout"),
+    };
+    out
+}
+
+fn write_stop<W: Write>(out: &mut W, stop: Stop) -> io::Result<()> {
+    match stop {
+        Stop::Refused(refusal) => write!(out, " {refusal}"),
+        Stop::Request(RequestFault::Dial(fault)) => write!(out, " {fault}"),
+        Stop::Request(RequestFault::Http(fault)) => write!(out, " {fault}"),
+        Stop::Unsatisfied => out.write_all(b" Unsatisfied"),
+        Stop::NoProgress => out.write_all(b" NoProgress"),
+        Stop::Print => out.write_all(b" Memory"),
+        Stop::Older | Stop::Broken | Stop::Missing => Ok(()),
+    }
+}
