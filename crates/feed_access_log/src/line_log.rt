@@ -54,7 +54,7 @@ fn write_bytes<W: Write>(out: &mut W, bytes: &[u8]) -> Result<(), Cut>
     ensures { MatchResult result
         (λ done. Appends (W.contents out.old) (W.contents out.new) bytes.now)
         (λ cut. (cut.at < length bytes.now)
-            × Appends (W.contents out.old) (W.contents out.new) (take cut.at bytes.now)) }
+        × Appends (W.contents out.old) (W.contents out.new) (take cut.at bytes.now)) }
 {
     let mut at = 0;
     while at < bytes.len() {
