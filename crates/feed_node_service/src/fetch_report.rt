@@ -68,8 +68,8 @@ impl FetchReport {
         }
     }
 
-    /// Writes the line of a fetch that ended: the release, the server, the outcome with its reason and the system's error,
-    /// the bytes and the seconds.
+    /// Writes the line of a fetch that ended: the release, the server, the outcome with its reason and the system's
+    /// error, the bytes and the seconds.
     pub fn write_line<W: Write>(
         &self,
         rt: &HostRuntime,
@@ -95,7 +95,7 @@ impl FetchReport {
     }
 }
 
-/// Returns why a fetch ended so, behind a space, if its outcome does not say it. If memory runs out, a part is left out.
+/// Returns why a fetch ended so, behind a space, if its outcome does not say it. If memory runs out, a part is missing.
 pub fn reason_of<K: Keep + Drop>(
     alloc: Global,
     feed: &Feed<K>,

@@ -25,7 +25,7 @@ impl LastFetches {
         &self.fetches
     }
 
-    // Returns the place of the fetch that another one replaces: that of its package, or the first if there are too many.
+    // Returns the place of the fetch that another replaces: that of its package, or the first if there are too many.
     // It is behind the last one if none is replaced.
     fn place_of(&self, name: &ReleaseName) -> usize {
         let package = name.package();
