@@ -389,7 +389,7 @@ class Node:
             self.address = "127.0.0.1:%d" % held.getsockname()[1]
         self.process = subprocess.Popen([*LIMITED, "node", str(database), self.address, "--from", address, "--token",
                                          str(token), "--piece", "200"], stdin=subprocess.DEVNULL,
-                                        stdout=subprocess.PIPE)
+                                        stdout=subprocess.PIPE, stderr=(database.parent / "faults").open("ab"))
         if self.process.stdout.readline() != b"listening\n":
             raise Unexpected("a node does not start")
 

@@ -166,7 +166,8 @@ class Node:
             old.unlink()
         command = ["kbfeed", "node", folder / "node.db", self.addr, "--from", f"127.0.0.1:{port}", "--token",
                    folder / "token", *words]
-        self.process = subprocess.Popen(command, stdout=subprocess.PIPE, stdin=subprocess.DEVNULL)
+        self.process = subprocess.Popen(command, stdout=subprocess.PIPE, stderr=(folder / "faults").open("ab"),
+                                        stdin=subprocess.DEVNULL)
         self.process.stdout.readline()
         threading.Thread(target=self.process.stdout.read, daemon=True).start()
 

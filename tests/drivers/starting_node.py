@@ -89,11 +89,11 @@ def print_states(port):
 
 
 def wait_for_log(file):
-    """Waits until the log has its first line and one for each request of a reader, at most ten seconds."""
+    """Waits at most ten seconds for the first line of the log, and one for each request of a reader and for /none."""
     readers = [method for method, target in REQUESTS if not target.startswith(("/health", "/metrics"))]
     for _ in range(200):
         with open(file, "rb") as log:
-            if log.read().count(b"\n") > len(readers) + readers.count("GET"):
+            if log.read().count(b"\n") > len(readers) + readers.count("GET") + 1:
                 return
         time.sleep(0.05)
 
