@@ -254,7 +254,7 @@ static SERVE: [Argument; 4] = [
     CLIENT_TIMEOUT,
 ];
 
-static NODE: [Argument; 15] = [
+static NODE: [Argument; 16] = [
     DATABASE,
     LISTENING_ADDRESS,
     Argument {
@@ -285,6 +285,14 @@ static NODE: [Argument; 15] = [
             needs: &[],
         },
         help: "The site file of the library: its page, its proxy and what it has",
+    },
+    Argument {
+        id: "wanted",
+        kind: Kind::Text {
+            value: "FILE",
+            needs: &[],
+        },
+        help: "The file with the packages that readers wait for",
     },
     PIECE,
     Argument {

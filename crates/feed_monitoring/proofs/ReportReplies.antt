@@ -7,7 +7,7 @@ use Rattle.httparse.specs.Grammar.{RequestHead}
 use Rattle.feed_http_heads.specs.Requests.{is_head}
 use Rattle.feed_metrics.specs.Texts.{MetricsValue}
 use Rattle.feed_metrics.specs.declared.text.Gauges.{Gauges}
-use Rattle.feed_monitoring.specs.Reports.{AsksForNoReport, GetsNoReport, kind_to, body_of, is_ready, may_report, IsReportTo}
+use Rattle.feed_monitoring.specs.Reports.{AsksForNoReport, GetsNoReport, kind_for, body_of, may_report, IsReportTo}
 use Rattle.feed_monitoring.specs.ReportTexts.{status_of, sent_body, report_text, IsReportMessage}
 use Rattle.feed_monitoring.specs.declared.report.Report.{Report}
 use Rattle.feed_monitoring.specs.declared.report_text.ReportKind.{ReportKind}
@@ -18,18 +18,21 @@ pub if_ok_all : {A E : Type 0} (r : Result A E) (P Q R S T : A → Type 0) → (
 if_ok_all (Ok a) P Q R S T all p q r s = all a p q r s
 if_ok_all (Err e) P Q R S T all p q r s = tt
 
-pub report_to : (metrics : MetricsValue) (gauges : Gauges) (head : RequestHead) (keeps : Bool) (asked : Report) (reply : ReportReply) (kind : ReportKind) (alone : Bool) (body : List ℕ)
-    → kind ≡ kind_to head (is_ready gauges) asked → alone ≡ is_head head → body ≡ body_of metrics gauges kind
+pub report_to : (metrics : MetricsValue) (gauges : Gauges) (missing : List ℕ) (head : RequestHead) (keeps : Bool) (asked : Report) (reply : ReportReply) (kind : ReportKind)
+    (alone : Bool) (body : List ℕ)
+    → kind ≡ kind_for gauges missing head asked → alone ≡ is_head head → body ≡ body_of metrics gauges missing kind
     → reply.bytes.items ≡ report_text kind keeps alone body → reply.status ≡ status_of kind → reply.body_len ≡ length (sent_body alone body)
-    → IsReportMessage kind keeps alone body reply.bytes.items → IsReportTo metrics gauges head keeps asked reply
-report_to metrics gauges head keeps asked reply kind alone body k a b text status size message = record {
+    → IsReportMessage kind keeps alone body reply.bytes.items → IsReportTo metrics gauges missing head keeps asked reply
+report_to metrics gauges missing head keeps asked reply kind alone body k a b text status size message = record {
   text =
       text ∙ ap (λ o. report_text kind keeps o body) a ∙ ap (report_text kind keeps (is_head head)) b
-      ∙ ap (λ n. report_text n keeps (is_head head) (body_of metrics gauges n)) k;
+      ∙ ap (λ n. report_text n keeps (is_head head) (body_of metrics gauges missing n)) k;
   status = status ∙ ap status_of k;
-  size = size ∙ ap (λ o. length (sent_body o body)) a ∙ ap (λ t. length (sent_body (is_head head) t)) b ∙ ap (λ n. length (sent_body (is_head head) (body_of metrics gauges n))) k;
+  size =
+      size ∙ ap (λ o. length (sent_body o body)) a ∙ ap (λ t. length (sent_body (is_head head) t)) b
+      ∙ ap (λ n. length (sent_body (is_head head) (body_of metrics gauges missing n))) k;
   message =
-      subst (λ (n : ReportKind). IsReportMessage n keeps (is_head head) (body_of metrics gauges n) reply.bytes.items) k
+      subst (λ (n : ReportKind). IsReportMessage n keeps (is_head head) (body_of metrics gauges missing n) reply.bytes.items) k
       (subst (λ (t : List ℕ). IsReportMessage kind keeps (is_head head) t reply.bytes.items) b
       (subst (λ (o : Bool). IsReportMessage kind keeps o body reply.bytes.items) a message));
 }

@@ -70,40 +70,48 @@ kind_of true ready report.Live = kind.Well
 abbrev pub kind_to : RequestHead → Bool → Report → ReportKind
 kind_to head ready asked = kind_of (is_get head || is_head head) ready asked
 
+-- the lines about what is missing, or the one that there is no active release
+abbrev pub unready_body : List ℕ → List ℕ
+unready_body missing = if nat_lt 0 (length missing) then missing else UNREADY.now
+
 -- the body, if it is not the metrics
-abbrev pub fixed_body : ReportKind → List ℕ
-fixed_body kind.Metrics = []
-fixed_body kind.Well = WELL.now
-fixed_body kind.Unready = UNREADY.now
-fixed_body kind.BadMethod = BAD_METHOD.now
+abbrev pub fixed_body : List ℕ → ReportKind → List ℕ
+fixed_body missing kind.Metrics = []
+fixed_body missing kind.Well = WELL.now
+fixed_body missing kind.Unready = unready_body missing
+fixed_body missing kind.BadMethod = BAD_METHOD.now
 
 -- the body
-abbrev pub body_of : MetricsValue → Gauges → ReportKind → List ℕ
-body_of metrics gauges kind.Metrics = metrics_text metrics gauges
-body_of metrics gauges kind.Well = WELL.now
-body_of metrics gauges kind.Unready = UNREADY.now
-body_of metrics gauges kind.BadMethod = BAD_METHOD.now
+abbrev pub body_of : MetricsValue → Gauges → List ℕ → ReportKind → List ℕ
+body_of metrics gauges missing kind.Metrics = metrics_text metrics gauges
+body_of metrics gauges missing kind.Well = WELL.now
+body_of metrics gauges missing kind.Unready = unready_body missing
+body_of metrics gauges missing kind.BadMethod = BAD_METHOD.now
 
--- the node has an active release
-abbrev pub is_ready : Gauges → Bool
-is_ready gauges = nat_lt 0 (length gauges.releases.now)
+-- the node has an active release, and no line says that one is missing
+abbrev pub is_ready : Gauges → List ℕ → Bool
+is_ready gauges missing = nat_lt 0 (length gauges.releases.now) && not (nat_lt 0 (length missing))
+
+-- what the reply to a request for a report says
+abbrev pub kind_for : Gauges → List ℕ → RequestHead → Report → ReportKind
+kind_for gauges missing head asked = kind_to head (is_ready gauges missing) asked
 
 -- the reply to a request for a report
-pub record IsReportTo (metrics : MetricsValue) (gauges : Gauges) (head : RequestHead) (keeps : Bool) (asked : Report) (reply : ReportReply) : Type 0 where
-  pub text : reply.bytes.items ≡ report_text (kind_to head (is_ready gauges) asked) keeps (is_head head) (body_of metrics gauges (kind_to head (is_ready gauges) asked))
-  pub status : reply.status ≡ status_of (kind_to head (is_ready gauges) asked)
-  pub size : reply.body_len ≡ length (sent_body (is_head head) (body_of metrics gauges (kind_to head (is_ready gauges) asked)))
-  pub message : IsReportMessage (kind_to head (is_ready gauges) asked) keeps (is_head head) (body_of metrics gauges (kind_to head (is_ready gauges) asked)) reply.bytes.items
+pub record IsReportTo (metrics : MetricsValue) (gauges : Gauges) (missing : List ℕ) (head : RequestHead) (keeps : Bool) (asked : Report) (reply : ReportReply) : Type 0 where
+  pub text : reply.bytes.items ≡ report_text (kind_for gauges missing head asked) keeps (is_head head) (body_of metrics gauges missing (kind_for gauges missing head asked))
+  pub status : reply.status ≡ status_of (kind_for gauges missing head asked)
+  pub size : reply.body_len ≡ length (sent_body (is_head head) (body_of metrics gauges missing (kind_for gauges missing head asked)))
+  pub message : IsReportMessage (kind_for gauges missing head asked) keeps (is_head head) (body_of metrics gauges missing (kind_for gauges missing head asked)) reply.bytes.items
 
 -- the bytes are a request for a report, and this is the reply to it
-pub record IsReportAnswer (metrics : MetricsValue) (gauges : Gauges) (bytes : List ℕ) (keeps : Bool) (reply : ReportReply) : Type 0 where
+pub record IsReportAnswer (metrics : MetricsValue) (gauges : Gauges) (missing bytes : List ℕ) (keeps : Bool) (reply : ReportReply) : Type 0 where
   pub head : RequestHead
   pub begins : BeginsWith bytes head
   pub asked : Report
   pub names : report_of head ≡ Some asked
-  pub is : IsReportTo metrics gauges head keeps asked reply
+  pub is : IsReportTo metrics gauges missing head keeps asked reply
 
 -- the reply, exactly if the bytes are such a request
-abbrev pub IsReportReply : MetricsValue → Gauges → List ℕ → Bool → Option ReportReply → Type 0
-IsReportReply metrics gauges bytes keeps None = AsksForNoReport bytes
-IsReportReply metrics gauges bytes keeps (Some reply) = IsReportAnswer metrics gauges bytes keeps reply
+abbrev pub IsReportReply : MetricsValue → Gauges → List ℕ → List ℕ → Bool → Option ReportReply → Type 0
+IsReportReply metrics gauges missing bytes keeps None = AsksForNoReport bytes
+IsReportReply metrics gauges missing bytes keeps (Some reply) = IsReportAnswer metrics gauges missing bytes keeps reply

@@ -11,7 +11,7 @@ pub record IsStartingReport (is_local is_open : Bool) (metrics : MetricsValue) (
   pub allowed : GetsReport is_local is_open bytes
   pub gauges : Gauges
   pub none : gauges.releases.now ≡ []
-  pub is : IsReportAnswer metrics gauges bytes keeps reply
+  pub is : IsReportAnswer metrics gauges [] bytes keeps reply
 
 -- the reply, exactly if the bytes are such a request
 abbrev pub IsStartingReply : Bool → Bool → MetricsValue → List ℕ → Bool → Option ReportReply → Type 0

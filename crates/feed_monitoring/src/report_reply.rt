@@ -4,7 +4,7 @@ ghost use Rattle.httparse.specs.Grammar.{RequestHead};
 ghost use Rattle.feed_http_heads.specs.Options.{SaysWhetherItKeeps};
 ghost use Rattle.feed_http_heads.specs.Requests.{IsInBuffer, HasHead, is_get, is_head};
 ghost use Rattle.feed_monitoring.specs.ReportTexts.{status_of, report_text};
-ghost use Rattle.feed_monitoring.specs.Reports.{kind_of, kind_to, fixed_body, body_of, is_ready};
+ghost use Rattle.feed_monitoring.specs.Reports.{kind_of, kind_to, unready_body, fixed_body, body_of, is_ready};
 ghost use Rattle.feed_monitoring.specs.Reports.{IsReportTo, IsReportReply};
 
 use crate::report::{Report, report_of};
@@ -47,20 +47,26 @@ fn kind_to(request: &Request<'_>, is_ready: bool, report: Report) -> ReportKind
     kind_of(request.is_get() || request.is_head(), is_ready, report)
 }
 
-// Returns whether the node has an active release.
-fn is_ready(gauges: &Gauges<'_>) -> bool
-    ensures { result ≡ is_ready gauges.now }
+// Returns whether the node has an active release, and none is missing.
+fn is_ready(gauges: &Gauges<'_>, missing: &[u8]) -> bool
+    ensures { result ≡ is_ready gauges.now missing.now }
 {
-    !gauges.releases.is_empty()
+    !gauges.releases.is_empty() && missing.is_empty()
 }
 
-fn fixed_body(kind: ReportKind) -> &'static [u8]
-    ensures { result.now ≡ fixed_body kind }
+fn unready_body(missing: &[u8]) -> &[u8]
+    ensures { result.now ≡ unready_body missing.now }
+{
+    if missing.is_empty() { UNREADY } else { missing }
+}
+
+fn fixed_body(missing: &[u8], kind: ReportKind) -> &[u8]
+    ensures { result.now ≡ fixed_body missing.now kind }
 {
     match kind {
         ReportKind::Metrics => b"",
         ReportKind::Well => WELL,
-        ReportKind::Unready => UNREADY,
+        ReportKind::Unready => unready_body(missing),
         ReportKind::BadMethod => BAD_METHOD,
     }
 }
@@ -70,11 +76,12 @@ fn body_of(
     kind: ReportKind,
     metrics: &Metrics,
     gauges: &Gauges<'_>,
+    missing: &[u8],
 ) -> Result<Vec<u8>, AllocError>
-    ensures { IfOk result (λ body. body.items ≡ body_of metrics.now gauges.now kind) }
+    ensures { IfOk result (λ body. body.items ≡ body_of metrics.now gauges.now missing.now kind) }
 {
     if kind != ReportKind::Metrics {
-        return Vec::from_slice(alloc, fixed_body(kind));
+        return Vec::from_slice(alloc, fixed_body(missing, kind));
     }
     let mut body = Vec::new(alloc);
     put_metrics(&mut body, metrics, gauges)?;
@@ -88,20 +95,21 @@ fn reply_to(
     report: Report,
     metrics: &Metrics,
     gauges: &Gauges<'_>,
+    missing: &[u8],
 ) -> Result<ReportReply, AllocError>
     requires { IsInBuffer request.now }
     ensures reply { IfOk result (λ reply. (head : RequestHead) → HasHead request.now head
-        → IsReportTo metrics.now gauges.now head keeps report reply) }
+        → IsReportTo metrics.now gauges.now missing.now head keeps report reply) }
     ensures says { IfOk result (λ reply. SaysWhetherItKeeps keeps reply.bytes.items) }
 {
-    let kind = kind_to(request, is_ready(gauges), report);
-    let body = body_of(alloc, kind, metrics, gauges)?;
+    let kind = kind_to(request, is_ready(gauges, missing), report);
+    let body = body_of(alloc, kind, metrics, gauges, missing)?;
     report_reply(alloc, kind, keeps, request.is_head(), &body)
 }
 
-/// Returns the reply to a request for a report: the metrics, or the health by whether there are active releases. Only
-/// GET and HEAD are allowed. Returns none for any other request. `keeps` is whether the connection persists after the
-/// reply.
+/// Returns the reply to a request for a report: the metrics, or the health by whether there are active releases and
+/// none is missing. `missing` has a line for each one that is, which the reply then has. Only GET and HEAD are allowed.
+/// Returns none for any other request. `keeps` is whether the connection persists after the reply.
 ///
 /// # Errors
 ///
@@ -112,8 +120,9 @@ pub fn respond_about_node(
     keeps: bool,
     metrics: &Metrics,
     gauges: &Gauges<'_>,
+    missing: &[u8],
 ) -> Result<Option<ReportReply>, AllocError>
-    ensures value { IfOk result (IsReportReply metrics.now gauges.now bytes.now keeps) }
+    ensures value { IfOk result (IsReportReply metrics.now gauges.now missing.now bytes.now keeps) }
     ensures says { IfOk result (λ found. IfSome found (λ reply. SaysWhetherItKeeps keeps reply.bytes.items)) }
 {
     let mut headers = [EMPTY_HEADER_SPAN; FIELD_LIMIT];
@@ -123,6 +132,6 @@ pub fn respond_about_node(
     let Some(report) = report_of(&request) else {
         return Ok(None);
     };
-    let reply = reply_to(alloc, &request, keeps, report, metrics, gauges)?;
+    let reply = reply_to(alloc, &request, keeps, report, metrics, gauges, missing)?;
     Ok(Some(reply))
 }

@@ -15,7 +15,7 @@ pub enum ReportKind {
     Metrics,
     /// 200: the node is well.
     Well,
-    /// 503: the node has no active release.
+    /// 503: the node has no active release, or lacks one that is wanted.
     Unready,
     /// 405: the method is not GET or HEAD.
     BadMethod,

@@ -39,6 +39,6 @@ pub fn respond_at_start(
         releases: &[],
         since_switch: None,
     };
-    let found = respond_about_node(alloc, bytes, keeps, metrics, &gauges)?;
+    let found = respond_about_node(alloc, bytes, keeps, metrics, &gauges, b"")?;
     Ok(found)
 }

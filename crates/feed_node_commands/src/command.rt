@@ -22,8 +22,9 @@ pub enum Command<'a> {
         version: &'a str,
         log: LogSettings,
         is_check: bool,
-        /// The path of the site file.
+        /// The paths of the site file, and of the file with the packages that readers wait for.
         site: Option<&'a str>,
+        wanted: Option<&'a str>,
         upstream: Option<Upstream<'a>>,
     },
     /// A command that needs no server.
@@ -60,6 +61,7 @@ pub fn run_command<D: Database, O: Write, F: Write + Drop>(
             log,
             is_check,
             site,
+            wanted,
             upstream,
         } => {
             let hosting = Hosting {
@@ -72,6 +74,7 @@ pub fn run_command<D: Database, O: Write, F: Write + Drop>(
                 log,
                 is_check,
                 site,
+                wanted,
             };
             run_node(rt, database, hosting, upstream, out, faults)
         }

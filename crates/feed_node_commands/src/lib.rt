@@ -5,6 +5,7 @@ mod command;
 mod node;
 mod site;
 mod token;
+mod wanted;
 
 pub use command::{Command, Upstream, run_command};
 pub use feed_node_service::LogSettings;

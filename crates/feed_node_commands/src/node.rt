@@ -2,6 +2,7 @@
 use crate::command::Upstream;
 use crate::site::{note_open_prefix, read_site};
 use crate::token::read_token;
+use crate::wanted::{note_missing, read_wanted};
 use feed_command::{DONE, FAILED, Faults, MISUSED, REFUSED, open_plain_file};
 use feed_database_commands::{Database, begin_feed, close_keeper, open_feed, report_keeper};
 use feed_file_commands::note_port;
@@ -9,11 +10,11 @@ use feed_http::is_host;
 use feed_keep::Keep;
 use feed_node_server::{Server, Settings, TimeLimits};
 use feed_node_service::{
-    End, LogSettings, NodeLog, NodeSetup, NodeState, Source, SourceAddrs, StartFault, WatchedFile,
-    run, start,
+    End, LogSettings, NodeLog, NodeSetup, NodeState, Source, SourceAddrs, StartFault,
+    WantedPackage, WatchedFile, run, start,
 };
 use feed_range::read_number;
-use feed_releases::Opening;
+use feed_releases::{Feed, Opening};
 use std::io;
 use std::io::Write;
 use std::net::ToSocketAddrs;
@@ -35,18 +36,21 @@ pub struct Hosting<'a> {
     pub version: &'a str,
     pub log: LogSettings,
     pub is_check: bool,
-    /// The path of the site file.
+    /// The paths of the site file, and of the file with the packages that readers wait for.
     pub site: Option<&'a str>,
+    pub wanted: Option<&'a str>,
 }
 
 /// Runs a node: opens the feed of a database and answers readers at an address, without end. It listens once the
-/// records of the database are loaded. Until their lists are checked, readers get 503. If the node has a source, a
-/// client that has the token can make it fetch a release from there. It prints a line for each request, at once. The
-/// first fault is reported: of the source (`Host`, `Read`, `Token`), of the site file (`Read`, `Site`), of the
-/// database, of the address (`Bind`), of a list (`Damaged`), of the sockets (`Poll`), and of a database whose file is
-/// gone (`Device`). Lines of the log that cannot be written are dropped and counted, and that is reported. A host that
-/// has no address yet is reported too (`Resolve`), and the node runs. If there are too few descriptors for all clients,
-/// that is reported (`Descriptors`), and the node answers fewer at a time, or does not start with fewer than 16.
+/// records of the database are loaded. Until their lists are checked, readers get 503, and while a package of the file
+/// of wanted ones has no active release, which is reported (`NoRelease`). If the node has a source, a client that has
+/// the token can make it fetch a release from there. It prints a line for each request, at once. The first fault is
+/// reported: of the source (`Host`, `Read`, `Token`), of the site file (`Read`, `Site`), of the file of wanted packages
+/// (`Read`, `Wanted`), of the database, of the address (`Bind`), of a list (`Damaged`), of the sockets (`Poll`), and of a
+/// database whose file is gone (`Device`). Lines of the log that cannot be written are dropped and counted, and that is
+/// reported. A host that has no address yet is reported too (`Resolve`), and the node runs. If there are too few
+/// descriptors for all clients, that is reported (`Descriptors`), and the node answers fewer at a time, or does not start
+/// with fewer than 16.
 ///
 /// A check answers no reader, and prints `ok` if all is well. It also reports a prefix of a proxy behind which a list
 /// can add parameters (`Prefix`), which is no fault.
@@ -141,9 +145,13 @@ fn run_server<D: Database, O: Write, F: Write + Drop>(
         Ok(site) => site,
         Err(status) => return status,
     };
+    let wanted = match read_wanted(rt, hosting.wanted, faults) {
+        Ok(wanted) => wanted,
+        Err(status) => return status,
+    };
     if hosting.is_check {
         note_open_prefix(&site, faults);
-        return check_server(rt, database, hosting, out, faults);
+        return check_server(rt, database, hosting, &wanted, out, faults);
     }
     let Ok(state) = NodeState::new(rt.alloc()) else {
         return report_end(End::Memory, database.name(), faults);
@@ -154,6 +162,7 @@ fn run_server<D: Database, O: Write, F: Write + Drop>(
         site,
         version: first_line(hosting.version),
         log: hosting.log,
+        wanted: &wanted,
         state: &state,
     };
     match begin(rt, database, hosting, faults) {
@@ -167,6 +176,7 @@ fn check_server<D: Database, O: Write, F: Write + Drop>(
     rt: &HostRuntime,
     database: &D,
     hosting: Hosting<'_>,
+    wanted: &[WantedPackage],
     out: &mut O,
     faults: &mut Faults<F>,
 ) -> u8 {
@@ -174,6 +184,7 @@ fn check_server<D: Database, O: Write, F: Write + Drop>(
         Ok(feed) => feed,
         Err(status) => return status,
     };
+    note_missing(&feed, wanted, faults);
     let listening = listen(rt, hosting, faults);
     close_keeper(database, feed.restart(), faults);
     match listening {
@@ -220,26 +231,39 @@ fn serve<D: Database, F: Write + Drop>(
         Ok(file) => file,
         Err(_) => return report_end(End::FileGone, database.name(), faults),
     };
-    match run_with_log(rt, opening, &mut server, setup, file, faults.out()) {
+    match run_with_log(rt, opening, &mut server, setup, file, faults) {
         Ok((end, keeper)) => end_node(database, keeper, end, faults),
         Err(StartFault::Ended(end)) => report_end(end, database.name(), faults),
         Err(StartFault::Keeper(cause)) => report_keeper(faults, cause, database.name()),
     }
 }
 
-// Opens a feed and answers readers from it until the node ends. The log is on standard output, without a buffer, so a
-// line is dropped exactly if it cannot be written.
-fn run_with_log<K: Keep + Drop, F: Write>(
+// Opens a feed, with a log on standard output. This is without a buffer, so a line is dropped exactly if it cannot be
+// written.
+fn start_with_log<K: Keep + Drop, F: Write>(
+    rt: &HostRuntime,
+    opening: Opening<K>,
+    server: &mut Server,
+    setup: &NodeSetup<'_>,
+    notes: &mut F,
+) -> Result<Feed<K>, StartFault> {
+    let mut log = NodeLog::new(io::writer(rt), notes);
+    setup.state.drop_lines(log.write_lines(b"listening\n"));
+    start(rt, opening, server, setup, &mut log)
+}
+
+// Opens a feed, reports which wanted packages it lacks, and answers readers from it until the node ends.
+fn run_with_log<K: Keep + Drop, F: Write + Drop>(
     rt: &HostRuntime,
     opening: Opening<K>,
     server: &mut Server,
     setup: NodeSetup<'_>,
     file: WatchedFile<'_>,
-    notes: &mut F,
+    faults: &mut Faults<F>,
 ) -> Result<(End, K), StartFault> {
-    let mut log = NodeLog::new(io::writer(rt), notes);
-    setup.state.drop_lines(log.write_lines(b"listening\n"));
-    let feed = start(rt, opening, server, &setup, &mut log)?;
+    let feed = start_with_log(rt, opening, server, &setup, faults.out())?;
+    note_missing(&feed, setup.wanted, faults);
+    let mut log = NodeLog::new(io::writer(rt), faults.out());
     Ok(run(rt, feed, server, setup, file, &mut log))
 }
 

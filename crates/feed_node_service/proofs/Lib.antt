@@ -1,3 +1,4 @@
 pub mod Turns
 pub mod Reported
 pub mod Agreement
+pub mod Fetches

@@ -1,24 +1,32 @@
 -- The reply of a node about itself, from the reply that its state makes.
-use Rattle.std.proofs.Common.{◌≡◌, ◌<◌, ◌+◌, ℕ, Bool, List, [], ◌∷◌, ◌++◌, length, take, get_or, map, Option, Some, None, ap, sym, ◌∙◌}
+use Rattle.std.proofs.Common.{◌≡◌, ◌<◌, ◌+◌, ℕ, Bool, List, [], ◌∷◌, ◌++◌, length, take, get_or, map, Option, Some, None, ap, sym, subst, ◌∙◌}
 use Rattle.std.proofs.lemmas.List.{take_more, map-append}
 use Rattle.feed_metrics.specs.Texts.{MetricsValue}
 use Rattle.feed_metrics.specs.declared.text.Gauges.{Gauges}
 use Rattle.feed_metrics.specs.declared.text.ReleaseTime.{ReleaseTime}
-use Rattle.feed_monitoring.specs.Reports.{IsReportReply}
+use Rattle.feed_monitoring.specs.Reports.{IsReportAnswer, IsReportReply}
 use Rattle.feed_monitoring.proofs.ReportReplies.{gets_none}
 use Rattle.feed_monitoring.specs.declared.report_text.ReportReply.{ReportReply}
 use Rattle.feed_model.specs.History.{History}
 use Rattle.feed_releases.specs.Actives.{ActiveValue, AreReported}
 use Rattle.feed_node_service.specs.Reports.{IsSomeReply, HasReport, IsReportIn, time_of, active_time}
+use Rattle.feed_node_service.specs.Wanted.{missing_text}
 use Rattle.feed_node_service.specs.declared.responder.FeedResponder.{FeedResponder}
 
 pub report_in : (responder : FeedResponder) (is_local : Bool) (h : History) (bytes : List ℕ) (keeps : Bool) (actives : List ActiveValue) (releases : List ReleaseTime)
-    (found : Option ReportReply) → HasReport responder is_local bytes → AreReported h actives → map time_of releases ≡ map active_time actives
-    → IsSomeReply bytes keeps releases found → IsReportIn responder is_local h bytes keeps found
-report_in responder is_local h bytes keeps actives releases None allowed reported same (metrics, gauges, of, is) =
+    (missing : List ℕ) (found : Option ReportReply) → HasReport responder is_local bytes → AreReported h actives → map time_of releases ≡ map active_time actives
+    → missing ≡ missing_text actives responder.wanted.now → IsSomeReply bytes keeps releases missing found → IsReportIn responder is_local h bytes keeps found
+report_in responder is_local h bytes keeps actives releases missing None allowed reported same lines (metrics, gauges, of, is) =
     gets_none is_local responder.has_open_reports bytes is
-report_in responder is_local h bytes keeps actives releases (Some reply) allowed reported same (metrics, gauges, of, is) =
-    record { allowed = allowed; metrics = metrics; gauges = gauges; actives = actives; reported = reported; releases = ap (map time_of) of ∙ same; is = is }
+report_in responder is_local h bytes keeps actives releases missing (Some reply) allowed reported same lines (metrics, gauges, of, is) = record {
+  allowed = allowed;
+  metrics = metrics;
+  gauges = gauges;
+  actives = actives;
+  reported = reported;
+  releases = ap (map time_of) of ∙ same;
+  is = subst (λ (text : List ℕ). IsReportAnswer metrics gauges text bytes keeps reply) lines is;
+}
 
 pub next_times : (actives : List ActiveValue) (i : ℕ) (d : ActiveValue) (old new : List (List ℕ × ℕ)) → i < length actives
     → old ≡ map active_time (take i actives) → new ≡ old ++ active_time (get_or actives i d) ∷ [] → new ≡ map active_time (take (i + 1) actives)

@@ -3,7 +3,7 @@ use Rattle.std.proofs.Common.{◌≡◌, ◌≤◌, ◌⊎◌, ℕ, Bool, true, 
 use Rattle.std.proofs.lemmas.Bool.{cases_Bool, false≢true, ltb-false}
 use Rattle.std.proofs.lemmas.Slice.Eq.{bytes_eq-Decides}
 use Rattle.std.proofs.lemmas.List.{take-take}
-use Rattle.std.specs.Prelude.{◌==◌, ◌&&◌, ◌||◌, not, nat_lt, is_some, if◌then◌else◌, codes, Result, Ok, Err}
+use Rattle.std.specs.Prelude.{◌==◌, ◌&&◌, ◌||◌, not, nat_lt, is_some, if◌then◌else◌, codes, MatchBool, Result, Ok, Err}
 use Rattle.std.specs.Str.{bytes_eq}
 use Rattle.httparse.specs.Grammar.{RequestHead}
 use Rattle.httparse.proofs.GrammarLemmas.{request_unique}
@@ -21,14 +21,23 @@ use Rattle.feed_resolver_request.specs.declared.target.Resource.TheVariants.{Hom
 use Rattle.feed_resolver_request.specs.declared.form.FormFault.{FormFault}
 use Rattle.feed_resolver_request.specs.declared.form.FormFault.TheVariants.{Coding}
 use Rattle.feed_resolver_reply.specs.Replies.{ResponseValue}
-use Rattle.feed_resolver.specs.NodeReplies.{IsNodeReplyAt, SaysOfConnection}
-use Rattle.feed_resolver_tag.specs.Tags.{SiteValue}
+use Rattle.feed_resolver.specs.NodeReplies.{AsksForFetch, AsksForNoFetch, IsNodeReplyAt, SaysOfConnection}
 use Rattle.feed_resolver.specs.FeedReplies.{IsFeedResponse}
 use Rattle.feed_node_service.specs.Responders.{IsReplyBy}
+use Rattle.feed_node_service.specs.Wanted.{HasEach, IsAnswerable, LacksOne}
+use Rattle.feed_node_service.specs.declared.responder.FeedResponder.{FeedResponder}
 
-pub as_node : (site : SiteValue) (policy : FetchPolicyValue) (today : TodayValue) (bytes body : List ℕ) (keeps : Bool) (h : History) (response : ResponseValue) → IsFeedResponse policy bytes keeps None
-    → IsNodeReplyAt site policy today h bytes body keeps response → IsReplyBy site policy today h bytes body keeps response
-as_node site policy today bytes body keeps h response other is = inr (other, is)
+pub as_node : (responder : FeedResponder) (policy : FetchPolicyValue) (today : TodayValue) (bytes body : List ℕ) (keeps : Bool) (h : History) (response : ResponseValue)
+    → IsFeedResponse policy bytes keeps None → IsAnswerable responder.wanted.now h bytes
+    → IsNodeReplyAt responder.site policy today h bytes body keeps response → IsReplyBy responder policy today h bytes body keeps response
+as_node responder policy today bytes body keeps h response other free is = inr (other, (free, is))
+
+-- a request is answered by one of two tests, and held back by neither
+pub answerable_by : (wanted : List (List ℕ)) (h : History) (bytes : List ℕ) (has asks : Bool) → MatchBool has (HasEach h wanted) (LacksOne h wanted)
+    → MatchBool asks (AsksForFetch bytes) (AsksForNoFetch bytes) → (has || asks) ≡ true → IsAnswerable wanted h bytes
+answerable_by wanted h bytes true asks each fetch one = inl each
+answerable_by wanted h bytes false true each fetch one = inr fetch
+answerable_by wanted h bytes false false each fetch one = absurd (cc)
 
 -- a response with these parts
 pub same_response : (r : ResponseValue) (bytes : List ℕ) (status size : ℕ) → bytes ≡ r.bytes → status ≡ r.status → size ≡ r.body_length

@@ -1,6 +1,7 @@
 pub mod NodeCounts
 pub mod FetchOutcomes
 pub mod Reports
+pub mod Wanted
 pub mod Responders
 pub mod Agreement
 pub mod Runs

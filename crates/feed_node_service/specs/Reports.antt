@@ -9,12 +9,13 @@ use Rattle.feed_monitoring.specs.declared.report_text.ReportReply.{ReportReply}
 use Rattle.feed_monitoring.specs.Reports as reports
 use Rattle.feed_monitoring.specs.Reports.{IsReportAnswer, IsReportReply}
 use Rattle.feed_node_service.specs.declared.responder.FeedResponder.{FeedResponder}
+use Rattle.feed_node_service.specs.Wanted.{missing_text}
 
--- the reply to a request for a report, by some counters and by gauges with these active releases, exactly if the bytes are
--- such a request
-abbrev pub IsSomeReply : List ℕ → Bool → List ReleaseTime → Option ReportReply → Type 0
-IsSomeReply bytes keeps releases found =
-    (metrics : MetricsValue) × (gauges : Gauges) × (gauges.releases.now ≡ releases) × IsReportReply metrics gauges bytes keeps found
+-- the reply to a request for a report, by some counters, by gauges with these active releases and by these lines about what
+-- is missing, exactly if the bytes are such a request
+abbrev pub IsSomeReply : List ℕ → Bool → List ReleaseTime → List ℕ → Option ReportReply → Type 0
+IsSomeReply bytes keeps releases missing found =
+    (metrics : MetricsValue) × (gauges : Gauges) × (gauges.releases.now ≡ releases) × IsReportReply metrics gauges missing bytes keeps found
 
 -- the first second of a day, both counted from 1970-01-01; before that day 0
 abbrev pub seconds_of : ℤ → ℕ
@@ -32,8 +33,8 @@ active_time active = (active.name.stem, seconds_of active.name.day)
 abbrev pub HasReport : FeedResponder → Bool → List ℕ → Type 0
 HasReport responder is_local bytes = reports.GetsReport is_local responder.has_open_reports bytes
 
--- they are such a request, and this is the reply to it: by some counters, and by gauges that have the packages and the days
--- of the releases that a feed with this history reports
+-- they are such a request, and this is the reply to it: by some counters, by gauges that have the packages and the days of
+-- the releases that a feed with this history reports, and by the lines that name the wanted packages without one
 pub record IsReportFor (responder : FeedResponder) (is_local : Bool) (h : History) (bytes : List ℕ) (keeps : Bool) (reply : ReportReply) : Type 0 where
   pub allowed : HasReport responder is_local bytes
   pub metrics : MetricsValue
@@ -41,7 +42,7 @@ pub record IsReportFor (responder : FeedResponder) (is_local : Bool) (h : Histor
   pub actives : List ActiveValue
   pub reported : AreReported h actives
   pub releases : map time_of gauges.releases.now ≡ map active_time actives
-  pub is : IsReportAnswer metrics gauges bytes keeps reply
+  pub is : IsReportAnswer metrics gauges (missing_text actives responder.wanted.now) bytes keeps reply
 
 -- they are not such a request
 abbrev pub HasNoReport : FeedResponder → Bool → List ℕ → Type 0

@@ -10,6 +10,7 @@ use crate::node_state::{NodeState, TurnFacts};
 use crate::responder::FeedResponder;
 use crate::source_addrs::SourceAddrs;
 use crate::today::{day_number, today};
+use crate::wanted::WantedPackage;
 use crate::watched_file::WatchedFile;
 use feed_keep::Keep;
 use feed_node_machine::NodeMachine;
@@ -44,6 +45,8 @@ pub struct NodeSetup<'a> {
     /// The version of the program.
     pub version: &'a str,
     pub log: LogSettings,
+    /// The packages that readers wait for.
+    pub wanted: &'a [WantedPackage],
     pub state: &'a NodeState,
 }
 
@@ -85,6 +88,7 @@ fn run_over<'a, K: Keep + Drop, W: Write, F: Write>(
         site: setup.site,
         version: setup.version.as_bytes(),
         has_open_reports: setup.log.has_open_reports,
+        wanted: setup.wanted,
     };
     let token = token_of(setup.source);
     let day = day_number(rt);

@@ -151,8 +151,8 @@ impl NodeState {
         }
     }
 
-    /// Returns the reply to a request for a report, from what was counted and these active releases. Returns none for
-    /// any other request.
+    /// Returns the reply to a request for a report, from what was counted, these active releases, and a line for each
+    /// wanted one that is missing. Returns none for any other request.
     ///
     /// # Errors
     ///
@@ -164,8 +164,9 @@ impl NodeState {
         persists: bool,
         version: &[u8],
         releases: &[ReleaseTime<'_>],
+        missing: &[u8],
     ) -> Result<Option<ReportReply>, AllocError>
-        ensures value { IfOk result (IsSomeReply bytes.now persists releases.now) }
+        ensures value { IfOk result (IsSomeReply bytes.now persists releases.now missing.now) }
         ensures says { IfOk result (λ found. IfSome found (λ reply. SaysWhetherItKeeps persists reply.bytes.items)) }
     {
         let facts = self.facts.get();
@@ -178,7 +179,7 @@ impl NodeState {
                     releases,
                     since_switch: facts.since_switch,
                 };
-                respond_about_node(alloc, bytes, persists, &counts.metrics, &gauges)
+                respond_about_node(alloc, bytes, persists, &counts.metrics, &gauges, missing)
             }
             Err(_) => Err(AllocError),
         }

@@ -1,5 +1,5 @@
 //! The replies of a node to its requests.
-ghost use Rattle.std.specs.Prelude.{◌≡◌, IfOk, IfSome, MatchBool};
+ghost use Rattle.std.specs.Prelude.{◌≡◌, Err, IfOk, IfSome, MatchBool};
 ghost use Rattle.feed_model.specs.History.{History};
 ghost use Rattle.feed_model.specs.Content.{IsContent};
 ghost use Rattle.feed_releases.specs.Feeds.{recorded};
@@ -7,10 +7,11 @@ ghost use Rattle.feed_resolver.specs.NodeReplies.{SaysOfConnection};
 ghost use Rattle.feed_http_heads.specs.Options.{SaysWhetherItKeeps};
 ghost use Rattle.feed_node_machine.specs.Occasions.{terms_of};
 ghost use Rattle.feed_node_service.specs.Reports.{HasReport, HasNoReport, IsReportIn};
-ghost use Rattle.feed_node_service.specs.Responders.{IsReplyBy, IsTurnReply, response_in};
+ghost use Rattle.feed_node_service.specs.Responders.{IsHeldBack, IsReplyBy, IsTurnReply, response_in};
 
 use crate::node_state::NodeState;
 use crate::release_times::release_times;
+use crate::wanted::{WantedPackage, asks_for_fetch, has_each, missing_text};
 use feed_http_heads::Request;
 use feed_keep::Keep;
 use feed_monitoring::{ReportReply, gets_report};
@@ -33,19 +34,25 @@ pub struct FeedResponder<'a> {
     pub version: &'a [u8],
     /// Whether clients on other machines may have reports of the node, too.
     pub has_open_reports: bool,
+    /// The packages that readers wait for.
+    pub wanted: &'a [WantedPackage],
 }
 
 impl<'a> FeedResponder<'a> {
+    // Returns the reply to a request that is not for a report. While a wanted package has no active release, readers
+    // get none.
     fn response<K: Keep + Drop>(
         &self,
         alloc: Global,
         occasion: &Occasion<'_, '_, K>,
         request: &IncomingRequest<'_>,
-    ) -> Result<Response, AllocError>
+    ) -> Result<Response, RespondFault>
         ensures reply { IfOk result (λ response. (h : History) → IsContent (recorded occasion.now.feed.now) h
-            → IsReplyBy self.now.site occasion.now.policy occasion.now.today h
+            → IsReplyBy self.now occasion.now.policy occasion.now.today h
             request.now.head.now request.now.body.now request.now.persists response) }
         ensures says { IfOk result (λ response. SaysOfConnection request.now.head.now request.now.persists response) }
+        ensures held { result ≡ Err RespondFault.Busy → (h : History) → IsContent (recorded occasion.now.feed.now) h
+            → IsHeldBack self.now occasion.now.policy h request.now.head.now request.now.persists }
     {
         let policy = &occasion.policy;
         let feed = occasion.feed;
@@ -55,6 +62,9 @@ impl<'a> FeedResponder<'a> {
         {
             Some(response) => Ok(response),
             None => {
+                if !has_each(feed, self.wanted) && !asks_for_fetch(request.head) {
+                    return Err(RespondFault::Busy);
+                }
                 let response = respond_as_node(
                     alloc,
                     request.head,
@@ -95,8 +105,9 @@ impl<'a> FeedResponder<'a> {
         }
         let actives = occasion.feed.actives()?;
         let releases = release_times(alloc, &actives)?;
+        let missing = missing_text(alloc, &actives, self.wanted)?;
         self.state
-            .report(alloc, bytes, persists, self.version, &releases)
+            .report(alloc, bytes, persists, self.version, &releases, &missing)
     }
 
     // Returns the reply to a reader, or to a client that has the token. It is streamed exactly if the request makes the
@@ -106,13 +117,15 @@ impl<'a> FeedResponder<'a> {
         alloc: Global,
         occasion: &Occasion<'_, '_, K>,
         request: &IncomingRequest<'_>,
-    ) -> Result<Reply, AllocError>
+    ) -> Result<Reply, RespondFault>
         ensures turn { IfOk result (λ reply. (h : History) → IsContent (recorded occasion.now.feed.now) h
-            → IsTurnReply self.now.site occasion.now.policy occasion.now.today h
+            → IsTurnReply self.now occasion.now.policy occasion.now.today h
             request.now.head.now request.now.body.now request.now.persists
             (response_in reply) reply.summary.is_streamed) }
         ensures says { IfOk result (λ reply.
             SaysOfConnection request.now.head.now request.now.persists (response_in reply)) }
+        ensures held { result ≡ Err RespondFault.Busy → (h : History) → IsContent (recorded occasion.now.feed.now) h
+            → IsHeldBack self.now occasion.now.policy h request.now.head.now request.now.persists }
     {
         let is_streamed = fetch_to_begin(alloc, request.head, &occasion.policy).is_some();
         let response = self.response(alloc, occasion, request)?;
@@ -157,7 +170,7 @@ impl<'a> FeedRespond for FeedResponder<'a> {
     ) -> Result<Reply, RespondFault> {
         match self.report(alloc, occasion, request.head, request.persists)? {
             Some(reply) => Ok(Reply::new(reply.bytes, reply.status, reply.body_len)),
-            None => Ok(self.reader_reply(alloc, occasion, request)?),
+            None => self.reader_reply(alloc, occasion, request),
         }
     }
 

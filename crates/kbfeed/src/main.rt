@@ -107,6 +107,7 @@ fn run_request<O: Write, F: Write + Drop>(
             addr,
             options,
             site,
+            wanted,
             source,
         } => {
             let node = Command::Node {
@@ -123,6 +124,7 @@ fn run_request<O: Write, F: Write + Drop>(
                 },
                 is_check: options.is_check,
                 site,
+                wanted,
                 upstream: upstream_of(source),
             };
             (db, node)

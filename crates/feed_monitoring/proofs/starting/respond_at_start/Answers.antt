@@ -8,7 +8,7 @@ use Rattle.feed_monitoring.proofs.ReportReplies.{gets_none}
 use Rattle.feed_monitoring.proofs.starting.respond_at_start.Goals as goal
 
 starting : (is_local is_open : Bool) (metrics : MetricsValue) (gauges : Gauges) (bytes : List ℕ) (keeps : Bool) (found : Option ReportReply)
-    → GetsReport is_local is_open bytes → gauges.releases.now ≡ [] → IsReportReply metrics gauges bytes keeps found
+    → GetsReport is_local is_open bytes → gauges.releases.now ≡ [] → IsReportReply metrics gauges [] bytes keeps found
     → IsStartingReply is_local is_open metrics bytes keeps found
 starting is_local is_open metrics gauges bytes keeps None allowed none is = gets_none is_local is_open bytes is
 starting is_local is_open metrics gauges bytes keeps (Some reply) allowed none is = record { allowed = allowed; gauges = gauges; none = none; is = is }

@@ -1,0 +1,167 @@
+//! The file with the packages that readers of a node wait for.
+use feed_command::{DONE, FAILED, Faults, MISUSED, open_plain_file, read_up_to};
+use feed_keep::Keep;
+use feed_names::{NameFault, ReleaseName};
+use feed_node_service::WantedPackage;
+use feed_releases::Feed;
+use std::alloc::Global;
+use std::fmt;
+use std::io::Write;
+
+// The most bytes of the file, and the most packages: as many as a feed records releases.
+const BYTE_LIMIT: usize = 65_536;
+
+const PACKAGE_LIMIT: usize = 256;
+
+// What makes the name of a release of a package.
+const SOME_DAY: &[u8] = b"_2000-01-01.txt";
+
+// Why a line names no package.
+#[derive(Clone, Copy)]
+enum LineFault {
+    /// It is neither a package nor the name of a release.
+    NoName,
+    /// There are too many packages before it.
+    TooMany,
+    Memory,
+}
+
+impl From<NameFault> for LineFault {
+    fn from(fault: NameFault) -> LineFault {
+        match fault {
+            NameFault::Memory => LineFault::Memory,
+            _ => LineFault::NoName,
+        }
+    }
+}
+
+/// Returns the packages that the file at a path names, or none without a path. A line has a package, or the name of a
+/// release, behind which anything may follow. Blank lines and those that begin with `#` are skipped. Otherwise reports
+/// the fault and returns the exit status.
+pub fn read_wanted<F: Write + Drop>(
+    rt: &HostRuntime,
+    path: Option<&str>,
+    faults: &mut Faults<F>,
+) -> Result<Vec<WantedPackage>, u8> {
+    let mut wanted = Vec::new(rt.alloc());
+    let Some(path) = path else {
+        return Ok(wanted);
+    };
+    let mut file = open_plain_file(rt, path, faults)?;
+    let bytes = match read_up_to(rt.alloc(), &mut file, BYTE_LIMIT) {
+        Ok(bytes) => bytes,
+        Err(error) => return Err(faults.report_read(path, error)),
+    };
+    if bytes.len() > BYTE_LIMIT {
+        return Err(faults.report_with(
+            "Wanted TooLong",
+            path,
+            "it has more than 65536 bytes",
+            MISUSED,
+        ));
+    }
+    for (place, line) in bytes.split(|byte| *byte == b'\n').enumerate() {
+        if let Err(fault) = add_line(rt.alloc(), &mut wanted, line.trim_ascii()) {
+            return Err(report_line(path, place, fault, faults));
+        }
+    }
+    Ok(wanted)
+}
+
+// Adds the package that a line names, if it names one.
+fn add_line(alloc: Global, wanted: &mut Vec<WantedPackage>, line: &[u8]) -> Result<(), LineFault> {
+    if line.is_empty() || line.starts_with(b"#") {
+        return Ok(());
+    }
+    if wanted.len() >= PACKAGE_LIMIT {
+        return Err(LineFault::TooMany);
+    }
+    let name = read_name(alloc, line)?;
+    let package = match Vec::from_slice(alloc, name.package()) {
+        Ok(text) => WantedPackage::new(text),
+        Err(_) => return Err(LineFault::Memory),
+    };
+    match wanted.push(package) {
+        Ok(()) => Ok(()),
+        Err(_) => Err(LineFault::Memory),
+    }
+}
+
+// Returns the name of a release of the package that a line names: the line's first word if this ends in `.txt`.
+fn read_name(alloc: Global, line: &[u8]) -> Result<ReleaseName, LineFault> {
+    let word = match line.iter().position(|byte| byte.is_ascii_whitespace()) {
+        Some(end) => &line[..end],
+        None => line,
+    };
+    if word.ends_with(b".txt") {
+        return Ok(ReleaseName::parse(alloc, word)?);
+    }
+    let mut text = Vec::new(alloc);
+    if text.extend_from_slice(line).is_err() || text.extend_from_slice(SOME_DAY).is_err() {
+        return Err(LineFault::Memory);
+    }
+    Ok(ReleaseName::parse(alloc, &text)?)
+}
+
+// Reports why a line names no package, and returns the exit status.
+fn report_line<F: Write + Drop>(
+    path: &str,
+    place: usize,
+    fault: LineFault,
+    faults: &mut Faults<F>,
+) -> u8 {
+    let line = WantedLine(place.saturating_add(1));
+    match fault {
+        LineFault::Memory => faults.report("Memory", FAILED),
+        LineFault::NoName => faults.report_with(
+            line,
+            path,
+            "it is neither a package, as Acme_Global_All, nor the name of a release",
+            MISUSED,
+        ),
+        LineFault::TooMany => {
+            faults.report_with(line, path, "there are more than 256 packages", MISUSED)
+        }
+    }
+}
+
+/// Reports each wanted package without an active release.
+pub fn note_missing<K: Keep + Drop, F: Write + Drop>(
+    feed: &Feed<K>,
+    wanted: &[WantedPackage],
+    faults: &mut Faults<F>,
+) {
+    for package in wanted {
+        let text = str::from_utf8(package.text()).unwrap_or("");
+        if feed.report(package.text()).is_none() {
+            let _ = faults.report_with(
+                MissingLine(text),
+                text,
+                "it is wanted and has no active release, so readers get 503",
+                DONE,
+            );
+        }
+    }
+}
+
+/// The line that reports a line of the file that names no package.
+#[derive(Debug, Drop)]
+struct WantedLine(usize);
+
+impl fmt::Display for WantedLine {
+    fn fmt<W: fmt::Write>(&self, f: &mut fmt::Formatter<W>) -> fmt::Result {
+        let line = self.0;
+        write!(f, "Wanted line {line}")
+    }
+}
+
+/// The line that reports a wanted package without an active release.
+#[derive(Clone, Copy, Debug)]
+struct MissingLine<'a>(&'a str);
+
+impl<'a> fmt::Display for MissingLine<'a> {
+    fn fmt<W: fmt::Write>(&self, f: &mut fmt::Formatter<W>) -> fmt::Result {
+        let package = self.0;
+        write!(f, "NoRelease {package}")
+    }
+}

@@ -1,0 +1,109 @@
+//! The packages that a node waits for before it answers readers.
+ghost use Rattle.std.specs.Prelude.{◌≡◌, ◌++◌, IfOk, MatchBool, OnOk};
+ghost use Rattle.feed_model.specs.History.{History};
+ghost use Rattle.feed_model.specs.Content.{IsContent};
+ghost use Rattle.feed_releases.specs.Feeds.{recorded};
+ghost use Rattle.feed_resolver.specs.NodeReplies.{AsksForFetch, AsksForNoFetch};
+ghost use Rattle.feed_node_service.specs.Wanted.{HasEach, LacksOne, has_package, missing_line, missing_text};
+
+use feed_http_heads::FIELD_LIMIT;
+use feed_keep::Keep;
+use feed_releases::{ActiveRelease, Feed};
+use feed_resolver_request::{find_request, name_to_fetch};
+use httparse::spans::EMPTY_HEADER_SPAN;
+use std::alloc::{AllocError, Global};
+use std::marker::Model;
+
+/// A package that a node waits for.
+#[derive(Drop)]
+pub struct WantedPackage {
+    text: Vec<u8>,
+}
+
+impl Model for WantedPackage {
+    ghost use Rattle.std.specs.Prelude.{List, ℕ};
+
+    ghost Value = { List ℕ };
+
+    ghost view = { λ w. w.text.items };
+}
+
+impl WantedPackage {
+    /// Returns the package with this text, such as `Acme_Global_All`.
+    pub fn new(text: Vec<u8>) -> WantedPackage
+        ensures { result ≡ text.items }
+    {
+        WantedPackage { text }
+    }
+
+    /// Returns its text.
+    pub fn text(&self) -> &[u8]
+        ensures { result.now ≡ self.now }
+    {
+        &self.text
+    }
+}
+
+pub(crate) const MISSING: &[u8] = b"no active release of ";
+
+fn has_package(actives: &[ActiveRelease<'_>], package: &[u8]) -> bool
+    ensures { result ≡ has_package actives.now «package».now }
+{
+    actives
+        .iter()
+        .any(|active| active.name().package() == package)
+}
+
+/// Returns whether each wanted package has an active release.
+pub(crate) fn has_each<K: Keep + Drop>(feed: &Feed<K>, wanted: &[WantedPackage]) -> bool
+    ensures { (h : History) → IsContent (recorded feed.now) h
+        → MatchBool result (HasEach h wanted.now) (LacksOne h wanted.now) }
+{
+    for awaited in wanted {
+        if feed.report(awaited.text()).is_none() {
+            return false;
+        }
+    }
+    true
+}
+
+fn put_missing_line(
+    out: &mut Vec<u8>,
+    actives: &[ActiveRelease<'_>],
+    package: &[u8],
+) -> Result<(), AllocError>
+    ensures { OnOk result (out.new.items ≡ out.old.items ++ missing_line actives.now «package».now) }
+{
+    if has_package(actives, package) {
+        return Ok(());
+    }
+    out.extend_from_slice(MISSING)?;
+    out.extend_from_slice(package)?;
+    Ok(out.push(b'\n')?)
+}
+
+/// Returns a line for each wanted package without an active release, in their order.
+pub(crate) fn missing_text(
+    alloc: Global,
+    actives: &[ActiveRelease<'_>],
+    wanted: &[WantedPackage],
+) -> Result<Vec<u8>, AllocError>
+    ensures { IfOk result (λ text. text.items ≡ missing_text actives.now wanted.now) }
+{
+    let mut text = Vec::new(alloc);
+    for awaited in wanted {
+        put_missing_line(&mut text, actives, awaited.text())?;
+    }
+    Ok(text)
+}
+
+/// Returns whether a request asks the node to fetch, whoever sent it.
+pub(crate) fn asks_for_fetch(bytes: &[u8]) -> bool
+    ensures { MatchBool result (AsksForFetch bytes.now) (AsksForNoFetch bytes.now) }
+{
+    let mut headers = [EMPTY_HEADER_SPAN; FIELD_LIMIT];
+    match find_request(bytes, &mut headers) {
+        Some(request) => !request.lacks_host() && name_to_fetch(&request).is_some(),
+        None => false,
+    }
+}
