@@ -254,7 +254,7 @@ static SERVE: [Argument; 4] = [
     CLIENT_TIMEOUT,
 ];
 
-static NODE: [Argument; 16] = [
+static NODE: [Argument; 17] = [
     DATABASE,
     LISTENING_ADDRESS,
     Argument {
@@ -303,6 +303,11 @@ static NODE: [Argument; 16] = [
             default: "3600",
         },
         help: "How long a fetch may take, 1 to 86400",
+    },
+    Argument {
+        id: "any-type",
+        kind: Kind::Flag { excludes: &[] },
+        help: "Fetches lists that the server calls HTML, XML, JSON, PDF or images, too",
     },
     Argument {
         id: "clients",

@@ -32,13 +32,14 @@ pub enum Command<'a> {
 }
 
 /// The server that a node fetches releases from, the file with the token that a client needs to request a fetch, how
-/// many bytes the node asks for at a time, and for how many seconds a fetch may take.
+/// many bytes the node asks for at a time, for how many seconds a fetch may take, and whether a list may have any type.
 #[derive(Clone, Copy)]
 pub struct Upstream<'a> {
     pub addr: &'a str,
     pub token_file: &'a str,
     pub piece: u64,
     pub fetch_limit: u64,
+    pub has_any_type: bool,
 }
 
 /// Runs a command on a database, prints its output to `out`, and returns the exit status. A program calls this function

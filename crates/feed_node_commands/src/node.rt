@@ -79,6 +79,7 @@ pub fn run_node<D: Database, O: Write, F: Write + Drop>(
         piece: upstream.piece,
         limit: hosting.limit,
         fetch_limit: upstream.fetch_limit,
+        has_any_type: upstream.has_any_type,
     };
     if let Err(error) = addrs.resolve(rt, upstream.addr) {
         let _ = faults.report_with("Resolve", upstream.addr, error, DONE);

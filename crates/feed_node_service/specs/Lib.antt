@@ -2,6 +2,8 @@ pub mod NodeCounts
 pub mod FetchOutcomes
 pub mod Reports
 pub mod Wanted
+pub mod FileChecks
+pub mod FileTypes
 pub mod Responders
 pub mod Agreement
 pub mod Runs

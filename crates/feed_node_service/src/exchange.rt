@@ -29,6 +29,18 @@ pub enum Arrival {
     NoRanges,
 }
 
+impl Arrival {
+    /// Returns whether the bytes that are kept begin with the head of the reply, and a file or its length is taken from
+    /// them now.
+    pub fn has_head(&self) -> bool {
+        match self {
+            Arrival::Complete => true,
+            Arrival::Part(part) => part.from > 0,
+            _ => false,
+        }
+    }
+}
+
 /// A part of a whole file whose length the reply stated.
 #[derive(Clone, Copy)]
 pub struct WholePart {

@@ -1,9 +1,11 @@
 //! Fetches releases for a node, one request at a time, between the turns of its loop.
+ghost use Rattle.std.specs.Prelude.{◌≡◌};
 ghost use Rattle.feed_node_service.specs.Runs.{IsLaterNode};
 
 use crate::exchange::{Arrival, Exchange, WholePart};
 use crate::fetch_outcome::FetchOutcome;
 use crate::fetch_report::{FetchReport, reason_of};
+use crate::file_check::{FileCheck, Mismatch};
 use crate::node_state::NodeState;
 use crate::recorded_reply::RecordedReply;
 use crate::responder::FeedResponder;
@@ -38,6 +40,8 @@ pub struct Source<'a> {
     pub limit: u64,
     /// How many seconds a fetch may take.
     pub fetch_limit: u64,
+    /// Whether a file may have any type.
+    pub has_any_type: bool,
 }
 
 // The most parts of a whole file that are taken in one turn, which is all that are kept at a time.
@@ -62,11 +66,12 @@ pub struct Fetcher<'a> {
     pub notes: Vec<u8>,
 }
 
-// The last request of the fetch that is under way, and the place of the address in use.
-#[derive(Clone, Copy)]
+// The last request of the fetch that is under way, the place of the address in use, and the checks of the file.
+#[derive(Drop)]
 struct RunningExchange {
     at: usize,
     exchange: Exchange,
+    check: FileCheck,
 }
 
 // The next step of a fetch, after it looked at the reply.
@@ -81,6 +86,8 @@ enum Step {
     /// It tries the next address of the server.
     Retry,
     End(FetchEnd),
+    /// It ends the fetch, since the file is not the expected one.
+    Refuse(Mismatch),
 }
 
 // The result of looking at a reply.
@@ -129,8 +136,15 @@ impl<'a> Fetcher<'a> {
             Some(Ok(())) => {
                 self.report = FetchReport::new(self.rt, is_answered(node));
                 self.addrs.renew(self.rt, source.addr);
-                let exchange = Exchange::new(Method::Head, piece);
-                self.send_next(server, node, RunningExchange { at: 0, exchange });
+                let Some(expected) = self.state.expected() else {
+                    return self.end_by(server, node, "Query", 2);
+                };
+                let running = RunningExchange {
+                    at: 0,
+                    exchange: Exchange::new(Method::Head, piece),
+                    check: FileCheck::new(expected, source.has_any_type),
+                };
+                self.send_next(server, node, running);
             }
             Some(Err(fault)) => {
                 let mut lines = self.lines();
@@ -225,6 +239,28 @@ impl<'a> Fetcher<'a> {
         }
     }
 
+    // Ends a fetch by a fault that no other fetch has, with an exit status.
+    fn end_by<K: Keep + Drop>(
+        &mut self,
+        server: &mut Server,
+        node: &mut FeedNode<'_, K>,
+        fault: &str,
+        status: u8,
+    )
+        ensures { IsLaterNode node.old node.new }
+    {
+        let mut lines = self.lines();
+        if let Some(name) = node.end_fetch() {
+            let mut reason = Vec::new(self.rt.alloc());
+            let _ = write!(&mut reason, " {fault}");
+            self.note(name.text(), FetchOutcome::Refused, &reason);
+            self.state.end_fetch(name, FetchOutcome::Refused, unix_seconds(self.rt));
+        }
+        let _ = lines.print(format_args!("kbfeed: {fault}"));
+        let _ = lines.print(format_args!("status {status}"));
+        finish(server, lines);
+    }
+
     // Sends the next request of a fetch. If there is none, the fetch is over.
     fn send_next<K: Keep + Drop>(
         &mut self,
@@ -266,7 +302,14 @@ impl<'a> Fetcher<'a> {
         let Some(fetching) = node.fetching() else {
             return Ok(false);
         };
-        let Some((method, text)) = next_request(self.rt, node.feed(), fetching, source)? else {
+        let Some((method, text)) = next_request(
+            self.rt,
+            node.feed(),
+            fetching,
+            &running.check,
+            source,
+        )?
+        else {
             return Ok(false);
         };
         running.exchange = Exchange::new(method, fetching.fetch.piece);
@@ -325,6 +368,10 @@ impl<'a> Fetcher<'a> {
                 let _ = server.take_request();
                 self.end(server, node, end);
             }
+            Step::Refuse(mismatch) => {
+                let _ = server.take_request();
+                self.end_by(server, node, mismatch.fault(), 1);
+            }
         }
     }
 
@@ -358,7 +405,8 @@ impl<'a> Fetcher<'a> {
         outgoing: &mut OutgoingRequest,
         lines: &mut Printer<Vec<u8>>,
     ) -> Step
-        ensures { IsLaterNode node.old node.new }
+        ensures later { IsLaterNode node.old node.new }
+        ensures refused { (mismatch : Mismatch) → result ≡ Step.Refuse mismatch → node.new ≡ node.old }
     {
         self.report.fault = outgoing.fault();
         match self.arrived(running, outgoing) {
@@ -369,11 +417,11 @@ impl<'a> Fetcher<'a> {
             }
             Arrived::Reply(reply) => {
                 self.report.add_reply(&reply);
-                take_reply(node, &reply, lines)
+                take_reply(node, &mut running.check, &reply, lines)
             }
             Arrived::NoRanges => {
                 let fault = RequestFault::Http(HttpFault::BodyTooLong);
-                let _ = take_reply(node, &Err(fault), lines);
+                let _ = node.take_reply(&Err(fault), lines);
                 Step::End(FetchEnd::NoRanges)
             }
         }
@@ -384,7 +432,11 @@ impl<'a> Fetcher<'a> {
         if outgoing.is_over() && !outgoing.has_sent() {
             return Arrived::Step(Step::Retry);
         }
-        match running.exchange.look(outgoing.reply(), outgoing.is_over()) {
+        let arrival = running.exchange.look(outgoing.reply(), outgoing.is_over());
+        if arrival.has_head() && running.check.refuses_type(outgoing.reply()) {
+            return Arrived::Step(Step::Refuse(Mismatch::Type));
+        }
+        match arrival {
             Arrival::Unfinished => {
                 outgoing.set_reply_limit(running.exchange.limit());
                 Arrived::Step(Step::Wait)
@@ -420,17 +472,79 @@ fn cut_fault(outgoing: &OutgoingRequest) -> HttpFault {
     }
 }
 
-// Takes the reply, or why there is none.
+// Takes the reply, or why there is none. A file that is not the expected one is not submitted.
 fn take_reply<K: Keep + Drop>(
     node: &mut FeedNode<'_, K>,
+    check: &mut FileCheck,
     reply: &Result<Got, RequestFault>,
     lines: &mut Printer<Vec<u8>>,
 ) -> Step
-    ensures { IsLaterNode node.old node.new }
+    ensures later { IsLaterNode node.old node.new }
+    ensures refused { (mismatch : Mismatch) → result ≡ Step.Refuse mismatch → node.new ≡ node.old }
 {
-    match node.take_reply(reply, lines) {
+    if let Some(mismatch) = mismatch_of(node, check, reply) {
+        return Step::Refuse(mismatch);
+    }
+    match submit(node, check, reply, lines) {
         Ok(()) => Step::Send,
         Err(stop) => Step::End(FetchEnd::Stopped(stop)),
+    }
+}
+
+// Submits the reply to the feed. If the sum is to be compared, the feed may have its bytes already.
+fn submit<K: Keep + Drop>(
+    node: &mut FeedNode<'_, K>,
+    check: &FileCheck,
+    reply: &Result<Got, RequestFault>,
+    lines: &mut Printer<Vec<u8>>,
+) -> Result<(), Stop>
+    ensures { IsLaterNode node.old node.new }
+{
+    match (reply, check.summed_size()) {
+        (
+            Ok(
+                Got::Piece {
+                    first,
+                    total,
+                    bytes,
+                },
+            ),
+            Some(size),
+        ) => {
+            match node.take_part(*first, total.unwrap_or(size), bytes.as_slice(), lines) {
+                Ok(_) => Ok(()),
+                Err(stop) => Err(stop),
+            }
+        }
+        _ => node.take_reply(reply, lines),
+    }
+}
+
+// Returns how the file of a reply differs from the expected one, if it does or if its sum could not be compared in
+// time.
+fn mismatch_of<K: Keep + Drop>(
+    node: &FeedNode<'_, K>,
+    check: &mut FileCheck,
+    reply: &Result<Got, RequestFault>,
+) -> Option<Mismatch> {
+    let Ok(got) = reply else {
+        return None;
+    };
+    match check.mismatch_of(got) {
+        None if !lacks_end(node, check) => Some(Mismatch::Sum),
+        mismatch => mismatch,
+    }
+}
+
+// Returns whether the sum of the file, if it is to be compared, is known before its last missing byte is submitted: the
+// first range that the feed lacks goes to its end, or it lacks none.
+fn lacks_end<K: Keep + Drop>(node: &FeedNode<'_, K>, check: &FileCheck) -> bool {
+    let (Some(size), Some(fetching)) = (check.summed_size(), node.fetching()) else {
+        return true;
+    };
+    match node.feed().next_range(&fetching.name, u64::MAX) {
+        Some((_, last)) => last.saturating_add(1) >= size,
+        None => true,
     }
 }
 
@@ -442,12 +556,16 @@ fn take_part<K: Keep + Drop>(
     part: WholePart,
     lines: &mut Printer<Vec<u8>>,
 ) -> Step
-    ensures { IsLaterNode node.old node.new }
+    ensures later { IsLaterNode node.old node.new }
+    ensures refused { (mismatch : Mismatch) → result ≡ Step.Refuse mismatch → node.new ≡ node.old }
 {
     let Some(bytes) = outgoing.reply().get(part.from..part.to) else {
         return Step::Wait;
     };
     let WholePart { first, length, .. } = part;
+    if let Some(mismatch) = running.check.mismatch_of_part(first, length, bytes) {
+        return Step::Refuse(mismatch);
+    }
     match node.take_part(first, length, bytes, lines) {
         Ok(is_new) => {
             outgoing.discard(part.to);
@@ -483,6 +601,7 @@ fn next_request<K: Keep + Drop>(
     rt: &HostRuntime,
     feed: &Feed<K>,
     fetching: &Fetching,
+    check: &FileCheck,
     source: Source<'_>,
 ) -> Result<Option<(Method, Vec<u8>)>, AllocError> {
     let host = source.addr.as_bytes();
@@ -497,6 +616,7 @@ fn next_request<K: Keep + Drop>(
             (Method::Head, written)
         }
         Next::Ask(Request::Range { first, last }) => {
+            let (first, last) = check.next_range((first, last), fetching.fetch.piece);
             let written = write_request(&mut text, host, name, first, last);
             (Method::Get, written)
         }

@@ -6,6 +6,7 @@ ghost use Rattle.feed_node_service.specs.Reports.{IsSomeReply};
 ghost use Rattle.feed_node_service.specs.Starting.{IsSomeStartingReply};
 
 use crate::counts::NodeCounts;
+use crate::expected_file::ExpectedFile;
 use crate::fetch_outcome::FetchOutcome;
 use crate::last_fetches::LastFetches;
 use feed_keep::Keep;
@@ -39,6 +40,8 @@ pub struct NodeState {
     /// Whether a client has asked that the fetch under way end.
     is_canceled: Cell<bool>,
     fetches: RefCell<LastFetches>,
+    /// What the last client that made the node fetch says of the file, or none if its query is invalid.
+    expected: Cell<Option<ExpectedFile>>,
 }
 
 impl NodeState {
@@ -51,6 +54,7 @@ impl NodeState {
             }),
             is_canceled: Cell::new(false),
             fetches: RefCell::new(LastFetches::new(alloc)),
+            expected: Cell::new(None),
         })
     }
 
@@ -62,6 +66,16 @@ impl NodeState {
     /// Returns whether a client asked for that since the last call.
     pub fn take_cancel(&self) -> bool {
         self.is_canceled.replace(false)
+    }
+
+    /// Notes what a client that makes the node fetch says of the file, or that its query is invalid.
+    pub fn expect(&self, expected: Option<ExpectedFile>) {
+        self.expected.set(expected);
+    }
+
+    /// Returns what the last such client says of the file, or none if its query is invalid.
+    pub fn expected(&self) -> Option<ExpectedFile> {
+        self.expected.get()
     }
 
     /// Keeps what the node is at the beginning of a turn.

@@ -9,6 +9,7 @@ ghost use Rattle.feed_node_machine.specs.Occasions.{terms_of};
 ghost use Rattle.feed_node_service.specs.Reports.{HasReport, HasNoReport, IsReportIn};
 ghost use Rattle.feed_node_service.specs.Responders.{IsHeldBack, IsReplyBy, IsTurnReply, response_in};
 
+use crate::expected_file::ExpectedFile;
 use crate::node_state::NodeState;
 use crate::release_times::release_times;
 use crate::wanted::{WantedPackage, asks_for_fetch, has_each, missing_text};
@@ -111,7 +112,7 @@ impl<'a> FeedResponder<'a> {
     }
 
     // Returns the reply to a reader, or to a client that has the token. It is streamed exactly if the request makes the
-    // node begin to fetch. A request that ends the fetch under way is noted.
+    // node begin to fetch: what this says of the file is noted. So is a request that ends the fetch under way.
     fn reader_reply<K: Keep + Drop>(
         &self,
         alloc: Global,
@@ -130,6 +131,9 @@ impl<'a> FeedResponder<'a> {
         let is_streamed = fetch_to_begin(alloc, request.head, &occasion.policy).is_some();
         let response = self.response(alloc, occasion, request)?;
         self.note_end(request.head, &occasion.policy);
+        if is_streamed {
+            self.state.expect(ExpectedFile::of_request(request.head));
+        }
         let summary = ReplySummary {
             status: response.status(),
             body_len: response.body_length(),

@@ -173,11 +173,13 @@ fn upstream_of(source: Option<Source<'_>>) -> Option<Upstream<'_>> {
         token_file,
         piece,
         fetch_limit,
+        has_any_type,
     } = source?;
     Some(Upstream {
         addr,
         token_file,
         piece,
         fetch_limit,
+        has_any_type,
     })
 }

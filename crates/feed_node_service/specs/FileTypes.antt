@@ -1,0 +1,31 @@
+-- The type that a reply states of a file (RFC 9110, section 8.3).
+use Rattle.std.specs.Prelude.{◌==◌, ◌||◌, ◌-◌, ℕ, Bool, false, List, length, take, drop, codes}
+use Rattle.std.specs.List.{position}
+use Rattle.std.specs.Option.{option_map_or}
+use Rattle.std.specs.Str.{str_eq_ignore_ascii_case}
+use Rattle.httparse.specs.Grammar.{Field}
+use Rattle.feed_http_heads.specs.Fields.{values_named, only}
+
+-- a semicolon, a space or a tab
+abbrev pub ends_media : ℕ → Bool
+ends_media b = b == 59 || (b == 32 || b == 9)
+
+-- the media type of a value, without its parameters
+abbrev pub media_of : List ℕ → List ℕ
+media_of value = option_map_or (λ end. take end value) (position ends_media value) value
+
+-- the last bytes of a text, this many
+abbrev pub last_of : ℕ → List ℕ → List ℕ
+last_of count text = drop (length text - count) text
+
+-- HTML, XML, JSON, PDF or an image, in any case; also by the suffixes of RFC 6839
+abbrev pub is_other_media : List ℕ → Bool
+is_other_media media =
+    str_eq_ignore_ascii_case media (codes "text/html") || str_eq_ignore_ascii_case media (codes "text/xml")
+    || str_eq_ignore_ascii_case media (codes "application/xml") || str_eq_ignore_ascii_case media (codes "application/json")
+    || str_eq_ignore_ascii_case media (codes "application/pdf") || str_eq_ignore_ascii_case (take 6 media) (codes "image/")
+    || str_eq_ignore_ascii_case (last_of 4 media) (codes "+xml") || str_eq_ignore_ascii_case (last_of 5 media) (codes "+json")
+
+-- the only Content-Type field names such a type
+abbrev pub has_other_type : List Field → Bool
+has_other_type fields = option_map_or (λ value. is_other_media (media_of value)) (only (values_named (codes "content-type") fields)) false
