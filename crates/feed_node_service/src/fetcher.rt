@@ -254,7 +254,8 @@ impl<'a> Fetcher<'a> {
             let mut reason = Vec::new(self.rt.alloc());
             let _ = write!(&mut reason, " {fault}");
             self.note(name.text(), FetchOutcome::Refused, &reason);
-            self.state.end_fetch(name, FetchOutcome::Refused, unix_seconds(self.rt));
+            self.state
+                .end_fetch(name, FetchOutcome::Refused, unix_seconds(self.rt));
         }
         let _ = lines.print(format_args!("kbfeed: {fault}"));
         let _ = lines.print(format_args!("status {status}"));
