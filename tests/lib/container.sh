@@ -13,6 +13,7 @@ installed() {
   chmod 700 etc/keys
   cp root/opt/lib/systemd/system/* units
   printf '0123456789abcdef\n' > etc/token
+  : > etc/wanted
   cat > units/inside.service << 'END'
 [Unit]
 Requires=dbus.socket
