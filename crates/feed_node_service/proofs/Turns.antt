@@ -24,7 +24,7 @@ use Rattle.feed_resolver_reply.specs.Replies.{ResponseValue}
 use Rattle.feed_resolver.specs.NodeReplies.{AsksForFetch, AsksForNoFetch, IsNodeReplyAt, SaysOfConnection}
 use Rattle.feed_resolver.specs.FeedReplies.{IsFeedResponse}
 use Rattle.feed_node_service.specs.Responders.{IsReplyBy}
-use Rattle.feed_node_service.specs.Wanted.{HasEach, IsAnswerable, LacksOne}
+use Rattle.feed_node_service.specs.Wanted.{IsAnswerable, IsUnanswerable, LacksOne}
 use Rattle.feed_node_service.specs.declared.responder.FeedResponder.{FeedResponder}
 
 pub as_node : (responder : FeedResponder) (policy : FetchPolicyValue) (today : TodayValue) (bytes body : List ℕ) (keeps : Bool) (h : History) (response : ResponseValue)
@@ -32,12 +32,11 @@ pub as_node : (responder : FeedResponder) (policy : FetchPolicyValue) (today : T
     → IsNodeReplyAt responder.site policy today h bytes body keeps response → IsReplyBy responder policy today h bytes body keeps response
 as_node responder policy today bytes body keeps h response other free is = inr (other, (free, is))
 
--- a request is answered by one of two tests, and held back by neither
-pub answerable_by : (wanted : List (List ℕ)) (h : History) (bytes : List ℕ) (has asks : Bool) → MatchBool has (HasEach h wanted) (LacksOne h wanted)
-    → MatchBool asks (AsksForFetch bytes) (AsksForNoFetch bytes) → (has || asks) ≡ true → IsAnswerable wanted h bytes
-answerable_by wanted h bytes true asks each fetch one = inl each
-answerable_by wanted h bytes false true each fetch one = inr fetch
-answerable_by wanted h bytes false false each fetch one = absurd (cc)
+-- a request is answered by the second of two tests, or by neither
+pub answered_by : (wanted : List (List ℕ)) (h : History) (bytes : List ℕ) (asks : Bool) → LacksOne h wanted
+    → MatchBool asks (AsksForFetch bytes) (AsksForNoFetch bytes) → MatchBool asks (IsAnswerable wanted h bytes) (IsUnanswerable wanted h bytes)
+answered_by wanted h bytes true lacks fetch = inr fetch
+answered_by wanted h bytes false lacks none = (lacks, none)
 
 -- a response with these parts
 pub same_response : (r : ResponseValue) (bytes : List ℕ) (status size : ℕ) → bytes ≡ r.bytes → status ≡ r.status → size ≡ r.body_length

@@ -5,13 +5,13 @@ use Rattle.feed_model.specs.History.{History}
 use Rattle.feed_node_connection.specs.declared.respond.Reply.{Reply}
 use Rattle.feed_resolver_request.specs.FetchRequests.{FetchPolicyValue, IsWhetherToBegin}
 use Rattle.feed_resolver_reply.specs.Replies.{ResponseValue}
-use Rattle.feed_resolver.specs.NodeReplies.{AsksForNoFetch, IsNodeReplyAt}
+use Rattle.feed_resolver.specs.NodeReplies.{IsNodeReplyAt}
 use Rattle.feed_resolver.specs.FeedReplies.{IsFeedResponse}
 use Rattle.feed_monitoring.specs.declared.report_text.ReportReply.{ReportReply}
 use Rattle.feed_node_machine.specs.Rules.{Terms}
 use Rattle.feed_node_service.specs.declared.responder.FeedResponder.{FeedResponder}
 use Rattle.feed_node_service.specs.Reports.{IsReportFor, HasNoReport}
-use Rattle.feed_node_service.specs.Wanted.{IsAnswerable, LacksOne}
+use Rattle.feed_node_service.specs.Wanted.{IsAnswerable, IsUnanswerable}
 
 -- the reply about the recorded releases, if the bytes ask for them, and otherwise that of a node whose feed has this history,
 -- on this day; readers have one only if no wanted package lacks a release
@@ -24,7 +24,7 @@ IsReplyBy responder policy today h bytes body keeps response =
 -- a reader has no such reply, exactly because a wanted package lacks a release
 abbrev pub IsHeldBack : FeedResponder → FetchPolicyValue → History → List ℕ → Bool → Type 0
 IsHeldBack responder policy h bytes keeps =
-    IsFeedResponse policy bytes keeps None × LacksOne h responder.wanted.now × AsksForNoFetch bytes
+    IsFeedResponse policy bytes keeps None × IsUnanswerable responder.wanted.now h bytes
 
 -- the same reply; it is streamed exactly if the node begins to fetch by this policy
 abbrev pub IsTurnReply : FeedResponder → FetchPolicyValue → TodayValue → History → List ℕ → List ℕ → Bool → ResponseValue → Bool → Type 0

@@ -5,7 +5,7 @@ use Rattle.std.specs.Str.{bytes_eq}
 use Rattle.feed_names.specs.ReleaseName.{Name}
 use Rattle.feed_model.specs.History.{History, Reports}
 use Rattle.feed_releases.specs.Actives.{ActiveValue}
-use Rattle.feed_resolver.specs.NodeReplies.{AsksForFetch}
+use Rattle.feed_resolver.specs.NodeReplies.{AsksForFetch, AsksForNoFetch}
 use Rattle.feed_node_service.specs.declared.wanted.TheConstants.{MISSING}
 
 -- a feed with this history reports a release of the package
@@ -23,6 +23,10 @@ LacksOne h wanted = (stem : List ℕ) × Contains wanted stem × Reports h stem 
 -- a request that asks nothing of the feed is answered: no wanted package lacks a release, or it asks the node to fetch
 abbrev pub IsAnswerable : List (List ℕ) → History → List ℕ → Type 0
 IsAnswerable wanted h bytes = HasEach h wanted ⊎ AsksForFetch bytes
+
+-- it is not: a wanted package lacks a release, and it does not ask the node to fetch
+abbrev pub IsUnanswerable : List (List ℕ) → History → List ℕ → Type 0
+IsUnanswerable wanted h bytes = LacksOne h wanted × AsksForNoFetch bytes
 
 -- one of the active releases is of the package
 abbrev pub has_package : List ActiveValue → List ℕ → Bool

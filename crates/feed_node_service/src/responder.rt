@@ -1,5 +1,5 @@
 //! The replies of a node to its requests.
-ghost use Rattle.std.specs.Prelude.{◌≡◌, Err, IfOk, IfSome, MatchBool};
+ghost use Rattle.std.specs.Prelude.{◌≡◌, Err, IfNone, IfOk, IfSome, MatchBool};
 ghost use Rattle.feed_model.specs.History.{History};
 ghost use Rattle.feed_model.specs.Content.{IsContent};
 ghost use Rattle.feed_releases.specs.Feeds.{recorded};
@@ -12,7 +12,7 @@ ghost use Rattle.feed_node_service.specs.Responders.{IsHeldBack, IsReplyBy, IsTu
 use crate::expected_file::ExpectedFile;
 use crate::node_state::NodeState;
 use crate::release_times::release_times;
-use crate::wanted::{WantedPackage, asks_for_fetch, has_each, missing_text};
+use crate::wanted::{WantedPackage, is_answerable, missing_text};
 use feed_http_heads::Request;
 use feed_keep::Keep;
 use feed_monitoring::{ReportReply, gets_report};
@@ -39,21 +39,41 @@ pub struct FeedResponder<'a> {
     pub wanted: &'a [WantedPackage],
 }
 
+// Returns the reply with this response, which is streamed or not.
+fn into_reply(response: Response, is_streamed: bool) -> Reply
+    ensures response { response_in result ≡ response }
+    ensures streamed { result.summary.is_streamed ≡ is_streamed }
+{
+    let summary = ReplySummary {
+        status: response.status(),
+        body_len: response.body_length(),
+        is_streamed,
+        fault: None,
+    };
+    Reply {
+        bytes: response.into_bytes(),
+        summary,
+    }
+}
+
 impl<'a> FeedResponder<'a> {
-    // Returns the reply to a request that is not for a report. While a wanted package has no active release, readers
-    // get none.
+    // Returns the reply to a request that is not for a report, or none to a reader while a wanted package has no active
+    // release.
     fn response<K: Keep + Drop>(
         &self,
         alloc: Global,
         occasion: &Occasion<'_, '_, K>,
         request: &IncomingRequest<'_>,
-    ) -> Result<Response, RespondFault>
-        ensures reply { IfOk result (λ response. (h : History) → IsContent (recorded occasion.now.feed.now) h
+    ) -> Result<Option<Response>, AllocError>
+        ensures reply { IfOk result (λ found. IfSome found (λ response.
+            (h : History) → IsContent (recorded occasion.now.feed.now) h
             → IsReplyBy self.now occasion.now.policy occasion.now.today h
-            request.now.head.now request.now.body.now request.now.persists response) }
-        ensures says { IfOk result (λ response. SaysOfConnection request.now.head.now request.now.persists response) }
-        ensures held { result ≡ Err RespondFault.Busy → (h : History) → IsContent (recorded occasion.now.feed.now) h
-            → IsHeldBack self.now occasion.now.policy h request.now.head.now request.now.persists }
+            request.now.head.now request.now.body.now request.now.persists response)) }
+        ensures says { IfOk result (λ found. IfSome found (λ response.
+            SaysOfConnection request.now.head.now request.now.persists response)) }
+        ensures held { IfOk result (λ found. IfNone found (
+            (h : History) → IsContent (recorded occasion.now.feed.now) h
+            → IsHeldBack self.now occasion.now.policy h request.now.head.now request.now.persists)) }
     {
         let policy = &occasion.policy;
         let feed = occasion.feed;
@@ -61,10 +81,10 @@ impl<'a> FeedResponder<'a> {
             .state
             .feed_reply(alloc, request.head, request.persists, policy, feed)?
         {
-            Some(response) => Ok(response),
+            Some(response) => Ok(Some(response)),
             None => {
-                if !has_each(feed, self.wanted) && !asks_for_fetch(request.head) {
-                    return Err(RespondFault::Busy);
+                if !is_answerable(feed, self.wanted, request.head) {
+                    return Ok(None);
                 }
                 let response = respond_as_node(
                     alloc,
@@ -76,7 +96,7 @@ impl<'a> FeedResponder<'a> {
                     &occasion.today,
                     feed,
                 )?;
-                Ok(response)
+                Ok(Some(response))
             }
         }
     }
@@ -129,21 +149,23 @@ impl<'a> FeedResponder<'a> {
             → IsHeldBack self.now occasion.now.policy h request.now.head.now request.now.persists }
     {
         let is_streamed = fetch_to_begin(alloc, request.head, &occasion.policy).is_some();
-        let response = self.response(alloc, occasion, request)?;
-        self.note_end(request.head, &occasion.policy);
-        if is_streamed {
-            self.state.expect(ExpectedFile::of_request(request.head));
+        match self.response(alloc, occasion, request) {
+            Ok(Some(response)) => {
+                self.note(request.head, &occasion.policy, is_streamed);
+                Ok(into_reply(response, is_streamed))
+            }
+            Ok(None) => Err(RespondFault::Busy),
+            Err(_) => Err(RespondFault::Memory),
         }
-        let summary = ReplySummary {
-            status: response.status(),
-            body_len: response.body_length(),
-            is_streamed,
-            fault: None,
-        };
-        Ok(Reply {
-            bytes: response.into_bytes(),
-            summary,
-        })
+    }
+
+    // Notes what a request says of the file that the node begins to fetch for it, or that the fetch under way ends by
+    // it.
+    fn note(&self, bytes: &[u8], policy: &FetchPolicy<'_>, is_streamed: bool) {
+        self.note_end(bytes, policy);
+        if is_streamed {
+            self.state.expect(ExpectedFile::of_request(bytes));
+        }
     }
 
     // Has the node end the fetch that is under way, if the request asks for that and has the token.

@@ -1,12 +1,16 @@
 //! The packages that a node waits for before it answers readers.
-ghost use Rattle.std.specs.Prelude.{◌≡◌, ◌++◌, IfOk, MatchBool, OnOk};
+ghost use Rattle.std.specs.Prelude.{◌≡◌, ◌&&◌, ◌++◌, IfOk, MatchBool, OnOk, is_some, not};
+ghost use Rattle.httparse.specs.Grammar.{RequestHead};
+ghost use Rattle.feed_http_heads.specs.Requests.{HasHead, IsInBuffer, lacks_host};
 ghost use Rattle.feed_model.specs.History.{History};
 ghost use Rattle.feed_model.specs.Content.{IsContent};
 ghost use Rattle.feed_releases.specs.Feeds.{recorded};
+ghost use Rattle.feed_resolver_request.specs.FetchRequests.{name_to_fetch};
 ghost use Rattle.feed_resolver.specs.NodeReplies.{AsksForFetch, AsksForNoFetch};
-ghost use Rattle.feed_node_service.specs.Wanted.{HasEach, LacksOne, has_package, missing_line, missing_text};
+ghost use Rattle.feed_node_service.specs.Wanted.{HasEach, IsAnswerable, IsUnanswerable, LacksOne};
+ghost use Rattle.feed_node_service.specs.Wanted.{has_package, missing_line, missing_text};
 
-use feed_http_heads::FIELD_LIMIT;
+use feed_http_heads::{FIELD_LIMIT, Request};
 use feed_keep::Keep;
 use feed_releases::{ActiveRelease, Feed};
 use feed_resolver_request::{find_request, name_to_fetch};
@@ -54,8 +58,8 @@ fn has_package(actives: &[ActiveRelease<'_>], package: &[u8]) -> bool
         .any(|active| active.name().package() == package)
 }
 
-/// Returns whether each wanted package has an active release.
-pub(crate) fn has_each<K: Keep + Drop>(feed: &Feed<K>, wanted: &[WantedPackage]) -> bool
+// Returns whether each wanted package has an active release.
+fn has_each<K: Keep + Drop>(feed: &Feed<K>, wanted: &[WantedPackage]) -> bool
     ensures { (h : History) → IsContent (recorded feed.now) h
         → MatchBool result (HasEach h wanted.now) (LacksOne h wanted.now) }
 {
@@ -97,13 +101,37 @@ pub(crate) fn missing_text(
     Ok(text)
 }
 
-/// Returns whether a request asks the node to fetch, whoever sent it.
-pub(crate) fn asks_for_fetch(bytes: &[u8]) -> bool
+fn is_fetch(request: &Request<'_>) -> bool
+    requires { IsInBuffer request.now }
+    ensures { (head : RequestHead) → HasHead request.now head
+        → result ≡ (not (lacks_host head) && is_some (name_to_fetch head)) }
+{
+    !request.lacks_host() && name_to_fetch(request).is_some()
+}
+
+// Returns whether a request asks the node to fetch, whoever sent it.
+fn asks_for_fetch(bytes: &[u8]) -> bool
     ensures { MatchBool result (AsksForFetch bytes.now) (AsksForNoFetch bytes.now) }
 {
     let mut headers = [EMPTY_HEADER_SPAN; FIELD_LIMIT];
     match find_request(bytes, &mut headers) {
-        Some(request) => !request.lacks_host() && name_to_fetch(&request).is_some(),
+        Some(request) => is_fetch(&request),
         None => false,
     }
+}
+
+/// Returns whether a request that asks nothing of the feed is answered: each wanted package has an active release, or
+/// the request asks the node to fetch.
+pub(crate) fn is_answerable<K: Keep + Drop>(
+    feed: &Feed<K>,
+    wanted: &[WantedPackage],
+    bytes: &[u8],
+) -> bool
+    ensures { (h : History) → IsContent (recorded feed.now) h
+        → MatchBool result (IsAnswerable wanted.now h bytes.now) (IsUnanswerable wanted.now h bytes.now) }
+{
+    if has_each(feed, wanted) {
+        return true;
+    }
+    asks_for_fetch(bytes)
 }

@@ -1,4 +1,5 @@
 use Rattle.std.proofs.Common.{refl, inl, inr}
+use Rattle.std.proofs.lemmas.Result.{IfOk-weaker}
 use Rattle.feed_node_service.specs.Responders.{response_in}
 use Rattle.feed_node_service.proofs.Turns.{says_in_turn}
 use Rattle.feed_node_service.proofs.responder.FeedResponderFeedRespond.respond.Goals as goal
@@ -6,13 +7,12 @@ use Rattle.feed_node_service.proofs.responder.FeedResponderFeedRespond.respond.G
 pub returns-in-Some-clause-reply : goal.returns-in-Some-clause-reply
 returns-in-Some-clause-reply g c = λ h is. inl (c.in-Some.reply, (rw c.in-Some.is at c.in_ok-reply.ensures.value) h is, rw c.new.ensures refl)
 
-pub returns-in_ok-reader_reply-in-None-clause-reply : goal.returns-in_ok-reader_reply-in-None-clause-reply
-returns-in_ok-reader_reply-in-None-clause-reply g c = λ h is. inr (
+pub returns-in-None-clause-reply : goal.returns-in-None-clause-reply
+returns-in-None-clause-reply g c = IfOk-weaker c.reader_reply.result _ _ (λ reply turn. λ h is. inr (
   (rw c.in-None.is at c.in_ok-reply.ensures.value) h is,
-  (response_in c.in_ok-reader_reply-in-None.field-0, c.in_ok-reader_reply-in-None.field-0.summary.is_streamed, c.in_ok-reader_reply-in-None.ensures.turn h is, refl),
-)
+  (response_in reply, reply.summary.is_streamed, turn h is, refl),
+)) c.reader_reply.ensures.turn
 
-pub returns-in_ok-reader_reply-in-None-clause-says : goal.returns-in_ok-reader_reply-in-None-clause-says
-returns-in_ok-reader_reply-in-None-clause-says g c =
-    says_in_turn c.args.request.now.head.now c.args.request.now.body.now c.args.request.now.persists (response_in c.in_ok-reader_reply-in-None.field-0) c.requires.allowed
-    c.in_ok-reader_reply-in-None.ensures.says
+pub returns-in-None-clause-says : goal.returns-in-None-clause-says
+returns-in-None-clause-says g c = IfOk-weaker c.reader_reply.result _ _ (λ reply says.
+    says_in_turn c.args.request.now.head.now c.args.request.now.body.now c.args.request.now.persists (response_in reply) c.requires.allowed says) c.reader_reply.ensures.says
