@@ -1,29 +1,31 @@
 -- The written query is understood as the query for which it is written.
-use Rattle.std.proofs.Common.{◌≡◌, ℕ, false, ◌||◌, List, [], ◌∷◌, Option}
+use Rattle.std.proofs.Common.{◌≡◌, ℕ, false, ◌||◌, List, [], ◌∷◌, ◌++◌, Option}
 use Rattle.std.proofs.Common.{Some, None, if◌then◌else◌, codes, refl, ap, ◌∙◌, map, arith}
-use Rattle.std.specs.Prelude.{IfSome}
-use Rattle.std.specs.List.{cons_option, filter_map, list_any}
+use Rattle.std.specs.Prelude.{IfSome, option_map}
+use Rattle.std.specs.List.{All, cons_option, filter_map, flat_map, list_any}
 use Rattle.std.proofs.lemmas.Bool.{le-ltb}
+use Rattle.std.proofs.lemmas.List.Elements.{All-head, All-tail}
 use Rattle.percent_encoding.specs.Percent.{percent_decode}
-use Rattle.feed_answer.specs.Pairs.{first}
-use Rattle.feed_answer.specs.Queries.{has_other_format, query_isbns, query_issns}
-use Rattle.feed_openurl.specs.Core.{core_isbns, core_issns, is_refused}
-use Rattle.feed_openurl.specs.Identifiers.{IdentifiersValue, LookedUp, are_none, core_identifiers, count, identifier_limit, looked_up}
-use Rattle.feed_openurl.specs.Identifiers.{looked_up_of_others, or_text, other_identifiers, reason_without, refused, within_limit, within_or}
-use Rattle.feed_openurl.specs.Keys.{keyed}
+use Rattle.feed_answer.specs.IdentifierSet.{identifier_set}
+use Rattle.feed_answer.specs.Pairs.{first, isbn_of_pair}
+use Rattle.feed_openurl.specs.Identifiers.{IdentifiersValue, LookedUp, are_none, as_isbn, as_issn, count, identifier_limit, identifiers_among}
+use Rattle.feed_openurl.specs.Identifiers.{identifiers_of, looked_up, number_or_others, numbers_of_pair, reason_by, reason_without, refused, within_limit}
+use Rattle.feed_openurl.specs.Keys.{keyed, or_text}
 use Rattle.feed_openurl.specs.Kinds.{formats_of, names_other_format, names_other_version}
 use Rattle.feed_openurl.specs.Laws.{WrittenIsItself, WrittenIsUnderstood, of_written, refusal_of_written}
+use Rattle.feed_openurl.specs.Numbers.{number_or, numbers_in}
 use Rattle.feed_openurl.specs.Texts.{IsDateText, IsVolumeText}
 use Rattle.feed_openurl.specs.Tiers.{date_in, date_of, lenient_date_of, lenient_volume_of, strict_date_of, strict_volume_of, volume_in, volume_of}
-use Rattle.feed_openurl.specs.Values.{AreIdentifiers, IsCounted, IsWellFormed, UnderstandingValue, understood_pairs}
-use Rattle.feed_openurl.specs.Written.{date_pairs, pairs_for, version_pair, volume_pairs, written}
+use Rattle.feed_openurl.specs.Values.{AreIdentifiers, IsCounted, IsIsbnText, IsIssnText, IsWellFormed, UnderstandingValue, understood_pairs}
+use Rattle.feed_openurl.specs.Written.{date_pairs, isbn_pairs, issn_pairs, pairs_for, version_pair, volume_pairs, written}
 use Rattle.feed_openurl.specs.declared.fault.Refusal.{Refusal}
 use Rattle.feed_openurl.specs.declared.fault.Refusal.TheVariants as reason
 use Rattle.feed_openurl.specs.declared.key.Key.{Key}
 use Rattle.feed_openurl.specs.declared.key.Tier.{Tier}
 use Rattle.feed_openurl.specs.declared.key.Tier.TheVariants.{Old, Rft}
-use Rattle.feed_openurl.proofs.Kept.{found_kept}
-use Rattle.feed_openurl.proofs.Written.{Pair, date_written, no_format, no_version, none_read, own_isbns, own_issns, some_are, volume_written, written_pairs, written_parses}
+use Rattle.feed_openurl.specs.declared.number.Number.TheVariants.{Isbn, Issn}
+use Rattle.feed_openurl.proofs.Contained.{found_kept}
+use Rattle.feed_openurl.proofs.Written.{Pair, date_written, none_read, set_of_ascending, some_are, volume_written, written_pairs, written_parses}
 
 -- what is read of the values is read of their pairs
 mapped : {A : Type 0} (read : Key × List ℕ → Option A) (pairs : List Pair) → filter_map read (map keyed pairs) ≡ filter_map (λ pair. read (keyed pair)) pairs
@@ -89,37 +91,93 @@ identifiers issns isbns = record { issns = issns; isbns = isbns }
 abbrev looked : List (List ℕ) → List (List ℕ) → Option Refusal → LookedUp
 looked issns isbns refusal = record { issns = issns; isbns = isbns; refusal = refusal }
 
+-- a pair that is written has the one number that the core reads
+issn_alone : (issn : List ℕ) → IsIssnText issn → numbers_of_pair (codes "rft.issn", issn) ≡ Issn issn ∷ []
+unfolding numbers_of_pair
+issn_alone issn is = ap (λ (o : Option (List ℕ)). number_or_others (number_or o (option_map Isbn (isbn_of_pair (codes "rft.issn", issn)))) (numbers_in issn)) is
+
+isbn_alone : (isbn : List ℕ) → IsIsbnText isbn → numbers_of_pair (codes "rft.isbn", isbn) ≡ Isbn isbn ∷ []
+unfolding numbers_of_pair
+isbn_alone isbn is = ap (λ (o : Option (List ℕ)). number_or_others (number_or None (option_map Isbn o)) (numbers_in isbn)) is
+
+version_alone : numbers_of_pair version_pair ≡ []
+unfolding numbers_of_pair
+version_alone = refl
+
+date_alone : (date : List ℕ) → numbers_of_pair (codes "rft.date", date) ≡ []
+unfolding numbers_of_pair
+date_alone date = refl
+
+volume_alone : (volume : List ℕ) → numbers_of_pair (codes "rft.volume", volume) ≡ []
+unfolding numbers_of_pair
+volume_alone volume = refl
+
+last_alone : (date volume : Option (List ℕ)) → flat_map numbers_of_pair (date_pairs date ++ volume_pairs volume) ≡ []
+last_alone None None = refl
+last_alone None (Some volume) = ap (λ l. l ++ []) (volume_alone volume)
+last_alone (Some date) None = ap (λ l. l ++ []) (date_alone date)
+last_alone (Some date) (Some volume) =
+    ap (λ l. l ++ (numbers_of_pair (codes "rft.volume", volume) ++ [])) (date_alone date) ∙ ap (λ l. l ++ []) (volume_alone volume)
+
+issns_alone : (issns : List (List ℕ)) (rest : List Pair) → All IsIssnText issns
+    → flat_map numbers_of_pair (issn_pairs issns ++ rest) ≡ map Issn issns ++ flat_map numbers_of_pair rest
+issns_alone [] rest all = refl
+issns_alone (issn ∷ issns) rest all =
+    ap (λ l. l ++ flat_map numbers_of_pair (issn_pairs issns ++ rest)) (issn_alone issn (All-head IsIssnText issn issns all))
+    ∙ ap (λ l. Issn issn ∷ l) (issns_alone issns rest (All-tail IsIssnText issn issns all))
+
+isbns_alone : (isbns : List (List ℕ)) (rest : List Pair) → All IsIsbnText isbns
+    → flat_map numbers_of_pair (isbn_pairs isbns ++ rest) ≡ map Isbn isbns ++ flat_map numbers_of_pair rest
+isbns_alone [] rest all = refl
+isbns_alone (isbn ∷ isbns) rest all =
+    ap (λ l. l ++ flat_map numbers_of_pair (isbn_pairs isbns ++ rest)) (isbn_alone isbn (All-head IsIsbnText isbn isbns all))
+    ∙ ap (λ l. Isbn isbn ∷ l) (isbns_alone isbns rest (All-tail IsIsbnText isbn isbns all))
+
+-- the ISSNs and the ISBNs among these numbers
+issns_in : (issns isbns : List (List ℕ)) → filter_map as_issn (map Issn issns ++ (map Isbn isbns ++ [])) ≡ issns
+issns_in [] [] = refl
+issns_in [] (isbn ∷ isbns) = issns_in [] isbns
+issns_in (issn ∷ issns) isbns = ap (λ l. issn ∷ l) (issns_in issns isbns)
+
+isbns_in : (issns isbns : List (List ℕ)) → filter_map as_isbn (map Issn issns ++ (map Isbn isbns ++ [])) ≡ isbns
+isbns_in [] [] = refl
+isbns_in [] (isbn ∷ isbns) = ap (λ l. isbn ∷ l) (isbns_in [] isbns)
+isbns_in (issn ∷ issns) isbns = isbns_in issns isbns
+
 module _ (issns isbns : List (List ℕ)) (date volume : Option (List ℕ)) (are : AreIdentifiers issns isbns) where
   abbrev pairs : List Pair
   pairs = pairs_for issns isbns date volume
 
-  accepted : is_refused pairs ≡ false
-  accepted = ap (λ b. b || has_other_format pairs) (no_version issns isbns date volume are) ∙ no_format issns isbns date volume are
+  numbers_are : flat_map numbers_of_pair pairs ≡ map Issn issns ++ (map Isbn isbns ++ [])
+  numbers_are =
+      let last = date_pairs date ++ volume_pairs volume in
+      ap (λ l. l ++ flat_map numbers_of_pair (issn_pairs issns ++ (isbn_pairs isbns ++ last))) version_alone
+      ∙ issns_alone issns (isbn_pairs isbns ++ last) are.issns_parse
+      ∙ ap (λ l. map Issn issns ++ l) (isbns_alone isbns last are.isbns_parse ∙ ap (λ l. map Isbn isbns ++ l) (last_alone date volume))
 
-  core_are : core_identifiers pairs ≡ identifiers issns isbns
-  core_are =
-      let first : core_issns pairs ≡ issns = ap (λ b. if b then [] else query_issns pairs) accepted ∙ own_issns issns isbns date volume are in
-      let second : core_isbns pairs ≡ isbns = ap (λ b. if b then [] else query_isbns pairs) accepted ∙ own_isbns issns isbns date volume are in
-      ap (λ l. identifiers l (core_isbns pairs)) first ∙ ap (identifiers issns) second
+  identifiers_are : identifiers_of pairs ≡ identifiers issns isbns
+  identifiers_are =
+      let all = map Issn issns ++ (map Isbn isbns ++ []) in
+      let first = ap identifier_set (issns_in issns isbns) ∙ set_of_ascending issns are.issns_ascend in
+      let second = ap identifier_set (isbns_in issns isbns) ∙ set_of_ascending isbns are.isbns_ascend in
+      ap identifiers_among numbers_are
+      ∙ ap (λ l. identifiers l (identifier_set (filter_map as_isbn all))) first ∙ ap (identifiers issns) second
 
-  looked_core : looked_up pairs ≡ (if are_none (identifiers issns isbns) then looked_up_of_others (map keyed pairs) else within_limit (identifiers issns isbns))
-  looked_core = ap (λ f. if are_none f then looked_up_of_others (map keyed pairs) else within_limit f) core_are
+  looked_so : looked_up pairs ≡ (if are_none (identifiers issns isbns) then refused (reason_without (map keyed pairs)) else within_limit (identifiers issns isbns))
+  looked_so = ap (λ f. if are_none f then refused (reason_without (map keyed pairs)) else within_limit f) identifiers_are
 
 -- a query with the version alone, a date and a volume has nothing to look up
 version_named : names_other_version (keyed version_pair) ≡ false
 unfolding percent_decode
 version_named = refl
 
-abbrev not_versions : List (Key × List ℕ) → LookedUp
-not_versions values =
-    if list_any names_other_format values then refused reason.OtherFormat
-    else within_or (reason_without (formats_of values)) (other_identifiers (formats_of values) values)
+nothing_of : (values : List (Key × List ℕ)) → list_any names_other_version values ≡ false
+    → (if list_any names_other_format values then reason.OtherFormat else reason_by (formats_of values)) ≡ reason.NoIssn
+    → reason_without values ≡ reason.NoIssn
+nothing_of values first second =
+    ap (λ b. if b then reason.Version else if list_any names_other_format values then reason.OtherFormat else reason_by (formats_of values)) first ∙ second
 
-nothing_of : (values : List (Key × List ℕ)) → list_any names_other_version values ≡ false → not_versions values ≡ refused reason.NoIssn
-    → looked_up_of_others values ≡ refused reason.NoIssn
-nothing_of values first second = ap (λ b. if b then refused reason.Version else not_versions values) first ∙ second
-
-nothing : (date volume : Option (List ℕ)) → looked_up_of_others (map keyed (pairs_for [] [] date volume)) ≡ refused reason.NoIssn
+nothing : (date volume : Option (List ℕ)) → reason_without (map keyed (pairs_for [] [] date volume)) ≡ reason.NoIssn
 nothing None None = nothing_of (map keyed (pairs_for [] [] None None)) (ap (λ b. b || false) version_named) refl
 nothing None (Some volume) = nothing_of (map keyed (pairs_for [] [] None (Some volume))) (ap (λ b. b || false) version_named) refl
 nothing (Some date) None = nothing_of (map keyed (pairs_for [] [] (Some date) None)) (ap (λ b. b || false) version_named) refl
@@ -128,9 +186,10 @@ nothing (Some date) (Some volume) = nothing_of (map keyed (pairs_for [] [] (Some
 looked_again : (issns isbns : List (List ℕ)) (date volume : Option (List ℕ)) (refusal : Option Refusal) → AreIdentifiers issns isbns → IsCounted issns isbns refusal
     → looked_up (pairs_for issns isbns date volume) ≡ looked issns isbns (refusal_of_written refusal)
 looked_again issns isbns date volume None are is =
-    looked_core issns isbns date volume are
-    ∙ found_kept (identifiers issns isbns) (looked_up_of_others (map keyed (pairs_for issns isbns date volume))) (some_are issns isbns is.0) (le-ltb identifier_limit (count issns isbns) is.1)
-looked_again [] [] date volume (Some why) are is = looked_core [] [] date volume are ∙ nothing date volume
+    looked_so issns isbns date volume are
+    ∙ found_kept (identifiers issns isbns) (refused (reason_without (map keyed (pairs_for issns isbns date volume)))) (some_are issns isbns is.0)
+    (le-ltb identifier_limit (count issns isbns) is.1)
+looked_again [] [] date volume (Some why) are is = looked_so [] [] date volume are ∙ ap refused (nothing date volume)
 looked_again [] (isbn ∷ isbns) date volume (Some why) are is = absurd (omega (arith, is))
 looked_again (issn ∷ issns) isbns date volume (Some why) are is = absurd (omega (arith, is))
 

@@ -36,7 +36,7 @@ empty_part (Some (Pmid, rank)) choices = refl
 empty_passes : (k : Key) (name : List ℕ) (choices : ChoicesValue) → with_offered (offer_by k name []) choices ≡ choices
 empty_passes key.Version name choices = refl
 empty_passes key.Format name choices = refl
-empty_passes (key.Number tier) name choices = refl
+empty_passes key.Number name choices = refl
 empty_passes (key.Name tier) name choices = refl
 empty_passes (key.Date tier) name choices = refl
 empty_passes (key.Volume tier) name choices = refl
@@ -52,7 +52,7 @@ dropped_offers key.Other name value None is h = ap (λ (f : Option (Part × ℕ)
 dropped_offers key.Other name value (Some part) is h = absurd (let u : false ≡ true = h in cc)
 dropped_offers key.Version name value found is h = absurd (let u : false ≡ true = h in cc)
 dropped_offers key.Format name value found is h = absurd (let u : false ≡ true = h in cc)
-dropped_offers (key.Number tier) name value found is h = absurd (let u : false ≡ true = h in cc)
+dropped_offers key.Number name value found is h = absurd (let u : false ≡ true = h in cc)
 dropped_offers (key.Name tier) name value found is h = absurd (let u : false ≡ true = h in cc)
 dropped_offers (key.Date tier) name value found is h = absurd (let u : false ≡ true = h in cc)
 dropped_offers (key.Volume tier) name value found is h = absurd (let u : false ≡ true = h in cc)

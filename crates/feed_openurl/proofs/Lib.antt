@@ -1,5 +1,9 @@
 pub mod Sizes
 pub mod Kept
+pub mod Members
+pub mod Swapped
+pub mod Contained
+pub mod Unread
 pub mod Valid
 pub mod Written
 pub mod Parts

@@ -23,20 +23,14 @@ module _ {A B : Type 0} (f : A → Option B) (xs : List A) (i : ℕ) (x : A) whe
   left_next old new all within at is same was =
       ap (λ l. l ++ filter_map f (drop (i + 1) xs)) same ∙ ap (λ l. old ++ l) (next None within at is) ∙ was
 
-  -- the same for a list of each element that is kept
-  module _ {C : Type 0} (g : B → List C) where
-    pub all_next : (old new all : List C) (y : B) → i < length xs → x ≡ get_or xs i x → f x ≡ Some y → new ≡ old ++ g y
-        → old ++ flat_map g (filter_map f (drop i xs)) ≡ all → new ++ flat_map g (filter_map f (drop (i + 1) xs)) ≡ all
-    all_next old new all y within at is written was =
-        ap (λ l. l ++ flat_map g (filter_map f (drop (i + 1) xs))) written
-        ∙ append_assoc old (g y) (flat_map g (filter_map f (drop (i + 1) xs)))
-        ∙ ap (λ l. old ++ flat_map g l) (next (Some y) within at is)
-        ∙ was
-
-    pub none_next : (old new all : List C) → i < length xs → x ≡ get_or xs i x → f x ≡ None → new ≡ old
-        → old ++ flat_map g (filter_map f (drop i xs)) ≡ all → new ++ flat_map g (filter_map f (drop (i + 1) xs)) ≡ all
-    none_next old new all within at is same was =
-        ap (λ l. l ++ flat_map g (filter_map f (drop (i + 1) xs))) same ∙ ap (λ l. old ++ flat_map g l) (next None within at is) ∙ was
+-- the list of an element that is appended
+pub flat_next : {A B : Type 0} (g : A → List B) (xs : List A) (i : ℕ) (x : A) (old new all : List B) → i < length xs → x ≡ get_or xs i x
+    → new ≡ old ++ g x → old ++ flat_map g (drop i xs) ≡ all → new ++ flat_map g (drop (i + 1) xs) ≡ all
+flat_next g xs i x old new all within at written was =
+    ap (λ l. l ++ flat_map g (drop (i + 1) xs)) written
+    ∙ append_assoc old (g x) (flat_map g (drop (i + 1) xs))
+    ∙ ap (λ l. old ++ l) (sym (ap (flat_map g) (drop_more xs i x within) ∙ ap (λ a. g a ++ flat_map g (drop (i + 1) xs)) (sym at)))
+    ∙ was
 
 -- a text that is appended
 pub text_next : (xs : List (List ℕ)) (i : ℕ) (x old new all : List ℕ) → i < length xs → x ≡ get_or xs i x → new ≡ old ++ x

@@ -1,7 +1,7 @@
 -- The identifiers that are looked up for a query parse, ascend, and are within the limit.
 use Rattle.std.proofs.Common.{◌≡◌, ◌<◌, ℕ, Bool, true, false, ◌&&◌, ◌||◌, List, [], ◌∷◌, ◌++◌, take, drop, Option, Some, None, if◌then◌else◌}
 use Rattle.std.proofs.Common.{codes, refl, map, arith}
-use Rattle.std.specs.Prelude.{IfSome, fold, nat_lt}
+use Rattle.std.specs.Prelude.{IfSome, fold, nat_lt, option_map}
 use Rattle.std.specs.BTreeSet.{insert_key}
 use Rattle.std.specs.List.{All, concat, cons_option, filter_map, flat_map, list_any}
 use Rattle.std.proofs.lemmas.Bool.{ltb-false}
@@ -13,22 +13,17 @@ use Rattle.feed_identifiers.specs.Laws.{PrintedFormParses}
 use Rattle.feed_answer.specs.IdentifierSet.{IsAscending, bytes_cmp, identifier_set}
 use Rattle.feed_answer.specs.Laws.{SetsAscend}
 use Rattle.feed_answer.specs.Pairs.{has_key, has_prefix, is_empty, isbn_of_pair, issn_of_pair, issn_of_urn}
-use Rattle.feed_answer.specs.Queries.{has_book_format, has_journal_format}
-use Rattle.feed_openurl.specs.Core.{is_refused}
-use Rattle.feed_openurl.specs.Identifiers.{IdentifiersValue, LookedUp, are_none, as_isbn, as_issn, core_identifiers, count, first_tier, identifier_limit}
-use Rattle.feed_openurl.specs.Identifiers.{identifiers_for, looked_up, looked_up_of_others, number_text, numbers_of, other_identifiers}
-use Rattle.feed_openurl.specs.Identifiers.{reason_without, refused, within_limit}
+use Rattle.feed_openurl.specs.Identifiers.{IdentifiersValue, LookedUp, are_none, as_isbn, as_issn, core_number, count, identifier_limit}
+use Rattle.feed_openurl.specs.Identifiers.{identifiers_among, identifiers_of, looked_up, number_or_others, number_text, numbers_in_text}
+use Rattle.feed_openurl.specs.Identifiers.{numbers_of_pair, reason_without, refused, within_limit}
 use Rattle.feed_openurl.specs.Keys.{keyed}
-use Rattle.feed_openurl.specs.Kinds.{formats_of, names_other_format, names_other_version}
-use Rattle.feed_openurl.specs.Numbers.{begins_with_digit, first_number, first_spaced_isbn, found_or, isbn_number, is_number, number_of_word, number_onto, number_or}
+use Rattle.feed_openurl.specs.Numbers.{first_number, first_spaced_isbn, found_or, is_ismn, isbn_number, is_number, number_of_word, number_onto, number_or}
 use Rattle.feed_openurl.specs.Numbers.{isbn_of_words, issn_of_halves, numbers_after, numbers_in, spaced_isbn, spaced_issn, taken, words_from}
+use Rattle.feed_openurl.specs.Volumes.{begins_with_digit}
 use Rattle.feed_openurl.specs.Plain.{plain}
 use Rattle.feed_openurl.specs.Values.{AreIdentifiers, IsCounted, IsIsbnText, IsIssnText}
 use Rattle.feed_openurl.specs.declared.fault.Refusal.{Refusal}
 use Rattle.feed_openurl.specs.declared.fault.Refusal.TheVariants as reason
-use Rattle.feed_openurl.specs.declared.key.Key.{Key}
-use Rattle.feed_openurl.specs.declared.key.Tier.{Tier}
-use Rattle.feed_openurl.specs.declared.key.Tier.TheVariants.{Old, Rft}
 use Rattle.feed_openurl.specs.declared.number.Number.{Number}
 use Rattle.feed_openurl.specs.declared.number.Number.TheVariants.{Isbn, Issn}
 
@@ -51,7 +46,15 @@ if_valid P false o other first second = second
 
 isbn_number_valid : (o : Option (List ℕ)) → IfSome o IsIsbnText → IfSome (isbn_number o) IsValid
 isbn_number_valid None is = tt
-isbn_number_valid (Some isbn) is = is
+isbn_number_valid (Some isbn) is = if_valid IsValid (is_ismn isbn) None (Some (Isbn isbn)) tt is
+
+isbn_valid_of : (o : Option (List ℕ)) → IfSome o IsIsbnText → IfSome (option_map Isbn o) IsValid
+isbn_valid_of None is = tt
+isbn_valid_of (Some isbn) is = is
+
+or_others_valid : (o : Option Number) (others : List Number) → IfSome o IsValid → All IsValid others → All IsValid (number_or_others o others)
+or_others_valid None others is all = all
+or_others_valid (Some number) others is all = All-cons IsValid number [] is (All-nil IsValid)
 
 number_or_valid : (o : Option (List ℕ)) (other : Option Number) → IfSome o IsIssnText → IfSome other IsValid → IfSome (number_or o other) IsValid
 number_or_valid None other is later = later
@@ -110,13 +113,31 @@ module _ (issn_law : PrintedFormParses issn_of) (isbn_law : PrintedFormParses is
       if_all (nat_lt 0 skipped) _ _ (after_valid words _)
       (onto_valid (first_number (word ∷ words)) _ (first_valid (word ∷ words)) (after_valid words (taken (first_number (word ∷ words)))))
 
-  all_valid : (texts : List (List ℕ)) → All IsValid (flat_map numbers_in texts)
+  text_valid : (text : Option (List ℕ)) → All IsValid (numbers_in_text text)
   unfolding numbers_in
-  all_valid [] = All-nil IsValid
-  all_valid (text ∷ texts) = All-append IsValid (numbers_in text) (flat_map numbers_in texts) (after_valid (words_from [] (plain text)) 0) (all_valid texts)
+  text_valid None = All-nil IsValid
+  text_valid (Some text) = after_valid (words_from [] (plain text)) 0
 
-  numbers_valid : (tier : Tier) (values : List (Key × List ℕ)) → All IsValid (numbers_of tier values)
-  numbers_valid tier values = all_valid (filter_map (number_text tier) values)
+  pair_issn : (pair : List ℕ × List ℕ) → IfSome (issn_of_pair pair) IsIssnText
+  pair_issn pair =
+      if_valid IsIssnText (has_key (codes "rft.issn") pair || has_key (codes "rft.eissn") pair) (issn_of pair.1)
+      (if has_key (codes "rft_id") pair then issn_of_urn pair.1 else None) (issn_valid pair.1)
+      (if_valid IsIssnText (has_key (codes "rft_id") pair) (issn_of_urn pair.1) None
+      (if_valid IsIssnText (has_prefix (codes "urn:ISSN:") pair.1) (issn_of (drop 9 pair.1)) None (issn_valid (drop 9 pair.1)) tt) tt)
+
+  pair_isbn : (pair : List ℕ × List ℕ) → IfSome (isbn_of_pair pair) IsIsbnText
+  pair_isbn pair = if_valid IsIsbnText (has_key (codes "rft.isbn") pair) (isbn_of pair.1) None (isbn_valid pair.1) tt
+
+  pair_valid : (pair : List ℕ × List ℕ) → All IsValid (numbers_of_pair pair)
+  unfolding numbers_of_pair
+  pair_valid pair =
+      or_others_valid (core_number pair) (numbers_in_text (number_text (keyed pair)))
+      (number_or_valid (issn_of_pair pair) (option_map Isbn (isbn_of_pair pair)) (pair_issn pair) (isbn_valid_of (isbn_of_pair pair) (pair_isbn pair)))
+      (text_valid (number_text (keyed pair)))
+
+  pairs_valid : (pairs : List (List ℕ × List ℕ)) → All IsValid (flat_map numbers_of_pair pairs)
+  pairs_valid [] = All-nil IsValid
+  pairs_valid (pair ∷ pairs) = All-append IsValid (numbers_of_pair pair) (flat_map numbers_of_pair pairs) (pair_valid pair) (pairs_valid pairs)
 
   issns_parse : (found : List Number) → All IsValid found → All IsIssnText (filter_map as_issn found)
   issns_parse [] all = All-nil IsIssnText
@@ -139,19 +160,6 @@ set_parses P (one ∷ ones) set all others =
 abbrev IsSet : (List ℕ → Type 0) → List (List ℕ) → Type 0
 IsSet P set = IsAscending set × All P set
 
-if_set : (P : List ℕ → Type 0) (b : Bool) (first second : List (List ℕ)) → IsSet P first → IsSet P second → IsSet P (if b then first else second)
-if_set P true first second is later = is
-if_set P false first second is later = later
-
-cons_parse : (P : List ℕ → Type 0) (o : Option (List ℕ)) (texts : List (List ℕ)) → IfSome o P → All P texts → All P (cons_option o texts)
-cons_parse P None texts is all = all
-cons_parse P (Some text) texts is all = All-cons P text texts is all
-
-some_parse : (P : List ℕ → Type 0) (read : List ℕ × List ℕ → Option (List ℕ)) → ((pair : List ℕ × List ℕ) → IfSome (read pair) P)
-    → (pairs : List (List ℕ × List ℕ)) → All P (filter_map read pairs)
-some_parse P read valid [] = All-nil P
-some_parse P read valid (pair ∷ pairs) = cons_parse P (read pair) (filter_map read pairs) (valid pair) (some_parse P read valid pairs)
-
 abbrev AreValid : IdentifiersValue → Type 0
 AreValid found = IsSet IsIssnText found.issns × IsSet IsIsbnText found.isbns
 
@@ -162,35 +170,24 @@ identifiers_of_valid : (found : IdentifiersValue) → AreValid found → AreIden
 identifiers_of_valid found valid =
     record { issns_ascend = valid.0.0; isbns_ascend = valid.1.0; issns_parse = valid.0.1; isbns_parse = valid.1.1 }
 
-or_valid : (found others : IdentifiersValue) (b : Bool) → AreValid found → AreValid others → AreValid (if b then others else found)
-or_valid found others true first second = second
-or_valid found others false first second = first
-
 some_count : (issns isbns : List (List ℕ)) → (is_empty issns && is_empty isbns) ≡ false → 0 < count issns isbns
 some_count [] [] e = absurd (cc)
 some_count [] (isbn ∷ isbns) e = omega arith
 some_count (issn ∷ issns) isbns e = omega arith
 
 module _ (ascend : SetsAscend) (issn_law : PrintedFormParses issn_of) (isbn_law : PrintedFormParses isbn_of) where
-  no_set : (P : List ℕ → Type 0) → IsSet P []
-  no_set P = (ascend [], All-nil P)
+  set_valid : (P : List ℕ → Type 0) (ones : List (List ℕ)) → All P ones → IsSet P (identifier_set ones)
+  set_valid P ones all = (ascend ones, set_parses P ones [] all (All-nil P))
 
-  for_valid : (is_journal is_book : Bool) (found : List Number) → All IsValid found → AreValid (identifiers_for is_journal is_book found)
-  for_valid is_journal is_book found all = (
-    if_set IsIssnText is_book [] (identifier_set (filter_map as_issn found)) (no_set IsIssnText)
-        (ascend (filter_map as_issn found), set_parses IsIssnText (filter_map as_issn found) [] (issns_parse issn_law isbn_law found all) (All-nil IsIssnText)),
-    if_set IsIsbnText is_journal [] (identifier_set (filter_map as_isbn found)) (no_set IsIsbnText)
-        (ascend (filter_map as_isbn found), set_parses IsIsbnText (filter_map as_isbn found) [] (isbns_parse issn_law isbn_law found all) (All-nil IsIsbnText)),
+  among_valid : (found : List Number) → All IsValid found → AreValid (identifiers_among found)
+  among_valid found all = (
+    set_valid IsIssnText (filter_map as_issn found) (issns_parse issn_law isbn_law found all),
+    set_valid IsIsbnText (filter_map as_isbn found) (isbns_parse issn_law isbn_law found all),
   )
 
-  tier_valid : (is_journal is_book : Bool) (values : List (Key × List ℕ)) → AreValid (first_tier is_journal is_book values)
-  tier_valid is_journal is_book values =
-      or_valid (identifiers_for is_journal is_book (numbers_of Rft values)) (identifiers_for is_journal is_book (numbers_of Old values)) _
-      (for_valid is_journal is_book (numbers_of Rft values) (numbers_valid issn_law isbn_law Rft values))
-      (for_valid is_journal is_book (numbers_of Old values) (numbers_valid issn_law isbn_law Old values))
-
   refused_valid : (why : Refusal) → IsLookedUp (refused why)
-  refused_valid why = (identifiers_of_valid (record { issns = []; isbns = [] }) (no_set IsIssnText, no_set IsIsbnText), refl)
+  refused_valid why =
+      (identifiers_of_valid (record { issns = []; isbns = [] }) (set_valid IsIssnText [] (All-nil IsIssnText), set_valid IsIsbnText [] (All-nil IsIsbnText)), refl)
 
   limited : (found : IdentifiersValue) (b : Bool) → nat_lt identifier_limit (count found.issns found.isbns) ≡ b → AreValid found → are_none found ≡ false
       → IsLookedUp (if b then refused reason.TooMany else record { issns = found.issns; isbns = found.isbns; refusal = None })
@@ -201,46 +198,11 @@ module _ (ascend : SetsAscend) (issn_law : PrintedFormParses issn_of) (isbn_law 
   limit_valid : (found : IdentifiersValue) → AreValid found → are_none found ≡ false → IsLookedUp (within_limit found)
   limit_valid found valid some = limited found (nat_lt identifier_limit (count found.issns found.isbns)) refl valid some
 
-  within_valid : (why : Refusal) (found : IdentifiersValue) (b : Bool) → are_none found ≡ b → AreValid found → IsLookedUp (if b then refused why else within_limit found)
-  within_valid why found true e valid = refused_valid why
-  within_valid why found false e valid = limit_valid found valid e
-
-  if_looked : (b : Bool) (first second : LookedUp) → IsLookedUp first → IsLookedUp second → IsLookedUp (if b then first else second)
-  if_looked true first second is later = is
-  if_looked false first second is later = later
-
-  others_valid : (values : List (Key × List ℕ)) → IsLookedUp (looked_up_of_others values)
-  others_valid values =
-      if_looked (list_any names_other_version values) _ _ (refused_valid reason.Version)
-      (if_looked (list_any names_other_format values) _ _ (refused_valid reason.OtherFormat)
-      (within_valid (reason_without (formats_of values)) (other_identifiers (formats_of values) values) _ refl
-      (or_valid (first_tier _ _ values) (first_tier false false values) _ (tier_valid _ _ values) (tier_valid false false values))))
-
-  pair_issn : (pair : List ℕ × List ℕ) → IfSome (issn_of_pair pair) IsIssnText
-  pair_issn pair =
-      if_valid IsIssnText (has_key (codes "rft.issn") pair || has_key (codes "rft.eissn") pair) (issn_of pair.1)
-      (if has_key (codes "rft_id") pair then issn_of_urn pair.1 else None) (issn_valid issn_law isbn_law pair.1)
-      (if_valid IsIssnText (has_key (codes "rft_id") pair) (issn_of_urn pair.1) None
-      (if_valid IsIssnText (has_prefix (codes "urn:ISSN:") pair.1) (issn_of (drop 9 pair.1)) None (issn_valid issn_law isbn_law (drop 9 pair.1)) tt) tt)
-
-  pair_isbn : (pair : List ℕ × List ℕ) → IfSome (isbn_of_pair pair) IsIsbnText
-  pair_isbn pair = if_valid IsIsbnText (has_key (codes "rft.isbn") pair) (isbn_of pair.1) None (isbn_valid issn_law isbn_law pair.1) tt
-
-  core_valid : (pairs : List (List ℕ × List ℕ)) → AreValid (core_identifiers pairs)
-  core_valid pairs = (
-    if_set IsIssnText (is_refused pairs) [] _ (no_set IsIssnText)
-        (if_set IsIssnText (has_book_format pairs) [] (identifier_set (filter_map issn_of_pair pairs)) (no_set IsIssnText)
-        (ascend (filter_map issn_of_pair pairs), set_parses IsIssnText (filter_map issn_of_pair pairs) [] (some_parse IsIssnText issn_of_pair pair_issn pairs) (All-nil IsIssnText))),
-    if_set IsIsbnText (is_refused pairs) [] _ (no_set IsIsbnText)
-        (if_set IsIsbnText (has_journal_format pairs) [] (identifier_set (filter_map isbn_of_pair pairs)) (no_set IsIsbnText)
-        (ascend (filter_map isbn_of_pair pairs), set_parses IsIsbnText (filter_map isbn_of_pair pairs) [] (some_parse IsIsbnText isbn_of_pair pair_isbn pairs) (All-nil IsIsbnText))),
-  )
-
-  looked_by : (pairs : List (List ℕ × List ℕ)) (b : Bool) → are_none (core_identifiers pairs) ≡ b
-      → IsLookedUp (if b then looked_up_of_others (map keyed pairs) else within_limit (core_identifiers pairs))
-  looked_by pairs true e = others_valid (map keyed pairs)
-  looked_by pairs false e = limit_valid (core_identifiers pairs) (core_valid pairs) e
+  looked_by : (pairs : List (List ℕ × List ℕ)) (b : Bool) → are_none (identifiers_of pairs) ≡ b
+      → IsLookedUp (if b then refused (reason_without (map keyed pairs)) else within_limit (identifiers_of pairs))
+  looked_by pairs true e = refused_valid (reason_without (map keyed pairs))
+  looked_by pairs false e = limit_valid (identifiers_of pairs) (among_valid (flat_map numbers_of_pair pairs) (pairs_valid issn_law isbn_law pairs)) e
 
   -- what is looked up for a query is valid
   pub looked_up_valid : (pairs : List (List ℕ × List ℕ)) → IsLookedUp (looked_up pairs)
-  looked_up_valid pairs = looked_by pairs (are_none (core_identifiers pairs)) refl
+  looked_up_valid pairs = looked_by pairs (are_none (identifiers_of pairs)) refl

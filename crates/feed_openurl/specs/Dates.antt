@@ -4,9 +4,10 @@ use Rattle.std.specs.Prelude.{ℕ, Bool, true, false, ◌+◌, ◌-◌, ◌*◌,
 use Rattle.std.specs.Prelude.{min, List, [], ◌∷◌, ◌++◌, length, take, drop, filter, Option, Some, None, is_some, if◌then◌else◌, codes}
 use Rattle.std.specs.Char.{is_ascii_digit}
 use Rattle.std.specs.List.{cons_option, list_any}
+use Rattle.std.specs.Str.{bytes_eq}
+use Rattle.feed_identifiers.specs.Text.{trimmed}
 use Rattle.feed_openurl.specs.Fronts.{front_len}
-use Rattle.feed_openurl.specs.Identifiers.{or_text}
-use Rattle.feed_openurl.specs.Keys.{is_name}
+use Rattle.feed_openurl.specs.Keys.{is_name, or_text}
 use Rattle.feed_openurl.specs.Texts.{date_text_of}
 use Rattle.feed_openurl.specs.Volumes.{is_letter}
 use Rattle.feed_openurl.specs.declared.tokens.Token.{Token}
@@ -220,9 +221,18 @@ date_with_year tokens None = None
 abbrev pub date_among : List Token → Option (List ℕ)
 date_among tokens = date_with_year tokens (first_year tokens)
 
+-- a text ends in a hyphen, as `1936-` for all years since
+abbrev pub is_open : List ℕ → Bool
+is_open text = bytes_eq (drop (length text - 1) text) (codes "-")
+
+-- a date, unless it is the year in which a run of years begins that has no end
+abbrev pub closed : Bool → Option (List ℕ) → Option (List ℕ)
+closed is_open_run (Some date) = if is_open_run && (length date == 4) then None else Some date
+closed is_open_run None = None
+
 -- the date of a part of a value
 abbrev pub date_of_part : List ℕ → Option (List ℕ)
-date_of_part text = date_among (tokens_from [] text)
+date_of_part text = closed (is_open (trimmed text)) (date_among (tokens_from [] text))
 
 abbrev pub is_no_semicolon : ℕ → Bool
 is_no_semicolon b = not (b == 59)

@@ -24,6 +24,16 @@ abbrev pub after_prefix : List ℕ → List ℕ → Option (List ℕ)
 after_prefix front key =
     if nat_le (length front) (length key) && is_name (take (length front) key) front then Some (drop (length front) key) else None
 
+-- what follows a prefix of a text, if there is one
+abbrev pub after_in : List ℕ → Option (List ℕ) → Option (List ℕ)
+after_in front (Some text) = after_prefix front text
+after_in front None = None
+
+-- the first text, or another if there is none
+abbrev pub or_text : Option (List ℕ) → Option (List ℕ) → Option (List ℕ)
+or_text (Some text) other = Some text
+or_text None other = other
+
 -- a text, or another one if there is none
 abbrev pub or_else : Option (List ℕ) → List ℕ → List ℕ
 or_else (Some text) other = text
@@ -40,8 +50,8 @@ mended key = without_front (without_front (trimmed key))
 -- a key after `rft.` (Z39.88-2004, the matrices), or one of OpenURL 0.1
 abbrev pub referent_key : Tier → List ℕ → Key
 referent_key tier name =
-    if is_name name (codes "issn") || is_name name (codes "eissn") then Number tier
-    else if is_name name (codes "isbn") || is_name name (codes "eisbn") then Number tier
+    if is_name name (codes "issn") || is_name name (codes "eissn") then Number
+    else if is_name name (codes "isbn") || is_name name (codes "eisbn") then Number
     else if is_name name (codes "date") then Date tier
     else if is_name name (codes "volume") then Volume tier
     else Other

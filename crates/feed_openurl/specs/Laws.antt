@@ -1,5 +1,8 @@
 -- Laws of queries as they are understood.
-use Rattle.std.specs.Prelude.{◌≡◌, ◌≤◌, ℕ, length, List, [], ◌∷◌, ◌++◌, true, Option, Some, None, Ok, IfSome}
+use Rattle.std.specs.Prelude.{◌≡◌, ◌≤◌, ℕ, Bool, length, List, [], ◌∷◌, ◌++◌, true, Option, Some, None, Ok, IfSome, codes}
+use Rattle.std.specs.List.{list_any}
+use Rattle.form_urlencoded.specs.Form as form
+use Rattle.feed_answer.specs.IdentifierSet.{is_among}
 use Rattle.std.specs.Option.{option_and_then}
 use Rattle.feed_dates.specs.DayRanges.{query_days_of}
 use Rattle.feed_kbart.specs.Volumes.{volume_of}
@@ -8,24 +11,51 @@ use Rattle.feed_answer.specs.QueryValue.{QueryValue}
 use Rattle.feed_identifiers.specs.Text.{trimmed}
 use Rattle.feed_openurl.specs.Citations.{citation_of_pairs}
 use Rattle.feed_openurl.specs.Dropped.{is_dropped}
-use Rattle.feed_openurl.specs.Identifiers.{count, identifier_limit}
-use Rattle.feed_openurl.specs.Values.{IsWellFormed, UnderstandingValue, understood}
+use Rattle.feed_openurl.specs.Identifiers.{count, identifier_limit, identifiers_of, looked_up}
+use Rattle.feed_openurl.specs.Keys.{is_name, mended}
+use Rattle.feed_openurl.specs.Values.{IsWellFormed, UnderstandingValue, understood, understood_pairs}
 use Rattle.feed_openurl.specs.Written.{written, written_limit}
 use Rattle.feed_openurl.specs.declared.fault.Refusal.{Refusal}
 use Rattle.feed_openurl.specs.declared.fault.Refusal.TheVariants.{NoIssn}
 
--- a query that the core answers keeps its identifiers, its days and its volume
-pub record KeepsAnswer (q : QueryValue) (u : UnderstandingValue) : Type 0 where
+-- all of some identifiers are among others
+abbrev pub AreAmong : List (List ℕ) → List (List ℕ) → Type 0
+AreAmong some others = (one : List ℕ) → is_among one some ≡ true → is_among one others ≡ true
+
+-- what a query that the core answers asks for is looked up: each of its identifiers, its days and its volume
+pub record ContainsAnswer (q : QueryValue) (u : UnderstandingValue) : Type 0 where
   pub refusal : u.refusal ≡ None
-  pub issns : u.issns ≡ q.issns
-  pub isbns : u.isbns ≡ q.isbns
+  pub issns : AreAmong q.issns u.issns
+  pub isbns : AreAmong q.isbns u.isbns
   pub days : IfSome q.days (λ days. option_and_then query_days_of u.date ≡ Some days)
   pub volume : IfSome q.volume (λ volume. option_and_then volume_of u.volume ≡ Some volume)
 
--- for every query that the core answers, with at most the limit of identifiers
-abbrev pub AnswersAreKept : Type 0
-AnswersAreKept = (text : List ℕ) (q : QueryValue)
-    → query_of text ≡ Ok q → count q.issns q.isbns ≤ identifier_limit → KeepsAnswer q (understood text)
+-- for every query that the core answers, unless it has more identifiers than the limit
+abbrev pub AnsweredIsContained : Type 0
+AnsweredIsContained = (text : List ℕ) (q : QueryValue)
+    → query_of text ≡ Ok q → count (identifiers_of (form.parse text)).issns (identifiers_of (form.parse text)).isbns ≤ identifier_limit
+    → ContainsAnswer q (understood text)
+
+-- two pairs that change places change nothing of what is looked up
+abbrev pub OrderIsFree : Type 0
+OrderIsFree = (before after : List (List ℕ × List ℕ)) (first second : List ℕ × List ℕ)
+    → looked_up (before ++ first ∷ second ∷ after) ≡ looked_up (before ++ second ∷ first ∷ after)
+
+-- a pair whose key nobody reads changes nothing of how a query is understood
+abbrev pub DroppedIsUnread : Type 0
+DroppedIsUnread = (key value : List ℕ) → is_dropped key ≡ true
+    → (before after : List (List ℕ × List ℕ)) → understood_pairs (before ++ (key, value) ∷ after) ≡ understood_pairs (before ++ after)
+
+-- a key that may name a person or a library: a private one of OpenURL 0.1, or one of the requester or of private data
+-- (Z39.88-2004, part 1)
+abbrev pub names_people : List ℕ → Bool
+names_people key =
+    list_any (is_name (mended key))
+    (codes "pid" ∷ codes "req_id" ∷ codes "req_ref" ∷ codes "req_ref_fmt" ∷ codes "req_val_fmt" ∷ codes "req_dat" ∷ codes "rft_dat" ∷ codes "rfe_dat" ∷ [])
+
+-- such a key is never read
+abbrev pub PeopleAreDropped : Type 0
+PeopleAreDropped = (key : List ℕ) → names_people key ≡ true → is_dropped key ≡ true
 
 -- the query that is written is short
 abbrev pub WrittenIsShort : Type 0

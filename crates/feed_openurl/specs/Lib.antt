@@ -3,10 +3,11 @@ pub mod Texts
 pub mod Keys
 pub mod Core
 pub mod Plain
+pub mod Volumes
+pub mod Romans
 pub mod Numbers
 pub mod Kinds
 pub mod Identifiers
-pub mod Volumes
 pub mod Dates
 pub mod Tiers
 pub mod Shown

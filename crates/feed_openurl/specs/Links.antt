@@ -6,8 +6,8 @@ use Rattle.std.specs.Str.{bytes_eq}
 use Rattle.feed_identifiers.specs.Text.{trimmed}
 use Rattle.feed_answer.specs.Pairs.{is_empty}
 use Rattle.feed_openurl.specs.Fronts.{front_len}
-use Rattle.feed_openurl.specs.Identifiers.{after_in, host_of, or_text}
-use Rattle.feed_openurl.specs.Keys.{after_prefix}
+use Rattle.feed_openurl.specs.Identifiers.{host_of}
+use Rattle.feed_openurl.specs.Keys.{after_in, after_prefix, or_text}
 
 -- what follows the name of a scheme of DOIs
 abbrev pub after_doi_name : List ℕ → Option (List ℕ)

@@ -1,12 +1,14 @@
 -- The ISSNs and the ISBNs in a value that has several, or words and spaces around them.
 use Rattle.std.specs.Prelude.{ℕ, Bool, false, ◌||◌, ◌&&◌, ◌-◌, ◌==◌, nat_lt, List, [], ◌∷◌, ◌++◌, take, length, Option, Some, None, is_some, if◌then◌else◌, codes}
-use Rattle.std.specs.Char.{is_ascii_alphanumeric, is_ascii_digit}
+use Rattle.std.specs.Char.{is_ascii_alphanumeric}
 use Rattle.std.specs.List.{concat, list_any}
+use Rattle.std.specs.Str.{bytes_eq}
 use Rattle.feed_identifiers.specs.Isbn.{isbn_of}
 use Rattle.feed_identifiers.specs.Issn.{issn_of}
 use Rattle.feed_answer.specs.Pairs.{is_empty}
 use Rattle.feed_openurl.specs.Keys.{after_prefix, or_else}
 use Rattle.feed_openurl.specs.Plain.{plain}
+use Rattle.feed_openurl.specs.Volumes.{after_letters, begins_with_digit}
 use Rattle.feed_openurl.specs.declared.number.Number.{Number}
 use Rattle.feed_openurl.specs.declared.number.Number.TheVariants.{Isbn, Issn}
 
@@ -18,10 +20,13 @@ is_word_byte b = is_ascii_alphanumeric b || (b == 45) || (b == 95)
 abbrev pub without : List ℕ → List ℕ → List ℕ
 without front text = or_else (after_prefix front text) text
 
+-- a word without letters and a hyphen at its front, as in `EISSN-1935-102X`
+abbrev pub without_letters : List ℕ → List ℕ
+without_letters word = or_else (after_prefix (codes "-") (after_letters word)) word
+
 -- a word without a label that is written onto it, as in `ISSN2434-561X`
 unfoldable pub unlabelled : List ℕ → List ℕ
-unlabelled word =
-    without (codes "-") (without (codes "ISSN") (without (codes "ISBN") word))
+unlabelled word = without_letters (without (codes "ISSN") (without (codes "ISBN") word))
 
 -- a word goes before others, unless nothing is left of it
 abbrev pub onto : List ℕ → List (List ℕ) → List (List ℕ)
@@ -39,9 +44,13 @@ words_from begun (b ∷ bytes) =
     else if is_word_byte b then words_from (begun ++ b ∷ []) bytes
     else onto (unlabelled begun) (sign_onto b (words_from [] bytes))
 
+-- an ISMN (ISO 10957) has the form of an ISBN
+abbrev pub is_ismn : List ℕ → Bool
+is_ismn isbn = bytes_eq (take 4 isbn) (codes "9790")
+
 -- the number that a word is by itself, by its form and its check character
 abbrev pub isbn_number : Option (List ℕ) → Option Number
-isbn_number (Some isbn) = Some (Isbn isbn)
+isbn_number (Some isbn) = if is_ismn isbn then None else Some (Isbn isbn)
 isbn_number None = None
 
 abbrev pub number_or : Option (List ℕ) → Option Number → Option Number
@@ -88,11 +97,7 @@ first_spaced_isbn words =
     (found_or (isbn_number (spaced_isbn 3 words)) 2
     (found_or (isbn_number (spaced_isbn 2 words)) 1 None)))
 
--- a word begins with a digit, as each ISBN does
-abbrev pub begins_with_digit : List ℕ → Bool
-begins_with_digit [] = false
-begins_with_digit (b ∷ bytes) = is_ascii_digit b
-
+-- each ISBN begins with a digit
 abbrev pub spaced_number : List ℕ → List (List ℕ) → Option (Number × ℕ)
 spaced_number word words = if begins_with_digit word then first_spaced_isbn (word ∷ words) else None
 

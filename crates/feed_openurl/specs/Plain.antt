@@ -20,14 +20,33 @@ abbrev pub has_no_width : ℕ → Bool
 has_no_width c =
     (c == 173) || is_between 8203 8207 c || is_between 8234 8238 c || is_between 8288 8303 c || (c == 65279)
 
--- the byte of a character: a hyphen for each dash, a space for each space, `_` for any other beyond ASCII
+-- a sign behind a year or a month in Chinese, Japanese and Korean: 年 and 月, 년 and 월
+abbrev pub is_date_sign : ℕ → Bool
+is_date_sign c = (c == 24180) || (c == 26376) || (c == 45380) || (c == 50900)
+
+-- a sign behind a day or a volume: 日 and 일, 卷, 巻 and 권, 册 and 冊
+abbrev pub is_volume_sign : ℕ → Bool
+is_volume_sign c =
+    (c == 26085) || (c == 51068) || (c == 21367) || (c == 24059) || (c == 44428) || (c == 20876) || (c == 20874)
+
+-- a sign before or behind the number of an issue: 第 and 제, 号, 號 and 호, 期, 集, 輯 and 집
+abbrev pub is_issue_sign : ℕ → Bool
+is_issue_sign c =
+    (c == 31532) || (c == 51228) || (c == 21495) || (c == 34399) || (c == 54840) || (c == 26399) || (c == 38598)
+    || (c == 36655) || (c == 51665)
+
+-- the byte of a letter or a sign beyond ASCII: a slash between the parts of a date, a space beside other numbers, or `_`
+abbrev pub plain_sign : ℕ → ℕ
+plain_sign c = if is_date_sign c then 47 else if is_volume_sign c || is_issue_sign c then 32 else 95
+
+-- the byte of a character: a hyphen for each dash, a space for each space, `_` for most others beyond ASCII
 abbrev pub plain_byte : ℕ → Option ℕ
 plain_byte c =
     if nat_lt c 128 then Some c
     else if has_no_width c then None
     else if is_dash c then Some 45
     else if is_space c then Some 32
-    else Some 95
+    else Some (plain_sign c)
 
 -- the byte of a byte in Windows-1252, where 150 and 151 are the en dash and the em dash
 abbrev pub plain_windows : ℕ → Option ℕ

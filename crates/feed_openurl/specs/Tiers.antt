@@ -5,11 +5,11 @@ use Rattle.feed_identifiers.specs.Text.{trimmed}
 use Rattle.feed_answer.specs.Pairs.{first}
 use Rattle.feed_openurl.specs.Core.{core_date, core_volume}
 use Rattle.feed_openurl.specs.Dates.{lenient_date}
-use Rattle.feed_openurl.specs.Identifiers.{or_text}
-use Rattle.feed_openurl.specs.Keys.{is_date_key, is_volume_key, keyed}
+use Rattle.feed_openurl.specs.Keys.{is_date_key, is_volume_key, keyed, or_text}
 use Rattle.feed_openurl.specs.Plain.{plain}
 use Rattle.feed_openurl.specs.Texts.{date_text_of, volume_text_of}
-use Rattle.feed_openurl.specs.Volumes.{leading_volume}
+use Rattle.feed_openurl.specs.Romans.{roman_volume}
+use Rattle.feed_openurl.specs.Volumes.{leading_volume, unless_year_of, without_series}
 use Rattle.feed_openurl.specs.declared.key.Key.{Key}
 use Rattle.feed_openurl.specs.declared.key.Tier.{Tier}
 use Rattle.feed_openurl.specs.declared.key.Tier.TheVariants.{Old, Rft}
@@ -38,11 +38,16 @@ is_volume tier value = is_volume_key tier value.0
 abbrev pub strict_volume_of : Tier → Key × List ℕ → Option (List ℕ)
 strict_volume_of tier value = if is_volume tier value then volume_text_of (trimmed value.1) else None
 
--- the leading number of a value in another form
-abbrev pub lenient_volume_of : Tier → Key × List ℕ → Option (List ℕ)
-lenient_volume_of tier value = if is_volume tier value then leading_volume (plain value.1) else None
+-- the volume of a text in another form: its leading number, or else what it is as a Roman numeral, unless that is the
+-- year of a date with a month
+unfoldable pub lenient_volume : List ℕ → Option (List ℕ)
+lenient_volume text =
+    unless_year_of (lenient_date text) (or_text (leading_volume (without_series text)) (roman_volume text))
 
--- the first volume of a tier in the form of the core, or else the first leading number
+abbrev pub lenient_volume_of : Tier → Key × List ℕ → Option (List ℕ)
+lenient_volume_of tier value = if is_volume tier value then lenient_volume (trimmed (plain value.1)) else None
+
+-- the first volume of a tier in the form of the core, or else the first in another
 abbrev pub volume_in : Tier → List (Key × List ℕ) → Option (List ℕ)
 volume_in tier values = or_text (first (filter_map (strict_volume_of tier) values)) (first (filter_map (lenient_volume_of tier) values))
 

@@ -1,9 +1,10 @@
--- The leading number of a volume that has more than a number, as `Vol. 9`, `365 (9453)` and `12-13`.
-use Rattle.std.specs.Prelude.{ℕ, Bool, false, ◌||◌, ◌==◌, List, [], ◌∷◌, Option, None, if◌then◌else◌, take, drop, codes}
+-- The leading number of a volume that has more than a number, as `Vol. 9`, `365 (9453)` and `12-13`, and what is none.
+use Rattle.std.specs.Prelude.{ℕ, Bool, false, ◌||◌, ◌&&◌, ◌==◌, nat_lt, List, [], ◌∷◌, length, Option, Some, None, option_map, if◌then◌else◌, take, drop, codes}
 use Rattle.std.specs.Char.{is_ascii_alphabetic, is_ascii_digit}
+use Rattle.std.specs.Str.{bytes_eq}
 use Rattle.feed_answer.specs.Pairs.{is_empty}
 use Rattle.feed_openurl.specs.Fronts.{front_len}
-use Rattle.feed_openurl.specs.Keys.{is_name}
+use Rattle.feed_openurl.specs.Keys.{after_in, after_prefix, is_name}
 use Rattle.feed_openurl.specs.Texts.{volume_text_of}
 
 -- a letter; `_` is one beyond ASCII
@@ -58,3 +59,28 @@ number_after_word text = if is_volume_word (letters text) then number_at_front (
 
 abbrev pub leading_volume : List ℕ → Option (List ℕ)
 leading_volume value = number_after_word (without_fillers value)
+
+-- what follows a number in brackets at the front of a text, if it has one
+abbrev pub after_brackets : List ℕ → Option (List ℕ)
+after_brackets text = after_in (codes ")") (option_map after_digits (after_prefix (codes "(") text))
+
+abbrev pub begins_with_digit : List ℕ → Bool
+begins_with_digit [] = false
+begins_with_digit (b ∷ bytes) = is_ascii_digit b
+
+-- a text behind a number in brackets, if it begins with a number itself, as `(2) 141` of a second series
+abbrev pub or_behind : Option (List ℕ) → List ℕ → List ℕ
+or_behind (Some rest) text = if begins_with_digit (without_fillers rest) then rest else text
+or_behind None text = text
+
+abbrev pub without_series : List ℕ → List ℕ
+without_series text = or_behind (after_brackets text) text
+
+-- a volume is the year of a date that has a month, as in `2018-January`
+abbrev pub is_year_of : Option (List ℕ) → List ℕ → Bool
+is_year_of (Some date) volume = nat_lt 4 (length date) && bytes_eq (take 4 date) volume
+is_year_of None volume = false
+
+abbrev pub unless_year_of : Option (List ℕ) → Option (List ℕ) → Option (List ℕ)
+unless_year_of date (Some volume) = if is_year_of date volume then None else Some volume
+unless_year_of date None = None

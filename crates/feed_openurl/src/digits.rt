@@ -2,7 +2,7 @@
 ghost use Rattle.std.specs.Prelude.{◌≡◌, ◌≤◌, length};
 ghost use Rattle.std.specs.Char.{is_ascii_digit};
 ghost use Rattle.feed_openurl.specs.Fronts.{front_len};
-ghost use Rattle.feed_openurl.specs.Volumes.{after_digits, after_letters, digits, is_letter, letters};
+ghost use Rattle.feed_openurl.specs.Volumes.{after_digits, after_letters, begins_with_digit, digits, is_letter, letters};
 
 /// Returns whether a byte of a value in ASCII is a letter; `_` is one beyond ASCII.
 pub(crate) fn is_letter(byte: u8) -> bool
@@ -51,4 +51,14 @@ pub(crate) fn split_letters(text: &[u8]) -> (&[u8], &[u8])
     ensures rest { result.1.now ≡ after_letters text.now }
 {
     text.split_at(letter_count(text))
+}
+
+/// Returns whether a text begins with a digit.
+pub(crate) fn begins_with_digit(text: &[u8]) -> bool
+    ensures { result ≡ begins_with_digit text.now }
+{
+    match text {
+        [first, ..] => first.is_ascii_digit(),
+        [] => false,
+    }
 }

@@ -38,7 +38,7 @@ pub(crate) enum Key {
     /// `rft_val_fmt`.
     Format,
     /// `issn`, `eissn`, `isbn`, `eisbn`: ISSNs and ISBNs, whatever the key says.
-    Number(Tier),
+    Number,
     /// `rft_id`, and `id` of OpenURL 0.1: names of one kind or another.
     Name(Tier),
     /// `date`.
@@ -101,9 +101,9 @@ fn referent_key(tier: Tier, name: &[u8]) -> Key
     ensures { result ≡ referent_key tier name.now }
 {
     if is_name(name, "issn") || is_name(name, "eissn") {
-        Key::Number(tier)
+        Key::Number
     } else if is_name(name, "isbn") || is_name(name, "eisbn") {
-        Key::Number(tier)
+        Key::Number
     } else if is_name(name, "date") {
         Key::Date(tier)
     } else if is_name(name, "volume") {

@@ -1,11 +1,34 @@
 //! Laws of queries as they are understood, each stated as the contract of a function with an empty body.
-ghost use Rattle.feed_openurl.specs.Laws.{AnswersAreKept, WrittenIsAccepted, WrittenIsItself, WrittenIsShort};
-ghost use Rattle.feed_openurl.specs.Laws.{WrittenIsUnderstood, BlankIsUncited, DroppedIsUncited};
+ghost use Rattle.feed_openurl.specs.Laws.{AnsweredIsContained, BlankIsUncited, DroppedIsUncited, DroppedIsUnread};
+ghost use Rattle.feed_openurl.specs.Laws.{OrderIsFree, PeopleAreDropped, WrittenIsAccepted, WrittenIsItself};
+ghost use Rattle.feed_openurl.specs.Laws.{WrittenIsShort, WrittenIsUnderstood};
 
-/// A query that the core answers, with at most `IDENTIFIER_LIMIT` identifiers, is understood with exactly these
-/// identifiers, and with its days and its volume if it has them.
-pub fn answers_are_kept()
-    ensures { AnswersAreKept }
+use feed_answer::{set_has_exactly_its_identifiers, sets_ascend};
+
+/// For a query that the core answers, each of its identifiers is looked up, with its days and its volume if it has them,
+/// unless the query has more than `IDENTIFIER_LIMIT` identifiers.
+pub fn answered_is_contained()
+    ensures { AnsweredIsContained }
+{
+    set_has_exactly_its_identifiers();
+}
+
+/// Two pairs that change places change nothing of the identifiers that are looked up, nor of the reason if there is none.
+pub fn order_is_free()
+    ensures { OrderIsFree }
+{
+    sets_ascend();
+    set_has_exactly_its_identifiers();
+}
+
+/// A pair whose key nobody reads changes nothing of how a query is understood.
+pub fn dropped_is_unread()
+    ensures { DroppedIsUnread }
+{}
+
+/// A key that may name a person or a library is one that nobody reads.
+pub fn people_are_dropped()
+    ensures { PeopleAreDropped }
 {}
 
 /// The core accepts the query that is written for any query that is not refused, and asks for exactly the identifiers,

@@ -3,15 +3,15 @@ ghost use Rattle.std.specs.Prelude.{◌≡◌, ◌≤◌, IfOk, filter, length};
 ghost use Rattle.std.specs.List.{list_any};
 ghost use Rattle.feed_openurl.specs.Fronts.{front_len};
 ghost use Rattle.feed_openurl.specs.Dates.{date_after_year, date_among, date_of_part, date_with_year_last, day_after};
-ghost use Rattle.feed_openurl.specs.Dates.{date_in_month};
-ghost use Rattle.feed_openurl.specs.Dates.{day_behind, numbered};
-ghost use Rattle.feed_openurl.specs.Dates.{first_year, has_year, is_before, is_between, is_month};
+ghost use Rattle.feed_openurl.specs.Dates.{closed, date_in_month, day_behind, first_year, has_year, is_before};
+ghost use Rattle.feed_openurl.specs.Dates.{is_between, is_month, is_open, numbered};
 ghost use Rattle.feed_openurl.specs.Dates.{is_no_semicolon, is_season, is_single, is_small, lenient_date};
 ghost use Rattle.feed_openurl.specs.Dates.{named_date, named_month, numeric_date, pass_a_year};
 ghost use Rattle.feed_openurl.specs.Dates.{plausible, year_first_of, year_last, year_of};
 
 use crate::date::DateText;
 use crate::tokens::{Token, tokens};
+use feed_identifiers::trim_spaces;
 use std::alloc::{AllocError, Global};
 
 // A year from 1000 to 2099.
@@ -311,11 +311,28 @@ fn date_among(tokens: &[Token]) -> Option<DateText>
     }
 }
 
+// Whether a text ends in a hyphen, as `1936-` for all years since.
+fn is_open(text: &[u8]) -> bool
+    ensures { result ≡ is_open text.now }
+{
+    &text[text.len().saturating_sub(1)..] == b"-".as_slice()
+}
+
+// A date, unless it is the year in which a run of years begins that has no end.
+fn closed(is_open_run: bool, date: Option<DateText>) -> Option<DateText>
+    ensures { result ≡ closed is_open_run date }
+{
+    match date {
+        Some(date) if is_open_run && date.as_bytes().len() == 4 => None,
+        _ => date,
+    }
+}
+
 fn date_of_part(alloc: Global, text: &[u8]) -> Result<Option<DateText>, AllocError>
     ensures { IfOk result (λ date. date ≡ date_of_part text.now) }
 {
     let tokens = tokens(alloc, text)?;
-    Ok(date_among(&tokens))
+    Ok(closed(is_open(trim_spaces(text)), date_among(&tokens)))
 }
 
 // How many bytes are before a semicolon.

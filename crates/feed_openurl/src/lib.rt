@@ -20,6 +20,7 @@ mod links;
 mod number;
 mod numbers;
 mod plain;
+mod roman;
 mod sets;
 mod shown;
 mod tokens;
@@ -34,7 +35,8 @@ pub use crate::citation::Citation;
 pub use crate::dropped::{Dropped, dropped_keys};
 pub use crate::fault::{ReadFault, Refusal};
 pub use crate::laws::{
-    answers_are_kept, blank_is_uncited, dropped_is_uncited, written_is_accepted, written_is_itself,
-    written_is_short, written_is_understood,
+    answered_is_contained, blank_is_uncited, dropped_is_uncited, dropped_is_unread, order_is_free,
+    people_are_dropped, written_is_accepted, written_is_itself, written_is_short,
+    written_is_understood,
 };
 pub use crate::understanding::{IDENTIFIER_LIMIT, Understanding};

@@ -1,10 +1,11 @@
 //! An ISSN or an ISBN at the front of some words.
 ghost use Rattle.std.specs.Prelude.{◌≡◌, ◌++◌, IfOk};
 ghost use Rattle.std.specs.List.{concat, list_any};
-ghost use Rattle.feed_openurl.specs.Numbers.{are_halves, begins_with_digit, first_number, first_spaced_isbn};
+ghost use Rattle.feed_openurl.specs.Numbers.{are_halves, first_number, first_spaced_isbn, is_ismn, isbn_number};
 ghost use Rattle.feed_openurl.specs.Numbers.{is_number, isbn_of_words, issn_of_halves, number_of_word};
 ghost use Rattle.feed_openurl.specs.Numbers.{spaced_isbn, spaced_issn};
 
+use crate::digits::begins_with_digit;
 use crate::words::Word;
 use feed_identifiers::{Isbn, Issn};
 use std::alloc::{AllocError, Global};
@@ -16,6 +17,23 @@ pub(crate) enum Number {
     Isbn(Isbn),
 }
 
+fn is_ismn(isbn: Isbn) -> bool
+    ensures { result ≡ is_ismn isbn }
+{
+    let [a, b, c, d, ..] = isbn.text();
+    a == b'9' && b == b'7' && c == b'9' && d == b'0'
+}
+
+// An ISBN as a number, unless it is an ISMN, which has the same form.
+fn isbn_number(isbn: Option<Isbn>) -> Option<Number>
+    ensures { result ≡ isbn_number isbn }
+{
+    match isbn {
+        Some(isbn) if !is_ismn(isbn) => Some(Number::Isbn(isbn)),
+        _ => None,
+    }
+}
+
 // The number that a word is by itself.
 #[tactic(auto, unfolding(crate::specs::Numbers::number_of_word))]
 fn number_of_word(word: &[u8]) -> Option<Number>
@@ -23,10 +41,7 @@ fn number_of_word(word: &[u8]) -> Option<Number>
 {
     match Issn::parse(word) {
         Some(issn) => Some(Number::Issn(issn)),
-        None => match Isbn::parse(word) {
-            Some(isbn) => Some(Number::Isbn(isbn)),
-            None => None,
-        },
+        None => isbn_number(Isbn::parse(word)),
     }
 }
 
@@ -110,14 +125,14 @@ fn isbn_of_words(alloc: Global, words: &[Word]) -> Result<Option<Isbn>, AllocErr
 }
 
 // The ISBN of the first words together, if spaces appear in place of its hyphens.
-fn spaced_isbn(alloc: Global, words: &[Word], count: usize) -> Result<Option<Isbn>, AllocError>
-    ensures { IfOk result (λ isbn. isbn ≡ spaced_isbn count words.now) }
+fn spaced_isbn(alloc: Global, words: &[Word], count: usize) -> Result<Option<Number>, AllocError>
+    ensures { IfOk result (λ number. number ≡ isbn_number (spaced_isbn count words.now)) }
 {
     let front = match words.split_at_checked(count) {
         Some((front, _)) => front,
         None => words,
     };
-    isbn_of_words(alloc, front)
+    Ok(isbn_number(isbn_of_words(alloc, front)?))
 }
 
 // The ISBN of two to five words, with the number of words after the first. The longest one counts.
@@ -125,28 +140,18 @@ fn spaced_isbn(alloc: Global, words: &[Word], count: usize) -> Result<Option<Isb
 fn first_spaced_isbn(alloc: Global, words: &[Word]) -> Result<Option<(Number, usize)>, AllocError>
     ensures { IfOk result (λ found. found ≡ first_spaced_isbn words.now) }
 {
-    if let Some(isbn) = spaced_isbn(alloc, words, 5)? {
-        return Ok(Some((Number::Isbn(isbn), 4)));
+    if let Some(number) = spaced_isbn(alloc, words, 5)? {
+        return Ok(Some((number, 4)));
     }
-    if let Some(isbn) = spaced_isbn(alloc, words, 4)? {
-        return Ok(Some((Number::Isbn(isbn), 3)));
+    if let Some(number) = spaced_isbn(alloc, words, 4)? {
+        return Ok(Some((number, 3)));
     }
-    if let Some(isbn) = spaced_isbn(alloc, words, 3)? {
-        return Ok(Some((Number::Isbn(isbn), 2)));
+    if let Some(number) = spaced_isbn(alloc, words, 3)? {
+        return Ok(Some((number, 2)));
     }
     match spaced_isbn(alloc, words, 2)? {
-        Some(isbn) => Ok(Some((Number::Isbn(isbn), 1))),
+        Some(number) => Ok(Some((number, 1))),
         None => Ok(None),
-    }
-}
-
-// Whether a word begins with a digit, as each ISBN does.
-fn begins_with_digit(word: &[u8]) -> bool
-    ensures { result ≡ begins_with_digit word.now }
-{
-    match word.first() {
-        Some(first) => first.is_ascii_digit(),
-        None => false,
     }
 }
 
@@ -166,6 +171,7 @@ pub(crate) fn first_number(
     if let Some(issn) = spaced_issn(alloc, words)? {
         return Ok(Some((Number::Issn(issn), 1)));
     }
+    // Each ISBN begins with a digit.
     if !begins_with_digit(first.text()) {
         return Ok(None);
     }

@@ -1,13 +1,14 @@
-//! The ISSNs and the ISBNs in values that have several, or words and spaces around them.
-ghost use Rattle.std.specs.Prelude.{◌≡◌, ◌++◌, [], IfOk, OnOk};
+//! The ISSNs and the ISBNs of pairs, also in values that have several, or words and spaces around them.
+ghost use Rattle.std.specs.Prelude.{◌≡◌, ◌++◌, [], IfOk, OnOk, option_copied};
+ghost use Rattle.std.specs.List.{flat_map};
 ghost use Rattle.feed_openurl.specs.Numbers.{first_number, number_onto, numbers_after, numbers_in, taken};
-ghost use Rattle.feed_openurl.specs.Identifiers.{numbers_of};
+ghost use Rattle.feed_openurl.specs.Identifiers.{core_number, numbers_in_text, numbers_of_pair};
 
-use crate::key::Tier;
 use crate::number::{Number, first_number};
 use crate::plain::plain;
-use crate::value::Value;
+use crate::value::value_of;
 use crate::words::{Word, words};
+use feed_answer::Pair;
 use std::alloc::{AllocError, Global};
 
 // Appends the number at the front of some words, and returns how many words after the first it takes.
@@ -49,20 +50,55 @@ fn push_value(alloc: Global, value: &[u8], numbers: &mut Vec<Number>) -> Result<
     push_numbers(alloc, &words, numbers)
 }
 
-/// Returns the numbers in the values of one tier of keys. They are found by their form and their check character, with
-/// no letter or digit beside them.
-pub(crate) fn numbers_of(
+// The number that the core reads of a pair.
+fn core_number(pair: &Pair<'_>) -> Option<Number>
+    ensures { result ≡ core_number pair.now }
+{
+    match pair.issn() {
+        Some(issn) => Some(Number::Issn(issn)),
+        None => match pair.isbn() {
+            Some(isbn) => Some(Number::Isbn(isbn)),
+            None => None,
+        },
+    }
+}
+
+// Appends the numbers in a text, if there is one.
+fn push_text(
     alloc: Global,
-    values: &[Value<'_>],
-    tier: Tier,
-) -> Result<Vec<Number>, AllocError>
-    ensures { IfOk result (λ numbers. numbers.items ≡ numbers_of tier values.now) }
+    text: Option<&[u8]>,
+    numbers: &mut Vec<Number>,
+) -> Result<(), AllocError>
+    ensures { OnOk result (numbers.new.items ≡ numbers.old.items ++ numbers_in_text (option_copied text.entry)) }
+{
+    match text {
+        Some(text) => push_value(alloc, text, numbers),
+        None => Ok(()),
+    }
+}
+
+// Appends the numbers of a pair: the one that the core reads, or else those in its value.
+#[tactic(auto, unfolding(crate::specs::Identifiers::numbers_of_pair))]
+fn push_pair(alloc: Global, pair: &Pair<'_>, numbers: &mut Vec<Number>) -> Result<(), AllocError>
+    ensures { OnOk result (numbers.new.items ≡ numbers.old.items ++ numbers_of_pair pair.now) }
+{
+    match core_number(pair) {
+        Some(number) => {
+            numbers.push(number)?;
+            Ok(())
+        }
+        None => push_text(alloc, value_of(pair).number_text(), numbers),
+    }
+}
+
+/// Returns the numbers of the pairs. In a value they are found by their form and their check character, with no letter
+/// or digit beside them.
+pub(crate) fn numbers_of(alloc: Global, pairs: &[Pair<'_>]) -> Result<Vec<Number>, AllocError>
+    ensures { IfOk result (λ numbers. numbers.items ≡ flat_map numbers_of_pair pairs.now) }
 {
     let mut numbers = Vec::new(alloc);
-    for value in values {
-        if let Some(text) = value.number_text(tier) {
-            push_value(alloc, text, &mut numbers)?;
-        }
+    for pair in pairs {
+        push_pair(alloc, pair, &mut numbers)?;
     }
     Ok(numbers)
 }

@@ -3,8 +3,8 @@ ghost use Rattle.std.specs.Prelude.{◌≡◌, IfOk};
 ghost use Rattle.std.specs.Cow.{cow_slice_items};
 ghost use Rattle.std.specs.List.{filter_map, list_all};
 ghost use Rattle.std.specs.Str.{chars};
-ghost use Rattle.feed_openurl.specs.Plain.{has_no_width, is_ascii_byte, is_dash};
-ghost use Rattle.feed_openurl.specs.Plain.{is_space, plain, plain_byte, plain_windows};
+ghost use Rattle.feed_openurl.specs.Plain.{has_no_width, is_ascii_byte, is_dash, is_date_sign, is_issue_sign};
+ghost use Rattle.feed_openurl.specs.Plain.{is_space, is_volume_sign, plain, plain_byte, plain_sign, plain_windows};
 
 use std::alloc::{AllocError, Global};
 use std::borrow::CowSlice;
@@ -34,8 +34,57 @@ fn has_no_width(c: u32) -> bool
         || c == 0xFEFF
 }
 
-// The byte of a character: a hyphen for each dash, a space for each space, an underscore for a letter or a sign beyond
-// ASCII, and nothing for a character without width.
+// Whether a character is the sign of a year or a month in Chinese, Japanese or Korean.
+fn is_date_sign(c: u32) -> bool
+    ensures { result ≡ is_date_sign c }
+{
+    c == 0x5E74 || c == 0x6708 || c == 0xB144 || c == 0xC6D4
+}
+
+// The same of a day or a volume.
+fn is_volume_sign(c: u32) -> bool
+    ensures { result ≡ is_volume_sign c }
+{
+    c == 0x65E5
+        || c == 0xC77C
+        || c == 0x5377
+        || c == 0x5DFB
+        || c == 0xAD8C
+        || c == 0x518C
+        || c == 0x518A
+}
+
+// The same before or behind the number of an issue.
+fn is_issue_sign(c: u32) -> bool
+    ensures { result ≡ is_issue_sign c }
+{
+    c == 0x7B2C
+        || c == 0xC81C
+        || c == 0x53F7
+        || c == 0x865F
+        || c == 0xD638
+        || c == 0x671F
+        || c == 0x96C6
+        || c == 0x8F2F
+        || c == 0xC9D1
+}
+
+// The byte of a letter or a sign beyond ASCII: a slash between the parts of a date, a space beside other numbers, or an
+// underscore.
+fn plain_sign(c: u32) -> u8
+    ensures { result ≡ plain_sign c }
+{
+    if is_date_sign(c) {
+        b'/'
+    } else if is_volume_sign(c) || is_issue_sign(c) {
+        b' '
+    } else {
+        b'_'
+    }
+}
+
+// The byte of a character: a hyphen for each dash, a space for each space, that of a sign, and nothing for a character
+// without width.
 fn plain_byte(c: u32) -> Option<u8>
     ensures { result ≡ plain_byte c }
 {
@@ -48,7 +97,7 @@ fn plain_byte(c: u32) -> Option<u8>
     } else if is_space(c) {
         Some(b' ')
     } else {
-        Some(b'_')
+        Some(plain_sign(c))
     }
 }
 
@@ -93,8 +142,8 @@ fn plain_bytes(alloc: Global, value: &[u8]) -> Result<Vec<u8>, AllocError>
     Ok(bytes)
 }
 
-/// Returns a value in ASCII: a hyphen for each dash, a space for each space, and `_` for any other character beyond
-/// ASCII. A value in ASCII is borrowed.
+/// Returns a value in ASCII: a hyphen for each dash, a space for each space, a slash or a space for a sign beside a
+/// number in Chinese, Japanese or Korean, and `_` for any other character beyond ASCII. A value in ASCII is borrowed.
 pub(crate) fn plain(alloc: Global, value: &[u8]) -> Result<CowSlice<'_, u8, Global>, AllocError>
     ensures { IfOk result (λ text. cow_slice_items text ≡ plain value.now) }
 {

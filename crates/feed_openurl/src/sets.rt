@@ -3,7 +3,7 @@ ghost use Rattle.std.specs.Prelude.{◌≡◌, ◌<◌, ◌↔◌, [], IsTrue, I
 ghost use Rattle.std.specs.BTreeSet.{insert_key};
 ghost use Rattle.std.specs.List.{filter_map};
 ghost use Rattle.feed_answer.specs.IdentifierSet.{identifier_set};
-ghost use Rattle.feed_openurl.specs.Identifiers.{as_isbn, as_issn, identifiers_for};
+ghost use Rattle.feed_openurl.specs.Identifiers.{as_isbn, as_issn, identifiers_among};
 
 use crate::number::Number;
 use feed_identifiers::{Isbn, Issn};
@@ -88,24 +88,14 @@ fn isbns_of(alloc: Global, numbers: &[Number]) -> Result<Vec<Isbn>, AllocError>
     set_of(alloc, &isbns)
 }
 
-/// Returns the identifiers among some numbers. In the format of journals ISBNs do not count, in that of books ISSNs.
-pub(crate) fn identifiers_for(
+/// Returns the identifiers among some numbers, as sets.
+pub(crate) fn identifiers_among(
     alloc: Global,
-    is_journal: bool,
-    is_book: bool,
     numbers: &[Number],
 ) -> Result<Identifiers, AllocError>
-    ensures { IfOk result (λ found. found ≡ identifiers_for is_journal is_book numbers.now) }
+    ensures { IfOk result (λ found. found ≡ identifiers_among numbers.now) }
 {
-    let issns = if is_book {
-        Vec::new(alloc)
-    } else {
-        issns_of(alloc, numbers)?
-    };
-    let isbns = if is_journal {
-        Vec::new(alloc)
-    } else {
-        isbns_of(alloc, numbers)?
-    };
+    let issns = issns_of(alloc, numbers)?;
+    let isbns = isbns_of(alloc, numbers)?;
     Ok(Identifiers { issns, isbns })
 }

@@ -36,19 +36,13 @@ impl<'a> Value<'a> {
         self.text
     }
 
-    /// Returns the text in which its numbers are looked for, if its key has some in this tier.
-    pub(crate) fn number_text(&self, tier: Tier) -> Option<&[u8]>
-        ensures { option_copied result ≡ number_text tier self.now }
+    /// Returns the text in which its numbers are looked for, if its key has some.
+    pub(crate) fn number_text(&self) -> Option<&[u8]>
+        ensures { option_copied result ≡ number_text self.now }
     {
         match self.key {
-            Key::Number(own) => { if own.is(tier) { Some(self.text) } else { None } }
-            Key::Name(own) => {
-                if own.is(tier) {
-                    number_in(self.text)
-                } else {
-                    None
-                }
-            }
+            Key::Number => Some(self.text),
+            Key::Name(_) => number_in(self.text),
             _ => None,
         }
     }
@@ -88,6 +82,16 @@ impl<'a> Value<'a> {
     }
 }
 
+/// Returns what the key of a pair asks for, with its value.
+pub(crate) fn value_of<'a>(pair: &'a Pair<'_>) -> Value<'a>
+    ensures { result ≡ keyed pair.now }
+{
+    Value {
+        key: Key::of(pair.key()),
+        text: pair.value(),
+    }
+}
+
 /// Returns what the keys of the pairs ask for, with their values.
 pub(crate) fn values_of<'a>(
     alloc: Global,
@@ -97,10 +101,7 @@ pub(crate) fn values_of<'a>(
 {
     let mut values = Vec::new(alloc);
     for pair in pairs {
-        values.push(Value {
-            key: Key::of(pair.key()),
-            text: pair.value(),
-        })?;
+        values.push(value_of(pair))?;
     }
     Ok(values)
 }

@@ -1,11 +1,11 @@
 //! The volume of a query as the core reads it, and the leading number of a value that has more.
-ghost use Rattle.std.specs.Prelude.{◌≡◌, ◌≤◌, IfOk, length};
+ghost use Rattle.std.specs.Prelude.{◌≡◌, ◌≤◌, IfOk, length, option_copied};
 ghost use Rattle.feed_openurl.specs.Fronts.{front_len};
-ghost use Rattle.feed_openurl.specs.Volumes.{is_english_word, is_filler, is_other_word, is_volume_word};
-ghost use Rattle.feed_openurl.specs.Volumes.{leading_volume, number_at_front, without_fillers};
+ghost use Rattle.feed_openurl.specs.Volumes.{after_brackets, is_english_word, is_filler, is_other_word, is_volume_word};
+ghost use Rattle.feed_openurl.specs.Volumes.{leading_volume, number_at_front, without_fillers, without_series};
 
-use crate::digits::{is_letter, split_digits, split_letters};
-use crate::key::is_name;
+use crate::digits::{begins_with_digit, is_letter, split_digits, split_letters};
+use crate::key::{after, is_name};
 use feed_kbart::read_volume;
 use std::alloc::{AllocError, Global};
 use std::marker::Model;
@@ -122,4 +122,22 @@ pub(crate) fn leading_volume(alloc: Global, value: &[u8]) -> Result<Option<Volum
         return Ok(None);
     }
     number_at_front(alloc, without_fillers(rest))
+}
+
+// What follows a number in brackets at the front of a text.
+fn after_brackets(text: &[u8]) -> Option<&[u8]>
+    ensures { option_copied result ≡ after_brackets text.now }
+{
+    let (_, rest) = split_digits(after(text, "(")?);
+    after(rest, ")")
+}
+
+/// Returns a text behind a number in brackets, if it begins with a number itself, as `(2) 141` of a second series.
+pub(crate) fn without_series(text: &[u8]) -> &[u8]
+    ensures { result.now ≡ without_series text.now }
+{
+    match after_brackets(text) {
+        Some(rest) if begins_with_digit(without_fillers(rest)) => rest,
+        _ => text,
+    }
 }

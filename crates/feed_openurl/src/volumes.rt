@@ -5,13 +5,19 @@ ghost use Rattle.feed_answer.specs.Pairs.{first};
 ghost use Rattle.feed_openurl.specs.Core.{core_volume, volume_of_pair};
 ghost use Rattle.feed_openurl.specs.Keys.{keyed};
 ghost use Rattle.feed_openurl.specs.Plain.{plain};
-ghost use Rattle.feed_openurl.specs.Tiers.{lenient_volume_of, strict_volume_of, volume_in, volume_of};
-ghost use Rattle.feed_openurl.specs.Volumes.{leading_volume};
+ghost use Rattle.feed_openurl.specs.Keys.{or_text};
+ghost use Rattle.feed_identifiers.specs.Text.{trimmed};
+ghost use Rattle.feed_openurl.specs.Romans.{roman_volume};
+ghost use Rattle.feed_openurl.specs.Tiers.{lenient_volume, lenient_volume_of, strict_volume_of, volume_in, volume_of};
+ghost use Rattle.feed_openurl.specs.Volumes.{is_year_of, leading_volume, unless_year_of, without_series};
 
+use crate::date::DateText;
 use crate::key::Tier;
+use crate::lenient_date::lenient_date;
 use crate::plain::plain;
+use crate::roman::roman_volume;
 use crate::value::Value;
-use crate::volume::{VolumeText, leading_volume};
+use crate::volume::{VolumeText, leading_volume, without_series};
 use feed_answer::Pair;
 use feed_identifiers::trim_spaces;
 use std::alloc::{AllocError, Global};
@@ -57,7 +63,7 @@ fn core_volume(alloc: Global, pairs: &[Pair<'_>]) -> Result<Option<VolumeText>, 
     Ok(None)
 }
 
-// The first volume of a tier in the form of the core, or else the first leading number.
+// The first volume of a tier in the form of the core, or else the first in another.
 fn volume_in(
     alloc: Global,
     values: &[Value<'_>],
@@ -89,7 +95,7 @@ fn strict_volume(
     Ok(None)
 }
 
-// The first leading number of a tier.
+// The first volume of a tier in another form.
 fn other_volume(
     alloc: Global,
     values: &[Value<'_>],
@@ -99,7 +105,7 @@ fn other_volume(
 {
     for value in values {
         if value.is_volume(tier) {
-            if let Some(volume) = lenient_volume(alloc, value.text())? {
+            if let Some(volume) = volume_in_value(alloc, value.text())? {
                 return Ok(Some(volume));
             }
         }
@@ -107,9 +113,51 @@ fn other_volume(
     Ok(None)
 }
 
-fn lenient_volume(alloc: Global, value: &[u8]) -> Result<Option<VolumeText>, AllocError>
-    ensures { IfOk result (λ volume. volume ≡ leading_volume (plain value.now)) }
+// The leading number of a text, or else what it is as a Roman numeral.
+fn number_of(alloc: Global, text: &[u8]) -> Result<Option<VolumeText>, AllocError>
+    ensures { IfOk result (λ volume. volume
+        ≡ or_text (leading_volume (without_series text.now)) (roman_volume text.now)) }
+{
+    match leading_volume(alloc, without_series(text))? {
+        Some(volume) => Ok(Some(volume)),
+        None => roman_volume(alloc, text),
+    }
+}
+
+// The volume of a text in another form than the core's.
+#[tactic(auto, unfolding(crate::specs::Tiers::lenient_volume))]
+fn lenient_volume(alloc: Global, text: &[u8]) -> Result<Option<VolumeText>, AllocError>
+    ensures { IfOk result (λ volume. volume ≡ lenient_volume text.now) }
+{
+    let date = lenient_date(alloc, text)?;
+    Ok(unless_year_of(date, number_of(alloc, text)?))
+}
+
+fn volume_in_value(alloc: Global, value: &[u8]) -> Result<Option<VolumeText>, AllocError>
+    ensures { IfOk result (λ volume. volume ≡ lenient_volume (trimmed (plain value.now))) }
 {
     let text = plain(alloc, value)?;
-    leading_volume(alloc, text.as_slice())
+    lenient_volume(alloc, trim_spaces(text.as_slice()))
+}
+
+// Whether a volume is the year of a date that has a month, as in `2018-January`.
+fn is_year_of(date: &Option<DateText>, volume: &VolumeText) -> bool
+    ensures { result ≡ is_year_of date.now volume.now }
+{
+    match date {
+        Some(date) => {
+            let text = date.as_bytes();
+            text.len() > 4 && &text[..4] == volume.as_bytes()
+        }
+        None => false,
+    }
+}
+
+fn unless_year_of(date: Option<DateText>, volume: Option<VolumeText>) -> Option<VolumeText>
+    ensures { result ≡ unless_year_of date volume }
+{
+    match volume {
+        Some(volume) if is_year_of(&date, &volume) => None,
+        _ => volume,
+    }
 }

@@ -1,8 +1,10 @@
 //! The words of a value, among which ISSNs and ISBNs are found.
 ghost use Rattle.std.specs.Prelude.{◌≡◌, ◌==◌, ◌&&◌, ◌++◌, ◌∷◌, ℕ, List, [], IfOk, OnOk};
 ghost use Rattle.feed_answer.specs.Pairs.{is_empty};
-ghost use Rattle.feed_openurl.specs.Numbers.{is_word_byte, onto, sign_onto, unlabelled, without, words_from};
+ghost use Rattle.feed_openurl.specs.Numbers.{is_word_byte, onto, sign_onto, unlabelled, without, without_letters};
+ghost use Rattle.feed_openurl.specs.Numbers.{words_from};
 
+use crate::digits::split_letters;
 use crate::key::after;
 use std::alloc::{AllocError, Global};
 use std::marker::Model;
@@ -47,12 +49,23 @@ fn without<'a>(text: &'a [u8], prefix: &str) -> &'a [u8]
     }
 }
 
+// The word without letters and a hyphen at its front, as in `EISSN-1935-102X`.
+fn without_letters(word: &[u8]) -> &[u8]
+    ensures { result.now ≡ without_letters word.now }
+{
+    let (_, rest) = split_letters(word);
+    match after(rest, "-") {
+        Some(number) => number,
+        None => word,
+    }
+}
+
 // The word without a label that is written onto it, as in `ISSN2434-561X`.
 #[tactic(auto, unfolding(crate::specs::Numbers::unlabelled))]
 fn unlabelled(word: &[u8]) -> &[u8]
     ensures { result.now ≡ unlabelled word.now }
 {
-    without(without(without(word, "ISBN"), "ISSN"), "-")
+    without_letters(without(without(word, "ISBN"), "ISSN"))
 }
 
 // Appends a word, unless nothing is left of it.
