@@ -1,6 +1,6 @@
 //! `kbfeed openurl`: how a query is understood, in lines or as JSON.
 use feed_command::{DONE, FAILED, Faults, REFUSED};
-use feed_openurl::{Citation, Dropped, Refusal, Understanding, dropped_keys};
+use feed_openurl::{Citation, Dropped, PARTS, Part, Refusal, Understanding, dropped_keys};
 use std::alloc::{AllocError, Global};
 use std::io;
 use std::io::{ErrorKind, Write};
@@ -80,7 +80,7 @@ fn print_line<O: Write>(out: &mut O, label: &str, value: &[u8]) -> io::Result<()
 }
 
 // Prints a line for a part of a citation, unless it is absent.
-fn print_part<O: Write>(out: &mut O, label: &str, value: &String) -> io::Result<()> {
+fn print_part<O: Write>(out: &mut O, label: &str, value: &str) -> io::Result<()> {
     if value.is_empty() {
         return Ok(());
     }
@@ -113,7 +113,7 @@ fn print_lines<O: Write>(reading: &Reading, out: &mut O) -> io::Result<()> {
 fn print_date<O: Write>(reading: &Reading, out: &mut O) -> io::Result<()> {
     match reading.understood.date() {
         Some(date) => print_line(out, "date", date),
-        None => print_part(out, "unread date", &reading.citation.date),
+        None => print_part(out, "unread date", reading.citation.text(Part::Date)),
     }
 }
 
@@ -121,18 +121,18 @@ fn print_date<O: Write>(reading: &Reading, out: &mut O) -> io::Result<()> {
 fn print_volume<O: Write>(reading: &Reading, out: &mut O) -> io::Result<()> {
     match reading.understood.volume() {
         Some(volume) => print_line(out, "volume", volume),
-        None => print_part(out, "unread volume", &reading.citation.volume),
+        None => print_part(out, "unread volume", reading.citation.text(Part::Volume)),
     }
 }
 
+// Prints the parts of a citation but the date and the volume, which are printed as they are read.
 fn print_citation<O: Write>(citation: &Citation, out: &mut O) -> io::Result<()> {
-    print_part(out, "issue", &citation.issue)?;
-    print_part(out, "page", &citation.page)?;
-    print_part(out, "article", &citation.article)?;
-    print_part(out, "title", &citation.title)?;
-    print_part(out, "author", &citation.author)?;
-    print_part(out, "doi", &citation.doi)?;
-    print_part(out, "pmid", &citation.pmid)
+    for part in &PARTS {
+        if !matches!(part, Part::Date | Part::Volume) {
+            print_part(out, part.name(), citation.text(*part))?;
+        }
+    }
+    Ok(())
 }
 
 // Writes a text as a JSON string.
@@ -199,16 +199,15 @@ fn write_values<O: Write>(alloc: Global, reading: &Reading, out: &mut O) -> io::
 }
 
 fn write_citation<O: Write>(alloc: Global, citation: &Citation, out: &mut O) -> io::Result<()> {
-    out.write_all(b",\"citation\":{\"article\":")?;
-    write_text(alloc, out, citation.article.as_bytes())?;
-    write_member(alloc, out, "title", citation.title.as_bytes())?;
-    write_member(alloc, out, "author", citation.author.as_bytes())?;
-    write_member(alloc, out, "date", citation.date.as_bytes())?;
-    write_member(alloc, out, "volume", citation.volume.as_bytes())?;
-    write_member(alloc, out, "issue", citation.issue.as_bytes())?;
-    write_member(alloc, out, "page", citation.page.as_bytes())?;
-    write_member(alloc, out, "doi", citation.doi.as_bytes())?;
-    write_member(alloc, out, "pmid", citation.pmid.as_bytes())?;
+    out.write_all(b",\"citation\":{")?;
+    let mut front: &[u8] = b"\"";
+    for part in &PARTS {
+        out.write_all(front)?;
+        front = b",\"";
+        out.write_all(part.name().as_bytes())?;
+        out.write_all(b"\":")?;
+        write_text(alloc, out, citation.text(*part).as_bytes())?;
+    }
     out.write_all(b"}")
 }
 

@@ -1,55 +1,83 @@
 -- Pairs that leave a citation as it is.
-use Rattle.std.proofs.Common.{◌≡◌, ℕ, List, [], ◌∷◌, ◌++◌, true, false, Option, Some, None, refl, ap, ◌∙◌, fold}
+use Rattle.std.proofs.Common.{◌≡◌, ℕ, List, [], ◌∷◌, ◌++◌, true, false, Option, Some, None, refl, ap, ◌∙◌}
 use Rattle.std.specs.Prelude.{◌&&◌, not, is_some}
+use Rattle.std.specs.List.{flat_map}
+use Rattle.std.specs.Str.{chars, is_utf8}
 use Rattle.feed_identifiers.specs.Text.{trimmed}
-use Rattle.feed_openurl.specs.Citations.{ChoicesValue, OfferValue, cited, no_choices, offer_by, part_of, part_offer, with_offered, with_pair}
+use Rattle.feed_openurl.specs.Citations.{OfferValue, cited, name_offers_by, offer, offer_text, offers_by, offers_for, offers_of, pair_offers, part_of, part_offers}
 use Rattle.feed_openurl.specs.Dropped.{is_other}
 use Rattle.feed_openurl.specs.Keys.{key_of}
 use Rattle.feed_openurl.specs.Laws.{BlankIsUncited, DroppedIsUncited, IsUncited}
-use Rattle.feed_openurl.specs.declared.citation.Part.{Part}
-use Rattle.feed_openurl.specs.declared.citation.Part.TheVariants.{Article, Title, Author, Page, Pages, Issue, Date, Volume, Doi, Pmid}
+use Rattle.feed_openurl.specs.Shown.{shown}
+use Rattle.feed_openurl.specs.declared.part.Part.{Part}
+use Rattle.feed_openurl.specs.declared.part.Part.TheVariants as part
 use Rattle.feed_openurl.specs.declared.key.Key.{Key}
 use Rattle.feed_openurl.specs.declared.key.Key.TheVariants as key
 
--- a pair that changes no choice changes no citation
-passed_over : (pair : List ℕ × List ℕ) → ((choices : ChoicesValue) → with_pair choices pair ≡ choices) → IsUncited pair
-passed_over pair passes before after = ap cited (by before no_choices)
+-- a pair that offers nothing changes no citation
+passed_over : (pair : List ℕ × List ℕ) → pair_offers pair ≡ [] → IsUncited pair
+passed_over pair none before after = ap cited (by before)
   where
-    by : (front : List (List ℕ × List ℕ)) (choices : ChoicesValue) → fold with_pair choices (front ++ pair ∷ after) ≡ fold with_pair choices (front ++ after)
-    by [] choices = ap (λ (c : ChoicesValue). fold with_pair c after) (passes choices)
-    by (p ∷ front) choices = by front (with_pair choices p)
+    by : (front : List (List ℕ × List ℕ)) → offers_of (front ++ pair ∷ after) ≡ offers_of (front ++ after)
+    by [] = ap (λ (l : List OfferValue). l ++ offers_of after) none
+    by (p ∷ front) = ap (λ (l : List OfferValue). pair_offers p ++ l) (by front)
 
--- an empty value is not taken for a part
-empty_part : (found : Option (Part × ℕ)) (choices : ChoicesValue) → with_offered (part_offer found []) choices ≡ choices
-empty_part None choices = refl
-empty_part (Some (Article, rank)) choices = refl
-empty_part (Some (Title, rank)) choices = refl
-empty_part (Some (Author, rank)) choices = refl
-empty_part (Some (Page, rank)) choices = refl
-empty_part (Some (Pages, rank)) choices = refl
-empty_part (Some (Issue, rank)) choices = refl
-empty_part (Some (Date, rank)) choices = refl
-empty_part (Some (Volume, rank)) choices = refl
-empty_part (Some (Doi, rank)) choices = refl
-empty_part (Some (Pmid, rank)) choices = refl
+-- an empty value shows nothing
+nothing_shown : shown [] ≡ []
+unfolding shown is_utf8 chars
+nothing_shown = refl
 
-empty_passes : (k : Key) (name : List ℕ) (choices : ChoicesValue) → with_offered (offer_by k name []) choices ≡ choices
-empty_passes key.Version name choices = refl
-empty_passes key.Format name choices = refl
-empty_passes key.Number name choices = refl
-empty_passes (key.Name tier) name choices = refl
-empty_passes (key.Date tier) name choices = refl
-empty_passes (key.Volume tier) name choices = refl
-empty_passes key.Other name choices = empty_part (part_of name) choices
+not_offered : (one : Part) (rank : ℕ) → offer one rank [] ≡ []
+not_offered one rank = ap (offer_text one rank) nothing_shown
+
+pages_empty : (rank : ℕ) → part_offers part.Pages rank [] ≡ []
+pages_empty rank =
+    ap (λ (l : List OfferValue). l ++ (offer part.Page rank [] ++ offer part.LastPage rank [])) (not_offered part.Pages rank)
+    ∙ ap (λ (l : List OfferValue). l ++ offer part.LastPage rank []) (not_offered part.Page rank)
+    ∙ not_offered part.LastPage rank
+
+part_empty : (one : Part) (rank : ℕ) → part_offers one rank [] ≡ []
+part_empty part.Article rank = not_offered part.Article rank
+part_empty part.Title rank = not_offered part.Title rank
+part_empty part.Author rank = not_offered part.Author rank
+part_empty part.Date rank = not_offered part.Date rank
+part_empty part.Volume rank = not_offered part.Volume rank
+part_empty part.Issue rank = not_offered part.Issue rank
+part_empty part.Page rank = not_offered part.Page rank
+part_empty part.Doi rank = refl
+part_empty part.Pmid rank = refl
+part_empty part.Genre rank = not_offered part.Genre rank
+part_empty part.LastName rank = not_offered part.LastName rank
+part_empty part.FirstName rank = not_offered part.FirstName rank
+part_empty part.LastPage rank = not_offered part.LastPage rank
+part_empty part.Pages rank = pages_empty rank
+part_empty part.Series rank = not_offered part.Series rank
+part_empty part.Edition rank = not_offered part.Edition rank
+part_empty part.Publisher rank = not_offered part.Publisher rank
+part_empty part.Place rank = not_offered part.Place rank
+part_empty part.Institution rank = not_offered part.Institution rank
+
+found_empty : (found : Option (Part × ℕ)) → offers_for found [] ≡ []
+found_empty None = refl
+found_empty (Some (one, rank)) = part_empty one rank
+
+key_empty : (k : Key) (name : List ℕ) → offers_by k name [] ≡ []
+key_empty key.Version name = refl
+key_empty key.Format name = refl
+key_empty key.Number name = refl
+key_empty (key.Name tier) name = refl
+key_empty (key.Date tier) name = not_offered part.Date _
+key_empty (key.Volume tier) name = not_offered part.Volume _
+key_empty key.Other name = found_empty (part_of name)
 
 pub blank_uncited : BlankIsUncited
 blank_uncited name value blank =
-    passed_over (name, value) (λ choices. ap (λ (v : List ℕ). with_offered (offer_by (key_of name) name v) choices) blank ∙ empty_passes (key_of name) name choices)
+    passed_over (name, value) (ap (λ (v : List ℕ). offers_by (key_of name) name v) blank ∙ key_empty (key_of name) name)
 
 -- a key that nobody reads offers nothing
-dropped_offers : (k : Key) (name value : List ℕ) (found : Option (Part × ℕ)) → part_of name ≡ found → (is_other k && not (is_some found)) ≡ true → offer_by k name value ≡ None
-dropped_offers key.Other name value None is h = ap (λ (f : Option (Part × ℕ)). part_offer f value) is
-dropped_offers key.Other name value (Some part) is h = absurd (let u : false ≡ true = h in cc)
+dropped_offers : (k : Key) (name value : List ℕ) (found : Option (Part × ℕ)) → part_of name ≡ found → (is_other k && not (is_some found)) ≡ true → offers_by k name value ≡ []
+dropped_offers key.Other name value None is h = ap (λ (f : Option (Part × ℕ)). offers_for f value) is
+dropped_offers key.Other name value (Some found) is h = absurd (let u : false ≡ true = h in cc)
 dropped_offers key.Version name value found is h = absurd (let u : false ≡ true = h in cc)
 dropped_offers key.Format name value found is h = absurd (let u : false ≡ true = h in cc)
 dropped_offers key.Number name value found is h = absurd (let u : false ≡ true = h in cc)
@@ -58,6 +86,4 @@ dropped_offers (key.Date tier) name value found is h = absurd (let u : false ≡
 dropped_offers (key.Volume tier) name value found is h = absurd (let u : false ≡ true = h in cc)
 
 pub dropped_uncited : DroppedIsUncited
-dropped_uncited name value dropped =
-    passed_over (name, value)
-    (λ choices. ap (λ (o : Option OfferValue). with_offered o choices) (dropped_offers (key_of name) name (trimmed value) (part_of name) refl dropped))
+dropped_uncited name value dropped = passed_over (name, value) (dropped_offers (key_of name) name (trimmed value) (part_of name) refl dropped)

@@ -1,45 +1,30 @@
--- The citation of a query: of each part, the first value of the best key (Z39.88-2004, the matrices of journals and books;
--- OpenURL 0.1).
-use Rattle.std.specs.Prelude.{ℕ, Bool, ◌||◌, ◌&&◌, not, ◌==◌, ◌+◌, nat_lt, List, [], Option, Some, None, if◌then◌else◌, option_map, fold, take, codes}
-use Rattle.std.specs.Option.{option_and_then}
+-- The citation of a query: of each part, the first value of the best key, and all authors (Z39.88-2004, the matrices of
+-- journals, books and dissertations; OpenURL 0.1; Dublin Core).
+use Rattle.std.specs.Prelude.{ℕ, Bool, ◌||◌, ◌&&◌, not, ◌==◌, ◌+◌, ◌++◌, ◌∷◌, nat_lt, List, [], Option, Some, None, if◌then◌else◌, option_map, fold, map, take, drop, codes, slice_get}
+use Rattle.std.specs.List.{flat_map}
 use Rattle.form_urlencoded.specs.Form as form
 use Rattle.feed_identifiers.specs.Text.{trimmed}
 use Rattle.feed_answer.specs.Pairs.{is_empty}
+use Rattle.feed_openurl.specs.CitationParts.{place_of, same_part}
 use Rattle.feed_openurl.specs.Fronts.{front_len}
-use Rattle.feed_openurl.specs.Keys.{after_prefix, is_name, key_of, mended}
+use Rattle.feed_openurl.specs.Keys.{after_prefix, is_name, key_of, mended, or_else}
 use Rattle.feed_openurl.specs.Links.{bare_pmid_of, doi_of, pmid_of}
 use Rattle.feed_openurl.specs.Shown.{shown}
-use Rattle.feed_openurl.specs.declared.citation.Part.{Part}
-use Rattle.feed_openurl.specs.declared.citation.Part.TheVariants.{Article, Title, Author, Page, Pages, Issue, Date, Volume, Doi, Pmid}
+use Rattle.feed_openurl.specs.declared.part.Part.{Part}
+use Rattle.feed_openurl.specs.declared.part.Part.TheVariants.{Article, Title, Author, Date, Volume, Issue, Page, Doi, Pmid, Genre, LastName, FirstName, LastPage, Pages, Series, Edition, Publisher, Place, Institution}
+use Rattle.feed_openurl.specs.declared.part.TheConstants.{PARTS}
 use Rattle.feed_openurl.specs.declared.key.Key.{Key}
 use Rattle.feed_openurl.specs.declared.key.Key.TheVariants as key
 use Rattle.feed_openurl.specs.declared.key.Tier.{Tier}
 use Rattle.feed_openurl.specs.declared.key.Tier.TheVariants.{Old, Rft}
 
--- the texts of a citation; one that is absent is empty
-pub record CitationValue : Type 0 where
-  pub article : List ℕ
-  pub title : List ℕ
-  pub author : List ℕ
-  pub page : List ℕ
-  pub issue : List ℕ
-  pub date : List ℕ
-  pub volume : List ℕ
-  pub doi : List ℕ
-  pub pmid : List ℕ
+-- the texts of a citation, in the order of its parts; one that is absent is empty
+abbrev pub CitationValue : Type 0
+CitationValue = List (List ℕ)
 
--- the number of a part; a range of pages has the number of the first page
-abbrev pub place_of : Part → ℕ
-place_of Article = 0
-place_of Title = 1
-place_of Author = 2
-place_of Page = 3
-place_of Pages = 3
-place_of Issue = 4
-place_of Date = 5
-place_of Volume = 6
-place_of Doi = 7
-place_of Pmid = 8
+-- the text of a part
+abbrev pub text_at : CitationValue → Part → List ℕ
+text_at citation part = or_else (slice_get citation (place_of part)) []
 
 -- the rank of a key: those of OpenURL 1.0 before those of 0.1, and then by how closely the key names the part; the least is
 -- the best
@@ -47,33 +32,61 @@ abbrev pub rank : Tier → ℕ → ℕ
 rank Rft order = order
 rank Old order = 30 + order
 
--- a text for a part
+-- a title
 abbrev pub title_part : List ℕ → Option (Part × ℕ)
 title_part name =
     if is_name name (codes "atitle") then Some (Article, 0)
     else if is_name name (codes "jtitle") || is_name name (codes "btitle") then Some (Title, 0)
     else if is_name name (codes "title") then Some (Title, 1)
     else if is_name name (codes "stitle") then Some (Title, 2)
-    else if is_name name (codes "aulast") then Some (Author, 0)
+    else if is_name name (codes "source") then Some (Title, 3)
     else None
 
--- a number for a part; a DOI or a PMID that has a key of its own comes after one that is a name
+-- an author: one whole name a value, or the parts of the name of the first author
+abbrev pub author_part : List ℕ → Option (Part × ℕ)
+author_part name =
+    if is_name name (codes "au") then Some (Author, 0)
+    else if is_name name (codes "aulast") then Some (LastName, 1)
+    else if is_name name (codes "creator") then Some (Author, 2)
+    else if is_name name (codes "aufirst") then Some (FirstName, 0)
+    else if is_name name (codes "auinit") then Some (FirstName, 1)
+    else if is_name name (codes "auinit1") then Some (FirstName, 2)
+    else None
+
+-- a place in a journal or a book; a DOI or a PMID that has a key of its own comes after one that is a name
 abbrev pub number_part : List ℕ → Option (Part × ℕ)
 number_part name =
-    if is_name name (codes "spage") then Some (Page, 0)
+    if is_name name (codes "issue") then Some (Issue, 0)
+    else if is_name name (codes "spage") then Some (Page, 0)
+    else if is_name name (codes "epage") then Some (LastPage, 0)
     else if is_name name (codes "pages") then Some (Pages, 1)
-    else if is_name name (codes "issue") then Some (Issue, 0)
     else if is_name name (codes "doi") then Some (Doi, 20)
     else if is_name name (codes "pmid") then Some (Pmid, 20)
+    else None
+
+-- what a work is, and where it was published
+abbrev pub work_part : List ℕ → Option (Part × ℕ)
+work_part name =
+    if is_name name (codes "genre") then Some (Genre, 0)
+    else if is_name name (codes "series") then Some (Series, 0)
+    else if is_name name (codes "edition") then Some (Edition, 0)
+    else if is_name name (codes "pub") then Some (Publisher, 0)
+    else if is_name name (codes "publisher") then Some (Publisher, 1)
+    else if is_name name (codes "place") then Some (Place, 0)
+    else if is_name name (codes "inst") then Some (Institution, 0)
     else None
 
 abbrev pub or_part : Option (Part × ℕ) → Option (Part × ℕ) → Option (Part × ℕ)
 or_part (Some found) other = Some found
 or_part None other = other
 
--- the part that a name has, and the rank of its key
+-- the part that a name has, and the order of its key
+abbrev pub ordered : List ℕ → Option (Part × ℕ)
+ordered name = or_part (title_part name) (or_part (author_part name) (or_part (number_part name) (work_part name)))
+
+-- the same with the rank of the key
 abbrev pub named : Tier → List ℕ → Option (Part × ℕ)
-named tier name = option_map (λ found. (found.0, rank tier found.1)) (or_part (title_part name) (number_part name))
+named tier name = option_map (λ found. (found.0, rank tier found.1)) (ordered name)
 
 abbrev pub named_after : Option (List ℕ) → List ℕ → Option (Part × ℕ)
 named_after (Some rest) name = named Rft rest
@@ -82,132 +95,133 @@ named_after None name = named Old name
 abbrev pub part_of : List ℕ → Option (Part × ℕ)
 part_of key = named_after (after_prefix (codes "rft.") (mended key)) (mended key)
 
--- a byte of the first page of a range: not a hyphen, a comma or a space, which come behind it, as in `10-15`
+-- a byte of a page: not a hyphen, a comma or a space, which are between two pages, as in `10-15`
 abbrev pub is_in_page : ℕ → Bool
 is_in_page b = not (b == 45) && not (b == 44) && not (b == 32)
 
+abbrev pub is_between_pages : ℕ → Bool
+is_between_pages b = not (is_in_page b)
+
+-- the first of some pages, and the one that follows it
 abbrev pub first_page : List ℕ → List ℕ
 first_page pages = take (front_len is_in_page pages) pages
 
--- what a value says of a part
-abbrev pub value_for : Part → List ℕ → Option (List ℕ)
-value_for Pages value = Some (first_page value)
-value_for Doi value = doi_of value
-value_for Pmid value = bare_pmid_of value
-value_for part value = Some value
+abbrev pub behind_page : List ℕ → List ℕ
+behind_page pages = drop (front_len is_in_page pages) pages
 
--- a value that is offered for a part
+abbrev pub next_page : List ℕ → List ℕ
+next_page pages = first_page (drop (front_len is_between_pages (behind_page pages)) (behind_page pages))
+
+-- a text that is offered for a part
 pub record OfferValue : Type 0 where
   pub part : Part
   pub rank : ℕ
-  pub value : List ℕ
+  pub text : List ℕ
 
-abbrev pub offer : Part → ℕ → List ℕ → OfferValue
-offer part rank value = record { part = part; rank = rank; value = value }
+-- a text that shows nothing is not offered
+abbrev pub offer_text : Part → ℕ → List ℕ → List OfferValue
+offer_text part rank text = if is_empty text then [] else record { part = part; rank = rank; text = text } ∷ []
 
-abbrev pub or_offer : Option OfferValue → Option OfferValue → Option OfferValue
-or_offer (Some found) other = Some found
-or_offer None other = other
+abbrev pub offer : Part → ℕ → List ℕ → List OfferValue
+offer part rank value = offer_text part rank (shown value)
+
+abbrev pub offer_some : Part → ℕ → Option (List ℕ) → List OfferValue
+offer_some part rank (Some value) = offer part rank value
+offer_some part rank None = []
+
+-- some pages, the first of them, and the one that follows it
+abbrev pub pages_offers : ℕ → List ℕ → List OfferValue
+pages_offers rank value = offer Pages rank value ++ (offer Page rank (first_page value) ++ offer LastPage rank (next_page value))
+
+-- what a value of this part and this rank says of a citation
+abbrev pub part_offers : Part → ℕ → List ℕ → List OfferValue
+part_offers Pages rank value = pages_offers rank value
+part_offers Doi rank value = offer_some Doi rank (doi_of value)
+part_offers Pmid rank value = offer_some Pmid rank (bare_pmid_of value)
+part_offers part rank value = offer part rank value
+
+abbrev pub offers_for : Option (Part × ℕ) → List ℕ → List OfferValue
+offers_for (Some found) value = part_offers found.0 found.1 value
+offers_for None value = []
 
 -- a name is a DOI or a PMID
-abbrev pub name_offer : ℕ → List ℕ → Option OfferValue
-name_offer rank value = or_offer (option_map (offer Doi rank) (doi_of value)) (option_map (offer Pmid rank) (pmid_of value))
-
-abbrev pub part_offer : Option (Part × ℕ) → List ℕ → Option OfferValue
-part_offer found value = option_and_then (λ part. option_map (offer part.0 part.1) (value_for part.0 value)) found
+abbrev pub name_offers_by : ℕ → Option (List ℕ) → List ℕ → List OfferValue
+name_offers_by rank (Some doi) value = offer Doi rank doi
+name_offers_by rank None value = offer_some Pmid rank (pmid_of value)
 
 -- what a value says of a citation, by what its key asks for
-abbrev pub offer_by : Key → List ℕ → List ℕ → Option OfferValue
-offer_by (key.Date tier) name value = Some (offer Date (rank tier 0) value)
-offer_by (key.Volume tier) name value = Some (offer Volume (rank tier 0) value)
-offer_by (key.Name tier) name value = name_offer (rank tier 0) value
-offer_by key.Other name value = part_offer (part_of name) value
-offer_by _ name value = None
+abbrev pub offers_by : Key → List ℕ → List ℕ → List OfferValue
+offers_by (key.Date tier) name value = offer Date (rank tier 0) value
+offers_by (key.Volume tier) name value = offer Volume (rank tier 0) value
+offers_by (key.Name tier) name value = name_offers_by (rank tier 0) (doi_of value) value
+offers_by key.Other name value = offers_for (part_of name) value
+offers_by _ name value = []
 
-abbrev pub offer_of : List ℕ × List ℕ → Option OfferValue
-offer_of pair = offer_by (key_of pair.0) pair.0 (trimmed pair.1)
+abbrev pub pair_offers : List ℕ × List ℕ → List OfferValue
+pair_offers pair = offers_by (key_of pair.0) pair.0 (trimmed pair.1)
 
--- the value that is chosen for a part so far, and its rank
+-- what the pairs of a query say of a citation
+abbrev pub offers_of : List (List ℕ × List ℕ) → List OfferValue
+offers_of pairs = flat_map pair_offers pairs
+
+-- the text that is chosen for a part so far, and its rank; it is empty if there is none
 pub record ChoiceValue : Type 0 where
   pub rank : ℕ
-  pub value : List ℕ
-
--- a value that is offered replaces one of a later rank, unless it is empty
-abbrev pub better : OfferValue → ChoiceValue → ChoiceValue
-better offered choice =
-    if is_empty offered.value then choice
-    else if is_empty choice.value || nat_lt offered.rank choice.rank then record { rank = offered.rank; value = offered.value }
-    else choice
-
-abbrev pub taken : ℕ → OfferValue → ChoiceValue → ChoiceValue
-taken place offered choice = if place == place_of offered.part then better offered choice else choice
-
-pub record ChoicesValue : Type 0 where
-  pub article : ChoiceValue
-  pub title : ChoiceValue
-  pub author : ChoiceValue
-  pub page : ChoiceValue
-  pub issue : ChoiceValue
-  pub date : ChoiceValue
-  pub volume : ChoiceValue
-  pub doi : ChoiceValue
-  pub pmid : ChoiceValue
+  pub text : List ℕ
 
 abbrev pub no_choice : ChoiceValue
-no_choice = record { rank = 0; value = [] }
+no_choice = record { rank = 0; text = [] }
 
-abbrev pub no_choices : ChoicesValue
-no_choices = record {
-  article = no_choice;
-  title = no_choice;
-  author = no_choice;
-  page = no_choice;
-  issue = no_choice;
-  date = no_choice;
-  volume = no_choice;
-  doi = no_choice;
-  pmid = no_choice;
-}
+-- an offer for the part replaces one of a later rank
+abbrev pub taken : Part → ChoiceValue → OfferValue → ChoiceValue
+taken part choice offered =
+    if same_part part offered.part && (is_empty choice.text || nat_lt offered.rank choice.rank)
+    then record { rank = offered.rank; text = offered.text } else choice
 
--- with one value more
-abbrev pub with_offer : OfferValue → ChoicesValue → ChoicesValue
-with_offer offered choices = record {
-  article = taken 0 offered choices.article;
-  title = taken 1 offered choices.title;
-  author = taken 2 offered choices.author;
-  page = taken 3 offered choices.page;
-  issue = taken 4 offered choices.issue;
-  date = taken 5 offered choices.date;
-  volume = taken 6 offered choices.volume;
-  doi = taken 7 offered choices.doi;
-  pmid = taken 8 offered choices.pmid;
-}
+-- the first offer of the best rank
+abbrev pub best : Part → List OfferValue → ChoiceValue
+best part offers = fold (taken part) no_choice offers
 
-abbrev pub with_offered : Option OfferValue → ChoicesValue → ChoicesValue
-with_offered (Some offered) choices = with_offer offered choices
-with_offered None choices = choices
+-- two texts with a mark between them, or the one that there is
+abbrev pub beside : List ℕ → List ℕ → List ℕ → List ℕ
+beside mark one other = if is_empty other then one else if is_empty one then other else one ++ (mark ++ other)
 
--- with one pair more
-abbrev pub with_pair : ChoicesValue → List ℕ × List ℕ → ChoicesValue
-with_pair choices pair = with_offered (offer_of pair) choices
+-- all authors of a rank
+abbrev pub with_author : ℕ → List ℕ → OfferValue → List ℕ
+with_author rank text offered =
+    if same_part Author offered.part && (rank == offered.rank) then beside (codes "; ") text offered.text else text
 
--- the texts of what is chosen, as they are shown
-abbrev pub cited : ChoicesValue → CitationValue
-cited choices = record {
-  article = shown choices.article.value;
-  title = shown choices.title.value;
-  author = shown choices.author.value;
-  page = shown choices.page.value;
-  issue = shown choices.issue.value;
-  date = shown choices.date.value;
-  volume = shown choices.volume.value;
-  doi = shown choices.doi.value;
-  pmid = shown choices.pmid.value;
-}
+abbrev pub authors : ℕ → List OfferValue → List ℕ
+authors rank offers = fold (with_author rank) [] offers
+
+-- there is a choice, and it is of a better rank than another one
+abbrev pub is_before : ChoiceValue → ChoiceValue → Bool
+is_before one other = not (is_empty one.text) && (is_empty other.text || nat_lt one.rank other.rank)
+
+-- all authors, or the first one, as `Doe, Jane`
+abbrev pub author_text : List OfferValue → List ℕ
+author_text offers =
+    if is_before (best Author offers) (best LastName offers) then authors (best Author offers).rank offers
+    else beside (codes ", ") (best LastName offers).text (best FirstName offers).text
+
+-- the pages as they came, or else the first one and the last
+abbrev pub pages_text : List OfferValue → List ℕ
+pages_text offers =
+    if is_empty (best Pages offers).text then beside (codes "-") (best Page offers).text (best LastPage offers).text
+    else (best Pages offers).text
+
+-- the text of a part, by all offers
+abbrev pub part_text : List OfferValue → Part → List ℕ
+part_text offers Author = author_text offers
+part_text offers Pages = pages_text offers
+part_text offers part = (best part offers).text
+
+abbrev pub cited : List OfferValue → CitationValue
+cited offers = map (part_text offers) PARTS
 
 -- the citation of the pairs of a query
 abbrev pub citation_of_pairs : List (List ℕ × List ℕ) → CitationValue
-citation_of_pairs pairs = cited (fold with_pair no_choices pairs)
+citation_of_pairs pairs = cited (offers_of pairs)
 
 -- the citation of a query
 unfoldable pub citation_of : List ℕ → CitationValue

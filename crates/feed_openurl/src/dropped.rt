@@ -6,8 +6,8 @@ ghost use Rattle.std.specs.Cmp.Lexicographic.{slice_cmp};
 ghost use Rattle.form_urlencoded.specs.Form as form;
 ghost use Rattle.feed_openurl.specs.Dropped.{AreCounted, dropped, dropped_in, is_dropped};
 
-use crate::citation::is_cited;
 use crate::key::Key;
+use crate::offer::is_cited;
 use crate::shown::shown_text;
 use feed_answer::{Pair, decode_pairs};
 use std::alloc::{AllocError, Global};

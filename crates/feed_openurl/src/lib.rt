@@ -5,6 +5,7 @@
 //! OpenURL 1.0 query that `feed_answer` reads.
 #![tactic(auto)]
 
+mod choice;
 mod citation;
 mod date;
 mod dates;
@@ -19,6 +20,8 @@ mod lenient_date;
 mod links;
 mod number;
 mod numbers;
+mod offer;
+mod part;
 mod plain;
 mod roman;
 mod sets;
@@ -39,4 +42,5 @@ pub use crate::laws::{
     people_are_dropped, written_is_accepted, written_is_itself, written_is_short,
     written_is_understood,
 };
+pub use crate::part::{PARTS, Part};
 pub use crate::understanding::{IDENTIFIER_LIMIT, Understanding};

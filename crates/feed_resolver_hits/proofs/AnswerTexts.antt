@@ -1,18 +1,25 @@
 -- The object of an answer parses to its value.
 use Rattle.std.proofs.Common.{◌≡◌, ◌<◌, ◌≤◌, ◌^◌, ℕ, List, [], ◌∷◌, ◌++◌, refl, ap, ◌∙◌, arith, codes}
-use Rattle.std.specs.Prelude.{All}
+use Rattle.std.specs.Prelude.{All, drop}
+use Rattle.std.specs.List.{flat_map}
 use Rattle.json.specs.Token.{Token}
 use Rattle.json.specs.Text.{content}
 use Rattle.json.specs.Lex.{Lexeme, token, comma, colon, lex, between, punctuate, fresh, after_value, tokens}
 use Rattle.json.specs.Json.{Items, array}
 use Rattle.json.specs.Tree.{json_tokens, items_depth}
 use Rattle.json.specs.Value.{items_of}
-use Rattle.feed_openurl.specs.Citations.{CitationValue}
+use Rattle.feed_openurl.specs.CitationParts.{name_of}
+use Rattle.feed_openurl.specs.Citations.{CitationValue, text_at}
+use Rattle.feed_openurl.specs.declared.part.Part.{Part}
+use Rattle.feed_openurl.specs.declared.part.Part.TheVariants as part
+use Rattle.feed_openurl.specs.declared.part.TheConstants.{PARTS}
+use Rattle.feed_resolver_reply.specs.JsonStrings.{json_string}
+use Rattle.feed_resolver_reply.specs.Pieces.{joined}
 use Rattle.feed_resolver_reply.proofs.JsonTexts.{Lexes, lexes_then, IsText, parsed}
 use Rattle.feed_resolver_hits.specs.Hits.{ReleaseHitValue}
 use Rattle.feed_resolver_hits.specs.HitsJson.{hits_json, item_values}
 use Rattle.feed_resolver_hits.specs.Asks.{AskValue}
-use Rattle.feed_resolver_hits.specs.AnswerJson.{citation_front, citation_back, query_members, answer_start, answer_json, answer_value}
+use Rattle.feed_resolver_hits.specs.AnswerJson.{citation_front, citation_json, part_member, query_members, answer_start, answer_json, answer_value}
 use Rattle.feed_resolver_hits.specs.Laws.{AnswerIsJson}
 use Rattle.feed_resolver_hits.specs.Tallies.{TallyValue}
 use Rattle.feed_resolver_hits.proofs.HitTexts.{string_lexemes, with_string, hits_in, hits_flat}
@@ -21,38 +28,6 @@ article_key : Lexes (codes "{\"citation\":{\"article\":")
     (token Token.begin_object ∷ token (Token.string (codes "citation")) ∷ colon ∷ token Token.begin_object ∷ token (Token.string (codes "article")) ∷ colon ∷ [])
 unfolding lex content
 article_key = record { lexed = λ rest. refl }
-
-title_key : Lexes (codes ",\"title\":") (comma ∷ token (Token.string (codes "title")) ∷ colon ∷ [])
-unfolding lex content
-title_key = record { lexed = λ rest. refl }
-
-author_key : Lexes (codes ",\"author\":") (comma ∷ token (Token.string (codes "author")) ∷ colon ∷ [])
-unfolding lex content
-author_key = record { lexed = λ rest. refl }
-
-date_key : Lexes (codes ",\"date\":") (comma ∷ token (Token.string (codes "date")) ∷ colon ∷ [])
-unfolding lex content
-date_key = record { lexed = λ rest. refl }
-
-volume_key : Lexes (codes ",\"volume\":") (comma ∷ token (Token.string (codes "volume")) ∷ colon ∷ [])
-unfolding lex content
-volume_key = record { lexed = λ rest. refl }
-
-issue_key : Lexes (codes ",\"issue\":") (comma ∷ token (Token.string (codes "issue")) ∷ colon ∷ [])
-unfolding lex content
-issue_key = record { lexed = λ rest. refl }
-
-page_key : Lexes (codes ",\"page\":") (comma ∷ token (Token.string (codes "page")) ∷ colon ∷ [])
-unfolding lex content
-page_key = record { lexed = λ rest. refl }
-
-doi_key : Lexes (codes ",\"doi\":") (comma ∷ token (Token.string (codes "doi")) ∷ colon ∷ [])
-unfolding lex content
-doi_key = record { lexed = λ rest. refl }
-
-pmid_key : Lexes (codes ",\"pmid\":") (comma ∷ token (Token.string (codes "pmid")) ∷ colon ∷ [])
-unfolding lex content
-pmid_key = record { lexed = λ rest. refl }
 
 query_key : Lexes (codes ",\"query\":") (comma ∷ token (Token.string (codes "query")) ∷ colon ∷ [])
 unfolding lex content
@@ -69,7 +44,7 @@ hits_key = record { lexed = λ rest. refl }
 nothing : Lexes [] []
 nothing = record { lexed = λ rest. refl }
 
-last_brace : Lexes (codes "}" ++ []) (token Token.end_object ∷ [])
+last_brace : Lexes (codes "}") (token Token.end_object ∷ [])
 unfolding lex
 last_brace = record { lexed = λ rest. refl }
 
@@ -79,30 +54,86 @@ hits_colon = hits_key
 abbrev front_lexemes : CitationValue → List Lexeme
 front_lexemes citation =
     token Token.begin_object ∷ token (Token.string (codes "citation")) ∷ colon ∷ token Token.begin_object ∷ token (Token.string (codes "article")) ∷ colon
-    ∷ token (Token.string citation.article) ∷ string_lexemes (codes "title") citation.title (string_lexemes (codes "author") citation.author
-    (string_lexemes (codes "date") citation.date (string_lexemes (codes "volume") citation.volume [])))
+    ∷ token (Token.string (text_at citation part.Article)) ∷ []
 
 lexes_front : (citation : CitationValue) → Lexes (citation_front citation) (front_lexemes citation)
 unfolding citation_front
-lexes_front citation =
-    with_string (codes "{\"citation\":{\"article\":") citation.article _ _ _ article_key
-    (with_string (codes ",\"title\":") citation.title _ _ _ title_key
-    (with_string (codes ",\"author\":") citation.author _ _ _ author_key
-    (with_string (codes ",\"date\":") citation.date _ _ _ date_key
-    (with_string (codes ",\"volume\":") citation.volume [] _ _ volume_key nothing))))
+lexes_front citation = with_string (codes "{\"citation\":{\"article\":") (text_at citation part.Article) [] _ _ article_key nothing
 
-abbrev back_lexemes : CitationValue → List Lexeme
-back_lexemes citation =
-    string_lexemes (codes "issue") citation.issue (string_lexemes (codes "page") citation.page
-    (string_lexemes (codes "doi") citation.doi (string_lexemes (codes "pmid") citation.pmid (token Token.end_object ∷ []))))
+-- a part behind others
+abbrev key_text : Part → List ℕ
+key_text one = codes ",\"" ++ (name_of one ++ codes "\":")
 
-lexes_back : (citation : CitationValue) → Lexes (citation_back citation) (back_lexemes citation)
-unfolding citation_back
-lexes_back citation =
-    with_string (codes ",\"issue\":") citation.issue _ _ _ issue_key
-    (with_string (codes ",\"page\":") citation.page _ _ _ page_key
-    (with_string (codes ",\"doi\":") citation.doi _ _ _ doi_key
-    (with_string (codes ",\"pmid\":") citation.pmid _ _ _ pmid_key last_brace)))
+part_key : (one : Part) → Lexes (key_text one) (comma ∷ token (Token.string (name_of one)) ∷ colon ∷ [])
+unfolding lex content
+part_key part.Article = record { lexed = λ rest. refl }
+part_key part.Title = record { lexed = λ rest. refl }
+part_key part.Author = record { lexed = λ rest. refl }
+part_key part.Date = record { lexed = λ rest. refl }
+part_key part.Volume = record { lexed = λ rest. refl }
+part_key part.Issue = record { lexed = λ rest. refl }
+part_key part.Page = record { lexed = λ rest. refl }
+part_key part.Doi = record { lexed = λ rest. refl }
+part_key part.Pmid = record { lexed = λ rest. refl }
+part_key part.Genre = record { lexed = λ rest. refl }
+part_key part.LastName = record { lexed = λ rest. refl }
+part_key part.FirstName = record { lexed = λ rest. refl }
+part_key part.LastPage = record { lexed = λ rest. refl }
+part_key part.Pages = record { lexed = λ rest. refl }
+part_key part.Series = record { lexed = λ rest. refl }
+part_key part.Edition = record { lexed = λ rest. refl }
+part_key part.Publisher = record { lexed = λ rest. refl }
+part_key part.Place = record { lexed = λ rest. refl }
+part_key part.Institution = record { lexed = λ rest. refl }
+
+abbrev part_text : Part → List ℕ → List ℕ
+part_text one text = joined (codes ",\"" ∷ name_of one ∷ codes "\":" ∷ json_string text ∷ [])
+
+lexes_text : (one : Part) (text : List ℕ) → Lexes (part_text one text) (string_lexemes (name_of one) text [])
+lexes_text part.Article text = with_string (key_text part.Article) text [] _ _ (part_key part.Article) nothing
+lexes_text part.Title text = with_string (key_text part.Title) text [] _ _ (part_key part.Title) nothing
+lexes_text part.Author text = with_string (key_text part.Author) text [] _ _ (part_key part.Author) nothing
+lexes_text part.Date text = with_string (key_text part.Date) text [] _ _ (part_key part.Date) nothing
+lexes_text part.Volume text = with_string (key_text part.Volume) text [] _ _ (part_key part.Volume) nothing
+lexes_text part.Issue text = with_string (key_text part.Issue) text [] _ _ (part_key part.Issue) nothing
+lexes_text part.Page text = with_string (key_text part.Page) text [] _ _ (part_key part.Page) nothing
+lexes_text part.Doi text = with_string (key_text part.Doi) text [] _ _ (part_key part.Doi) nothing
+lexes_text part.Pmid text = with_string (key_text part.Pmid) text [] _ _ (part_key part.Pmid) nothing
+lexes_text part.Genre text = with_string (key_text part.Genre) text [] _ _ (part_key part.Genre) nothing
+lexes_text part.LastName text = with_string (key_text part.LastName) text [] _ _ (part_key part.LastName) nothing
+lexes_text part.FirstName text = with_string (key_text part.FirstName) text [] _ _ (part_key part.FirstName) nothing
+lexes_text part.LastPage text = with_string (key_text part.LastPage) text [] _ _ (part_key part.LastPage) nothing
+lexes_text part.Pages text = with_string (key_text part.Pages) text [] _ _ (part_key part.Pages) nothing
+lexes_text part.Series text = with_string (key_text part.Series) text [] _ _ (part_key part.Series) nothing
+lexes_text part.Edition text = with_string (key_text part.Edition) text [] _ _ (part_key part.Edition) nothing
+lexes_text part.Publisher text = with_string (key_text part.Publisher) text [] _ _ (part_key part.Publisher) nothing
+lexes_text part.Place text = with_string (key_text part.Place) text [] _ _ (part_key part.Place) nothing
+lexes_text part.Institution text = with_string (key_text part.Institution) text [] _ _ (part_key part.Institution) nothing
+
+lexes_part : (citation : CitationValue) (one : Part) → Lexes (part_member citation one) (string_lexemes (name_of one) (text_at citation one) [])
+unfolding part_member
+lexes_part citation one = lexes_text one (text_at citation one)
+
+abbrev part_lexemes : CitationValue → List Part → List Lexeme
+part_lexemes citation [] = []
+part_lexemes citation (one ∷ parts) = string_lexemes (name_of one) (text_at citation one) [] ++ part_lexemes citation parts
+
+lexes_parts : (citation : CitationValue) (parts : List Part) → Lexes (flat_map (part_member citation) parts) (part_lexemes citation parts)
+lexes_parts citation [] = nothing
+lexes_parts citation (one ∷ parts) =
+    lexes_then (part_member citation one) (flat_map (part_member citation) parts) (string_lexemes (name_of one) (text_at citation one) []) (part_lexemes citation parts)
+    (lexes_part citation one) (lexes_parts citation parts)
+
+abbrev citation_lexemes : CitationValue → List Lexeme
+citation_lexemes citation = front_lexemes citation ++ (part_lexemes citation (drop 1 PARTS) ++ (token Token.end_object ∷ []))
+
+lexes_citation : (citation : CitationValue) → Lexes (citation_json citation) (citation_lexemes citation)
+unfolding citation_json
+lexes_citation citation =
+    lexes_then (citation_front citation) (flat_map (part_member citation) (drop 1 PARTS) ++ codes "}") (front_lexemes citation) (part_lexemes citation (drop 1 PARTS) ++ (token Token.end_object ∷ []))
+    (lexes_front citation)
+    (lexes_then (flat_map (part_member citation) (drop 1 PARTS)) (codes "}") (part_lexemes citation (drop 1 PARTS)) (token Token.end_object ∷ [])
+    (lexes_parts citation (drop 1 PARTS)) last_brace)
 
 abbrev query_lexemes : List ℕ → List ℕ → List Lexeme
 query_lexemes query refused =
@@ -114,23 +145,23 @@ lexes_query query refused =
     with_string (codes ",\"query\":") query _ _ _ query_key (with_string (codes ",\"refused\":") refused _ _ _ refused_key hits_colon)
 
 abbrev start_lexemes : AskValue → List ℕ → List Lexeme
-start_lexemes ask refused = front_lexemes ask.citation ++ (back_lexemes ask.citation ++ query_lexemes ask.query refused)
+start_lexemes ask refused = citation_lexemes ask.citation ++ query_lexemes ask.query refused
 
 lexes_start : (ask : AskValue) (refused : List ℕ) → Lexes (answer_start ask refused) (start_lexemes ask refused)
 unfolding answer_start
-lexes_start ask refused = lexes_then (citation_front ask.citation) _ (front_lexemes ask.citation) _ (lexes_front ask.citation)
-    (lexes_then (citation_back ask.citation) (query_members ask.query refused) (back_lexemes ask.citation) (query_lexemes ask.query refused)
-    (lexes_back ask.citation) (lexes_query ask.query refused))
+lexes_start ask refused = lexes_then (citation_json ask.citation) (query_members ask.query refused) (citation_lexemes ask.citation) (query_lexemes ask.query refused)
+    (lexes_citation ask.citation) (lexes_query ask.query refused)
+
+-- the tokens of these parts, before others
+abbrev part_tokens : CitationValue → List Part → List Token → List Token
+part_tokens citation [] ts = ts
+part_tokens citation (one ∷ parts) ts = Token.key (name_of one) ∷ Token.string (text_at citation one) ∷ part_tokens citation parts ts
 
 -- the tokens that an answer begins with, before others
 abbrev start_tokens : AskValue → List ℕ → List Token → List Token
 start_tokens ask refused ts =
-    Token.begin_object ∷ Token.key (codes "citation") ∷ Token.begin_object
-    ∷ Token.key (codes "article") ∷ Token.string ask.citation.article ∷ Token.key (codes "title") ∷ Token.string ask.citation.title ∷ Token.key (codes "author") ∷ Token.string ask.citation.author
-    ∷ Token.key (codes "date") ∷ Token.string ask.citation.date ∷ Token.key (codes "volume") ∷ Token.string ask.citation.volume
-    ∷ Token.key (codes "issue") ∷ Token.string ask.citation.issue ∷ Token.key (codes "page") ∷ Token.string ask.citation.page ∷ Token.key (codes "doi") ∷ Token.string ask.citation.doi
-    ∷ Token.key (codes "pmid") ∷ Token.string ask.citation.pmid
-    ∷ Token.end_object ∷ Token.key (codes "query") ∷ Token.string ask.query ∷ Token.key (codes "refused") ∷ Token.string refused ∷ Token.key (codes "hits") ∷ ts
+    Token.begin_object ∷ Token.key (codes "citation") ∷ Token.begin_object ∷ part_tokens ask.citation PARTS
+    (Token.end_object ∷ Token.key (codes "query") ∷ Token.string ask.query ∷ Token.key (codes "refused") ∷ Token.string refused ∷ Token.key (codes "hits") ∷ ts)
 
 started : (ask : AskValue) (refused : List ℕ) (tally : TallyValue) (ls : List Lexeme)
     → punctuate fresh ls ≡ json_tokens (array (items_of (item_values tally))) ++ (Token.end_object ∷ [])

@@ -1,10 +1,14 @@
 -- The facts that a reply reports about a query beside its hits.
-use Rattle.std.specs.Prelude.{ℕ, ◌||◌, ◌&&◌, not, Bool, List, [], is_some}
+use Rattle.std.specs.Prelude.{ℕ, ◌||◌, not, Bool, List, [], is_some}
+use Rattle.std.specs.List.{list_all}
 use Rattle.std.specs.Option.{option_map_or}
 use Rattle.feed_answer.specs.Pairs.{is_empty}
-use Rattle.feed_openurl.specs.Citations.{CitationValue, citation_of}
+use Rattle.feed_openurl.specs.Citations.{CitationValue, citation_of, text_at}
+use Rattle.feed_openurl.specs.declared.part.Part.{Part}
+use Rattle.feed_openurl.specs.declared.part.Part.TheVariants.{Article, Doi, Pmid, Title}
 use Rattle.feed_openurl.specs.Values.{UnderstandingValue, understood}
 use Rattle.feed_openurl.specs.Written.{written}
+use Rattle.feed_resolver_hits.specs.declared.ask.TheConstants.{SHOWN}
 
 -- the citation of a query, the query that is looked up, which is empty if none is, and whether a date and a volume are read
 pub record AskValue : Type 0 where
@@ -25,19 +29,15 @@ ask_by citation u =
 unfoldable pub ask_of : List ℕ → AskValue
 ask_of text = ask_by (citation_of text) (understood text)
 
+-- a citation lacks a part
+abbrev pub is_absent : CitationValue → Part → Bool
+is_absent citation part = is_empty (text_at citation part)
+
 -- the citation names a work: by its DOI, its PMID or a title
 abbrev pub names_work : CitationValue → Bool
 names_work citation =
-    not (is_empty citation.doi) || not (is_empty citation.pmid) || not (is_empty citation.title) || not (is_empty citation.article)
+    not (is_absent citation Doi) || not (is_absent citation Pmid) || not (is_absent citation Title) || not (is_absent citation Article)
 
--- there is nothing in the parts of a citation that say what it is, and in those that say where
-abbrev pub is_nameless : CitationValue → Bool
-is_nameless citation =
-    is_empty citation.article && is_empty citation.title && is_empty citation.author && is_empty citation.doi && is_empty citation.pmid
-
-abbrev pub is_placeless : CitationValue → Bool
-is_placeless citation = is_empty citation.date && is_empty citation.volume && is_empty citation.issue && is_empty citation.page
-
--- there is nothing in a citation
+-- a citation has nothing that a page shows
 abbrev pub is_blank : CitationValue → Bool
-is_blank citation = is_nameless citation && is_placeless citation
+is_blank citation = list_all (is_absent citation) SHOWN

@@ -1,13 +1,14 @@
 //! Writes the answer to a query as JSON: its citation, the query that is looked up, why none is, and the hits.
 ghost use Rattle.std.specs.Prelude.{◌≡◌, ◌++◌, OnOk};
-ghost use Rattle.feed_resolver_hits.specs.AnswerJson.{citation_front, citation_back, query_members};
-ghost use Rattle.feed_resolver_hits.specs.AnswerJson.{answer_start, answer_json};
+ghost use Rattle.std.specs.List.{flat_map};
+ghost use Rattle.feed_resolver_hits.specs.AnswerJson.{answer_json, answer_start, citation_front, citation_json};
+ghost use Rattle.feed_resolver_hits.specs.AnswerJson.{part_member, query_members};
 ghost use Rattle.feed_resolver_hits.specs.Tallying.{tally_from};
 
 use crate::ask::Ask;
 use crate::hits_json::put_hits_json;
 use crate::tally::Tally;
-use feed_openurl::Citation;
+use feed_openurl::{Citation, PARTS, Part};
 use feed_pieces::put_all;
 use feed_resolver_reply::{Piece, put};
 use std::alloc::AllocError;
@@ -20,37 +21,43 @@ fn put_citation_front(out: &mut Vec<u8>, citation: &Citation) -> Result<(), Allo
         out,
         &[
             Piece::Plain(b"{\"citation\":{\"article\":"),
-            Piece::Quoted(citation.article.as_bytes()),
-            Piece::Plain(b",\"title\":"),
-            Piece::Quoted(citation.title.as_bytes()),
-            Piece::Plain(b",\"author\":"),
-            Piece::Quoted(citation.author.as_bytes()),
-            Piece::Plain(b",\"date\":"),
-            Piece::Quoted(citation.date.as_bytes()),
-            Piece::Plain(b",\"volume\":"),
-            Piece::Quoted(citation.volume.as_bytes()),
+            Piece::Quoted(citation.text(Part::Article).as_bytes()),
         ],
     )
 }
 
-#[tactic(auto, unfolding(crate::specs::AnswerJson::citation_back))]
-fn put_citation_back(out: &mut Vec<u8>, citation: &Citation) -> Result<(), AllocError>
-    ensures { OnOk result (out.new.items ≡ out.old.items ++ citation_back citation.now) }
+// Writes a part of a citation as a member behind others.
+#[tactic(auto, unfolding(crate::specs::AnswerJson::part_member))]
+fn put_part(out: &mut Vec<u8>, citation: &Citation, part: Part) -> Result<(), AllocError>
+    ensures { OnOk result (out.new.items ≡ out.old.items ++ part_member citation.now part) }
 {
     put_all(
         out,
         &[
-            Piece::Plain(b",\"issue\":"),
-            Piece::Quoted(citation.issue.as_bytes()),
-            Piece::Plain(b",\"page\":"),
-            Piece::Quoted(citation.page.as_bytes()),
-            Piece::Plain(b",\"doi\":"),
-            Piece::Quoted(citation.doi.as_bytes()),
-            Piece::Plain(b",\"pmid\":"),
-            Piece::Quoted(citation.pmid.as_bytes()),
-            Piece::Plain(b"}"),
+            Piece::Plain(b",\""),
+            Piece::Plain(part.name().as_bytes()),
+            Piece::Plain(b"\":"),
+            Piece::Quoted(citation.text(part).as_bytes()),
         ],
     )
+}
+
+fn put_parts(out: &mut Vec<u8>, citation: &Citation, parts: &[Part]) -> Result<(), AllocError>
+    ensures { OnOk result (out.new.items ≡ out.old.items ++ flat_map (part_member citation.now) parts.now) }
+{
+    for part in parts {
+        put_part(out, citation, *part)?;
+    }
+    Ok(())
+}
+
+#[tactic(auto, unfolding(crate::specs::AnswerJson::citation_json))]
+fn put_citation(out: &mut Vec<u8>, citation: &Citation) -> Result<(), AllocError>
+    ensures { OnOk result (out.new.items ≡ out.old.items ++ citation_json citation.now) }
+{
+    put_citation_front(out, citation)?;
+    put_parts(out, citation, &PARTS[1..])?;
+    put(out, b"}")
 }
 
 #[tactic(auto, unfolding(crate::specs::AnswerJson::query_members))]
@@ -73,8 +80,7 @@ fn put_query<'a>(out: &mut Vec<u8>, query: &'a [u8], refused: &'a [u8]) -> Resul
 fn put_start(out: &mut Vec<u8>, ask: &Ask, refused: &[u8]) -> Result<(), AllocError>
     ensures { OnOk result (out.new.items ≡ out.old.items ++ answer_start ask.now refused.now) }
 {
-    put_citation_front(out, &ask.citation)?;
-    put_citation_back(out, &ask.citation)?;
+    put_citation(out, &ask.citation)?;
     put_query(out, &ask.query, refused)
 }
 

@@ -1,10 +1,23 @@
 //! The facts that a reply reports about a query beside its hits.
 ghost use Rattle.std.specs.Prelude.{◌≡◌, IfOk};
-ghost use Rattle.feed_resolver_hits.specs.Asks.{ask_by, is_blank, is_nameless, is_placeless, names_work, query_text};
+ghost use Rattle.feed_resolver_hits.specs.Asks.{ask_by, is_absent, is_blank, names_work, query_text};
 
-use feed_openurl::{Citation, Understanding};
+use feed_openurl::{Citation, Part, Understanding};
 use std::alloc::{AllocError, Global};
 use std::marker::Model;
+
+/// The parts of a citation that a page shows.
+pub const SHOWN: [Part; 9] = [
+    Part::Article,
+    Part::Title,
+    Part::Author,
+    Part::Date,
+    Part::Volume,
+    Part::Issue,
+    Part::Pages,
+    Part::Doi,
+    Part::Pmid,
+];
 
 /// The facts that a reply reports about a query beside its hits.
 #[derive(Drop)]
@@ -50,40 +63,27 @@ fn ask_by(alloc: Global, citation: Citation, understood: &Understanding) -> Resu
     })
 }
 
+fn is_absent(citation: &Citation, part: Part) -> bool
+    ensures { result ≡ is_absent citation.now part }
+{
+    citation.text(part).as_bytes().is_empty()
+}
+
 /// Returns whether a citation names a work: by its DOI, its PMID or a title.
 pub fn names_work(citation: &Citation) -> bool
     ensures { result ≡ names_work citation.now }
 {
-    !citation.doi.as_bytes().is_empty()
-        || !citation.pmid.as_bytes().is_empty()
-        || !citation.title.as_bytes().is_empty()
-        || !citation.article.as_bytes().is_empty()
+    !is_absent(citation, Part::Doi)
+        || !is_absent(citation, Part::Pmid)
+        || !is_absent(citation, Part::Title)
+        || !is_absent(citation, Part::Article)
 }
 
-fn is_nameless(citation: &Citation) -> bool
-    ensures { result ≡ is_nameless citation.now }
-{
-    citation.article.as_bytes().is_empty()
-        && citation.title.as_bytes().is_empty()
-        && citation.author.as_bytes().is_empty()
-        && citation.doi.as_bytes().is_empty()
-        && citation.pmid.as_bytes().is_empty()
-}
-
-fn is_placeless(citation: &Citation) -> bool
-    ensures { result ≡ is_placeless citation.now }
-{
-    citation.date.as_bytes().is_empty()
-        && citation.volume.as_bytes().is_empty()
-        && citation.issue.as_bytes().is_empty()
-        && citation.page.as_bytes().is_empty()
-}
-
-/// Returns whether there is nothing in a citation.
+/// Returns whether a citation has nothing that a page shows.
 pub fn is_blank(citation: &Citation) -> bool
     ensures { result ≡ is_blank citation.now }
 {
-    is_nameless(citation) && is_placeless(citation)
+    SHOWN.iter().all(|part| is_absent(citation, *part))
 }
 
 impl Ask {

@@ -3,7 +3,8 @@ use Rattle.std.specs.Prelude.{ℕ, ◌&&◌, ◌||◌, ◌==◌, Bool, true, if�
 use Rattle.std.specs.List.{list_all}
 use Rattle.std.specs.Char.{is_ascii_alphanumeric}
 use Rattle.feed_answer.specs.Pairs.{is_empty}
-use Rattle.feed_openurl.specs.Citations.{CitationValue}
+use Rattle.feed_openurl.specs.Citations.{CitationValue, text_at}
+use Rattle.feed_openurl.specs.declared.part.Part.TheVariants as part
 use Rattle.feed_site.specs.Site as site_file
 use Rattle.feed_resolver_reply.specs.Escapes.{escaped}
 use Rattle.feed_resolver_reply.specs.Pieces.{joined}
@@ -64,14 +65,14 @@ number_rows pairs = number_row (codes "ISSN") (issn_in pairs) ++ number_row (cod
 -- what is cited
 unfoldable pub work_rows : site_file.SiteValue → CitationValue → List ℕ
 work_rows site citation =
-    cited_row site text.Article citation.article true
-    ++ (cited_row site text.Work citation.title true ++ cited_row site text.Author citation.author true)
+    cited_row site text.Article (text_at citation part.Article) true
+    ++ (cited_row site text.Work (text_at citation part.Title) true ++ cited_row site text.Author (text_at citation part.Author) true)
 
 -- where it is
 unfoldable pub place_rows : site_file.SiteValue → AskValue → List ℕ
 place_rows site ask =
-    cited_row site text.Date ask.citation.date ask.has_date
-    ++ (cited_row site text.Volume ask.citation.volume ask.has_volume ++ cited_row site text.Issue ask.citation.issue true)
+    cited_row site text.Date (text_at ask.citation part.Date) ask.has_date
+    ++ (cited_row site text.Volume (text_at ask.citation part.Volume) ask.has_volume ++ cited_row site text.Issue (text_at ask.citation part.Issue) true)
 
 -- a DOI, and a number in PubMed
 unfoldable pub doi_row : List ℕ → List ℕ
@@ -80,10 +81,10 @@ doi_row doi = name_row (codes "DOI") (codes "https://doi.org/") doi
 unfoldable pub pmid_row : List ℕ → List ℕ
 pmid_row pmid = name_row (codes "PubMed") (codes "https://pubmed.ncbi.nlm.nih.gov/") pmid
 
--- its page and its names
+-- its pages and its names
 unfoldable pub name_rows : site_file.SiteValue → CitationValue → List ℕ
 name_rows site citation =
-    cited_row site text.Page citation.page true ++ (doi_row citation.doi ++ pmid_row citation.pmid)
+    cited_row site text.Page (text_at citation part.Pages) true ++ (doi_row (text_at citation part.Doi) ++ pmid_row (text_at citation part.Pmid))
 
 unfoldable pub citation_rows : site_file.SiteValue → List (List ℕ × List ℕ) → AskValue → List ℕ
 citation_rows site pairs ask =

@@ -11,6 +11,8 @@ use Rattle.feed_resolver_hits.specs.Asks.{AskValue}
 use Rattle.feed_resolver_hits.specs.Hits.{ReleaseHitValue}
 use Rattle.feed_resolver_hits.specs.Tallies.{TallyValue, left_out}
 use Rattle.feed_resolver_page.specs.Cards.{card}
+use Rattle.feed_openurl.specs.Citations.{text_at}
+use Rattle.feed_openurl.specs.declared.part.Part.TheVariants as part
 use Rattle.feed_resolver_page.specs.CitationPage.{citation_part}
 use Rattle.feed_resolver_page.specs.Frames.{page_end, page_top}
 use Rattle.feed_resolver_page.specs.SearchForms.{isbn_in, issn_in, search_form}
@@ -72,7 +74,7 @@ found_part site cited tally others =
 
 -- the citation of the query, and what was found
 unfoldable pub answer_part : site_file.SiteValue → List (List ℕ × List ℕ) → AskValue → TallyValue → TallyValue → List ℕ
-answer_part site pairs ask tally others = citation_part site pairs ask ++ found_part site ask.citation.title tally others
+answer_part site pairs ask tally others = citation_part site pairs ask ++ found_part site (text_at ask.citation part.Title) tally others
 
 unfoldable pub link_to : List ℕ → List ℕ → List ℕ
 link_to label url = joined (codes "<p><a href=\"" ∷ escaped url ∷ codes "\">" ∷ escaped label ∷ codes "</a></p>\n" ∷ [])
@@ -96,19 +98,7 @@ search_part site pairs = section_heading (text_of site text.NewSearch) ++ search
 
 -- the parts of a query's citation that a request form may take
 abbrev pub cited_of : AskValue → List (List ℕ × List ℕ) → CitedValue
-cited_of ask pairs = record {
-  title = ask.citation.title;
-  article = ask.citation.article;
-  author = ask.citation.author;
-  date = ask.citation.date;
-  volume = ask.citation.volume;
-  issue = ask.citation.issue;
-  page = ask.citation.page;
-  issn = issn_in pairs;
-  isbn = isbn_in pairs;
-  doi = ask.citation.doi;
-  pmid = ask.citation.pmid;
-}
+cited_of ask pairs = record { citation = ask.citation; issn = issn_in pairs; isbn = isbn_in pairs }
 
 unfoldable pub request_section : site_file.SiteValue → List ℕ → List ℕ
 request_section site url = section_heading (text_of site text.OtherWays) ++ link_to (text_of site text.Request) url

@@ -1,7 +1,9 @@
 -- The replies to queries for which nothing is looked up.
 use Rattle.std.specs.Prelude.{ℕ, Bool, true, false, if◌then◌else◌, List, [], ◌∷◌, ◌++◌, codes}
+use Rattle.feed_openurl.specs.Citations.{text_at}
 use Rattle.feed_openurl.specs.declared.fault.Refusal.{Refusal}
 use Rattle.feed_openurl.specs.declared.fault.Refusal.TheVariants as reason
+use Rattle.feed_openurl.specs.declared.part.Part.TheVariants as part
 use Rattle.form_urlencoded.specs.Form as form
 use Rattle.feed_site.specs.Site as site_file
 use Rattle.feed_resolver_request.specs.declared.representation.Representation.{Representation}
@@ -40,7 +42,7 @@ is_numberless reason = false
 -- the citation of the query, that nothing is looked up, and the form for its title
 unfoldable pub nothing_part : site_file.SiteValue → List (List ℕ × List ℕ) → AskValue → List ℕ
 nothing_part site pairs ask =
-    citation_part site pairs ask ++ (paragraph site page.NoNumber ++ titles_form site ask.citation.title)
+    citation_part site pairs ask ++ (paragraph site page.NoNumber ++ titles_form site (text_at ask.citation part.Title))
 
 -- the page with the form, for a query with these pairs
 unfoldable pub page_of_nothing : site_file.SiteValue → List (List ℕ × List ℕ) → AskValue → List ℕ

@@ -8,7 +8,7 @@ ghost use Rattle.feed_resolver_page.specs.CitationPage.{plain_row, pmid_row, tex
 
 use crate::form::{isbn_in, issn_in};
 use feed_answer::Pair;
-use feed_openurl::Citation;
+use feed_openurl::{Citation, Part};
 use feed_page_texts::Text;
 use feed_pieces::put_all;
 use feed_resolver_hits::{Ask, is_blank};
@@ -195,9 +195,27 @@ fn put_numbers(out: &mut Vec<u8>, pairs: &[Pair<'_>]) -> Result<(), AllocError>
 fn put_work(out: &mut Vec<u8>, site: &SiteFile, citation: &Citation) -> Result<(), AllocError>
     ensures { OnOk result (out.new.items ≡ out.old.items ++ work_rows site.now citation.now) }
 {
-    put_cited(out, site, Text::Article, citation.article.as_bytes(), true)?;
-    put_cited(out, site, Text::Work, citation.title.as_bytes(), true)?;
-    put_cited(out, site, Text::Author, citation.author.as_bytes(), true)
+    put_cited(
+        out,
+        site,
+        Text::Article,
+        citation.text(Part::Article).as_bytes(),
+        true,
+    )?;
+    put_cited(
+        out,
+        site,
+        Text::Work,
+        citation.text(Part::Title).as_bytes(),
+        true,
+    )?;
+    put_cited(
+        out,
+        site,
+        Text::Author,
+        citation.text(Part::Author).as_bytes(),
+        true,
+    )
 }
 
 #[tactic(auto, unfolding(crate::specs::CitationPage::place_rows))]
@@ -209,17 +227,23 @@ fn put_place(out: &mut Vec<u8>, site: &SiteFile, ask: &Ask) -> Result<(), AllocE
         out,
         site,
         Text::Date,
-        citation.date.as_bytes(),
+        citation.text(Part::Date).as_bytes(),
         ask.has_date,
     )?;
     put_cited(
         out,
         site,
         Text::Volume,
-        citation.volume.as_bytes(),
+        citation.text(Part::Volume).as_bytes(),
         ask.has_volume,
     )?;
-    put_cited(out, site, Text::Issue, citation.issue.as_bytes(), true)
+    put_cited(
+        out,
+        site,
+        Text::Issue,
+        citation.text(Part::Issue).as_bytes(),
+        true,
+    )
 }
 
 #[tactic(auto, unfolding(crate::specs::CitationPage::doi_row))]
@@ -240,9 +264,15 @@ fn put_pmid(out: &mut Vec<u8>, pmid: &[u8]) -> Result<(), AllocError>
 fn put_names(out: &mut Vec<u8>, site: &SiteFile, citation: &Citation) -> Result<(), AllocError>
     ensures { OnOk result (out.new.items ≡ out.old.items ++ name_rows site.now citation.now) }
 {
-    put_cited(out, site, Text::Page, citation.page.as_bytes(), true)?;
-    put_doi(out, citation.doi.as_bytes())?;
-    put_pmid(out, citation.pmid.as_bytes())
+    put_cited(
+        out,
+        site,
+        Text::Page,
+        citation.text(Part::Pages).as_bytes(),
+        true,
+    )?;
+    put_doi(out, citation.text(Part::Doi).as_bytes())?;
+    put_pmid(out, citation.text(Part::Pmid).as_bytes())
 }
 
 #[tactic(auto, unfolding(crate::specs::CitationPage::citation_rows))]

@@ -14,6 +14,7 @@ use crate::citation_page::put_citation;
 use crate::form::{isbn_in, issn_in, put_search_form};
 use crate::frame::{put_page_end, put_page_top};
 use feed_answer::{Pair, decode_pairs};
+use feed_openurl::Part;
 use feed_page_texts::Text;
 use feed_pieces::put_all;
 use feed_resolver_hits::{Ask, ReleaseHit, Tally};
@@ -228,7 +229,13 @@ fn put_answer(
         ++ answer_part site.now pairs.now ask.now (tally_from tally.now) (tally_from others.now)) }
 {
     put_citation(out, site, pairs, ask)?;
-    put_found(out, site, ask.citation.title.as_bytes(), tally, others)
+    put_found(
+        out,
+        site,
+        ask.citation.text(Part::Title).as_bytes(),
+        tally,
+        others,
+    )
 }
 
 /// Writes a link with its label.
@@ -304,19 +311,10 @@ fn put_search(out: &mut Vec<u8>, site: &SiteFile, pairs: &[Pair<'_>]) -> Result<
 fn cited_of<'p>(ask: &'p Ask, pairs: &'p [Pair<'_>]) -> Cited<'p>
     ensures { result ≡ cited_of ask.now pairs.now }
 {
-    let citation = &ask.citation;
     Cited {
-        title: citation.title.as_bytes(),
-        article: citation.article.as_bytes(),
-        author: citation.author.as_bytes(),
-        date: citation.date.as_bytes(),
-        volume: citation.volume.as_bytes(),
-        issue: citation.issue.as_bytes(),
-        page: citation.page.as_bytes(),
+        citation: &ask.citation,
         issn: issn_in(pairs),
         isbn: isbn_in(pairs),
-        doi: citation.doi.as_bytes(),
-        pmid: citation.pmid.as_bytes(),
     }
 }
 

@@ -16,7 +16,7 @@ use crate::frame::put_page_top;
 use crate::hits_page::{put_bottom, put_page_foot, put_paragraph};
 use crate::titles_form::put_titles_form;
 use feed_answer::{Pair, decode_pairs};
-use feed_openurl::Refusal;
+use feed_openurl::{Part, Refusal};
 use feed_page_texts::Text;
 use feed_pieces::put_all;
 use feed_resolver_hits::{Ask, Tally, names_work, put_answer_json};
@@ -54,7 +54,7 @@ fn put_nothing(
 {
     put_citation(out, site, pairs, ask)?;
     put_paragraph(out, site, Text::NoNumber)?;
-    put_titles_form(out, site, ask.citation.title.as_bytes())
+    put_titles_form(out, site, ask.citation.text(Part::Title).as_bytes())
 }
 
 #[tactic(auto, unfolding(crate::specs::QueryRefusals::page_of_nothing))]

@@ -1,11 +1,11 @@
 -- The texts that a site file may have for each kind of value.
-use Rattle.std.specs.Prelude.{ℕ, ◌&&◌, ◌||◌, ◌==◌, Bool, false, not, is_some, nat_lt, List, [], ◌∷◌, length, codes, drop, Option, Some, None}
+use Rattle.std.specs.Prelude.{ℕ, ◌&&◌, ◌||◌, ◌==◌, Bool, false, not, is_some, nat_lt, List, [], ◌∷◌, length, drop, Option, Some, None}
 use Rattle.std.specs.List.{list_all, list_any}
-use Rattle.std.specs.Str.{bytes_eq}
 use Rattle.std.specs.Char.{is_ascii_alphabetic, is_ascii_alphanumeric, is_ascii_hexdigit}
 use Rattle.feed_dates.specs.DayRanges.{days_of}
 use Rattle.feed_names.specs.ReleaseName.{is_stem_byte}
 use Rattle.feed_site.specs.Urls.{after_byte, after_scheme, before_byte, has_byte, is_sized, parts_between}
+use Rattle.feed_site.specs.Fields.{field_named}
 use Rattle.feed_site.specs.Hosts.{is_link}
 use Rattle.feed_site.specs.declared.kind.Kind.{Kind}
 use Rattle.feed_site.specs.declared.kind.Kind.TheVariants.{Text, Language, Color, Url, Template, Package, Date}
@@ -31,20 +31,9 @@ abbrev pub is_color : List ℕ → Bool
 is_color [] = false
 is_color (hash ∷ digits) = (hash == 35) && (is_sized 6 6 digits && list_all is_ascii_hexdigit digits)
 
--- the parts of a citation that a request form may take
-abbrev pub is_work_field : List ℕ → Bool
-is_work_field name =
-    bytes_eq name (codes "title") || bytes_eq name (codes "article") || bytes_eq name (codes "author") || bytes_eq name (codes "date")
-
-abbrev pub is_place_field : List ℕ → Bool
-is_place_field name = bytes_eq name (codes "volume") || bytes_eq name (codes "issue") || bytes_eq name (codes "page")
-
-abbrev pub is_number_field : List ℕ → Bool
-is_number_field name =
-    bytes_eq name (codes "issn") || bytes_eq name (codes "isbn") || bytes_eq name (codes "doi") || bytes_eq name (codes "pmid")
-
+-- a field of a template: a part of a citation, or an identifier
 unfoldable pub is_field : List ℕ → Bool
-is_field name = is_work_field name || is_place_field name || is_number_field name
+is_field name = is_some (field_named name)
 
 -- what follows an opening brace: a part of a citation, the closing brace, and no other
 abbrev pub is_after_open : List ℕ → Bool

@@ -1,6 +1,7 @@
 pub mod Urls
 pub mod Hosts
 pub mod Bytes
+pub mod Fields
 pub mod Kinds
 pub mod Schema
 pub mod Lookups

@@ -1,49 +1,31 @@
 -- The address of a library's request form, with the parts of a citation in their places.
-use Rattle.std.specs.Prelude.{ℕ, ◌==◌, Bool, true, false, List, [], ◌∷◌, ◌++◌, Option, Some, None, if◌then◌else◌, codes}
+use Rattle.std.specs.Prelude.{ℕ, ◌==◌, Bool, true, false, List, [], ◌∷◌, ◌++◌, Option, Some, None, if◌then◌else◌}
 use Rattle.std.specs.Option.{option_and_then}
-use Rattle.std.specs.Str.{bytes_eq}
 use Rattle.percent_encoding.specs.Percent.{percent_encode}
 use Rattle.percent_encoding.specs.declared.ascii_set.TheConstants.{NON_ALPHANUMERIC}
+use Rattle.feed_openurl.specs.Citations.{CitationValue, text_at}
+use Rattle.feed_site.specs.Fields.{field_named}
 use Rattle.feed_site.specs.Hosts.{is_link}
 use Rattle.feed_site.specs.Site.{SiteValue}
+use Rattle.feed_site.specs.declared.field.Field.{Field}
+use Rattle.feed_site.specs.declared.field.Field.TheVariants.{Issn, Isbn, Cited}
 
--- the parts of a citation; one that is absent is empty
+-- a citation and the identifiers of a query, the parts of which a request form may take; one that is absent is empty
 pub record CitedValue : Type 0 where
-  pub title : List ℕ
-  pub article : List ℕ
-  pub author : List ℕ
-  pub date : List ℕ
-  pub volume : List ℕ
-  pub issue : List ℕ
-  pub page : List ℕ
+  pub citation : CitationValue
   pub issn : List ℕ
   pub isbn : List ℕ
-  pub doi : List ℕ
-  pub pmid : List ℕ
+
+-- the part of a field
+abbrev pub field_text : CitedValue → Option Field → List ℕ
+field_text cited (Some Issn) = cited.issn
+field_text cited (Some Isbn) = cited.isbn
+field_text cited (Some (Cited part)) = text_at cited.citation part
+field_text cited None = []
 
 -- the part of this name
-abbrev pub number_part : CitedValue → List ℕ → List ℕ
-number_part cited name =
-    if bytes_eq name (codes "issn") then cited.issn
-    else if bytes_eq name (codes "isbn") then cited.isbn
-    else if bytes_eq name (codes "doi") then cited.doi
-    else if bytes_eq name (codes "pmid") then cited.pmid
-    else []
-
-abbrev pub place_part : CitedValue → List ℕ → List ℕ
-place_part cited name =
-    if bytes_eq name (codes "volume") then cited.volume
-    else if bytes_eq name (codes "issue") then cited.issue
-    else if bytes_eq name (codes "page") then cited.page
-    else number_part cited name
-
 abbrev pub part_of : CitedValue → List ℕ → List ℕ
-part_of cited name =
-    if bytes_eq name (codes "title") then cited.title
-    else if bytes_eq name (codes "article") then cited.article
-    else if bytes_eq name (codes "author") then cited.author
-    else if bytes_eq name (codes "date") then cited.date
-    else place_part cited name
+part_of cited name = field_text cited (field_named name)
 
 -- the same as it is in an address: each byte that is not a letter or a digit is escaped
 unfoldable pub part_text : CitedValue → List ℕ → List ℕ

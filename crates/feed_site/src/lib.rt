@@ -5,6 +5,7 @@ mod bytes;
 mod checks;
 mod cuts;
 mod fault;
+mod field;
 mod held;
 mod hosts;
 mod kind;

@@ -1,32 +1,21 @@
 //! The link to a library's request form, with the parts of a citation in their places.
 ghost use Rattle.std.specs.Prelude.{◌≡◌, ◌++◌, ◌∷◌, [], false, IfOk, List, ℕ, OnOk, option_map, string_bytes};
-ghost use Rattle.std.specs.Str.{bytes_eq};
-ghost use Rattle.feed_site.specs.Requests.{filled, filled_from, if_link, number_part, part_of, part_text, place_part};
-ghost use Rattle.feed_site.specs.Requests.{request_link};
+ghost use Rattle.feed_site.specs.Requests.{filled, filled_from, if_link, part_of, part_text, request_link};
 
+use crate::field::Field;
 use crate::hosts::is_link;
 use crate::links::encoded;
 use crate::site_file::SiteFile;
-use crate::template::is;
+use feed_openurl::Citation;
 use std::alloc::{AllocError, Global};
 use std::marker::Model;
 
-/// The parts of a citation that a request form may take. One that is absent is empty.
+/// A citation and the identifiers of a query, the parts of which a request form may take. One that is absent is empty.
 #[derive(Drop)]
 pub struct Cited<'a> {
-    /// The title of the journal or the book.
-    pub title: &'a [u8],
-    /// The title of the article or the chapter.
-    pub article: &'a [u8],
-    pub author: &'a [u8],
-    pub date: &'a [u8],
-    pub volume: &'a [u8],
-    pub issue: &'a [u8],
-    pub page: &'a [u8],
+    pub citation: &'a Citation,
     pub issn: &'a [u8],
     pub isbn: &'a [u8],
-    pub doi: &'a [u8],
-    pub pmid: &'a [u8],
 }
 
 impl<'a> Model for Cited<'a> {
@@ -34,66 +23,19 @@ impl<'a> Model for Cited<'a> {
 
     ghost Value = { CitedValue };
 
-    ghost view = { λ c. record {
-      title = c.title.now;
-      article = c.article.now;
-      author = c.author.now;
-      date = c.date.now;
-      volume = c.volume.now;
-      issue = c.issue.now;
-      page = c.page.now;
-      issn = c.issn.now;
-      isbn = c.isbn.now;
-      doi = c.doi.now;
-      pmid = c.pmid.now;
-    } };
+    ghost view = { λ c. record { citation = c.citation.now; issn = c.issn.now; isbn = c.isbn.now } };
 }
 
 impl<'a> Cited<'a> {
-    fn number_part(&self, name: &[u8]) -> &'a [u8]
-        ensures { result.now ≡ number_part self.now name.now }
-    {
-        if is(name, "issn") {
-            self.issn
-        } else if is(name, "isbn") {
-            self.isbn
-        } else if is(name, "doi") {
-            self.doi
-        } else if is(name, "pmid") {
-            self.pmid
-        } else {
-            b""
-        }
-    }
-
-    fn place_part(&self, name: &[u8]) -> &'a [u8]
-        ensures { result.now ≡ place_part self.now name.now }
-    {
-        if is(name, "volume") {
-            self.volume
-        } else if is(name, "issue") {
-            self.issue
-        } else if is(name, "page") {
-            self.page
-        } else {
-            self.number_part(name)
-        }
-    }
-
     // Returns the part of this name.
     fn part(&self, name: &[u8]) -> &'a [u8]
         ensures { result.now ≡ part_of self.now name.now }
     {
-        if is(name, "title") {
-            self.title
-        } else if is(name, "article") {
-            self.article
-        } else if is(name, "author") {
-            self.author
-        } else if is(name, "date") {
-            self.date
-        } else {
-            self.place_part(name)
+        match Field::named(name) {
+            Some(Field::Issn) => self.issn,
+            Some(Field::Isbn) => self.isbn,
+            Some(Field::Cited(part)) => self.citation.text(part).as_bytes(),
+            None => b"",
         }
     }
 }

@@ -1,46 +1,21 @@
 //! The template of a request form's address: a URL with parts of a citation in braces.
 ghost use Rattle.std.specs.Prelude.{◌≡◌, drop, option_copied};
 ghost use Rattle.std.specs.List.{list_all, list_any};
-ghost use Rattle.std.specs.Str.{bytes_eq};
 ghost use Rattle.feed_site.specs.Kinds.{ends_authority, has_end, has_fields, is_after_open, is_field, is_front};
-ghost use Rattle.feed_site.specs.Kinds.{is_number_field, is_place_field, is_template, is_work_field};
+ghost use Rattle.feed_site.specs.Kinds.{is_template};
 ghost use Rattle.feed_site.specs.Urls.{parts_between};
 
 use crate::cuts::{after, before, has};
+use crate::field::Field;
 use crate::hosts::is_link;
 use crate::urls::after_scheme;
 
-/// Returns whether a name is this word.
-pub(crate) fn is(name: &[u8], word: &str) -> bool
-    ensures { result ≡ bytes_eq name.now word.now }
-{
-    name == word.as_bytes()
-}
-
-fn is_work_field(name: &[u8]) -> bool
-    ensures { result ≡ is_work_field name.now }
-{
-    is(name, "title") || is(name, "article") || is(name, "author") || is(name, "date")
-}
-
-fn is_place_field(name: &[u8]) -> bool
-    ensures { result ≡ is_place_field name.now }
-{
-    is(name, "volume") || is(name, "issue") || is(name, "page")
-}
-
-fn is_number_field(name: &[u8]) -> bool
-    ensures { result ≡ is_number_field name.now }
-{
-    is(name, "issn") || is(name, "isbn") || is(name, "doi") || is(name, "pmid")
-}
-
-/// Returns whether a text names a part of a citation.
+// Returns whether a text names a part of a citation, or an identifier.
 #[tactic(auto, unfolding(crate::specs::Kinds::is_field))]
 fn is_field(name: &[u8]) -> bool
     ensures { result ≡ is_field name.now }
 {
-    is_work_field(name) || is_place_field(name) || is_number_field(name)
+    Field::named(name).is_some()
 }
 
 // Returns whether a piece of a template after an opening brace begins with a part of a citation and the closing brace.

@@ -1,7 +1,7 @@
 use Rattle.std.proofs.Common.{◌≡◌, ◌+◌, drop}
 use Rattle.feed_openurl.specs.Citations.{is_in_page}
 use Rattle.feed_openurl.specs.Fronts.{front_len}
-use Rattle.feed_openurl.proofs.citation.page_len.Given as goal
+use Rattle.feed_openurl.proofs.offer.page_len.Given as goal
 
 -- all bytes so far are of the first page
 abbrev pub invariant-loop-place : goal.invariant-loop-place
