@@ -2,7 +2,8 @@
 ghost use Rattle.std.specs.Prelude.{◌≡◌, ◌≤◌, length};
 ghost use Rattle.std.specs.Char.{is_ascii_digit};
 ghost use Rattle.feed_openurl.specs.Fronts.{front_len};
-ghost use Rattle.feed_openurl.specs.Volumes.{after_digits, after_letters, begins_with_digit, digits, is_letter, letters};
+ghost use Rattle.feed_openurl.specs.Volumes.{after_digits, after_letters, begins_with_digit, digits};
+ghost use Rattle.feed_openurl.specs.Volumes.{is_letter, letters};
 
 /// Returns whether a byte of a value in ASCII is a letter; `_` is one beyond ASCII.
 pub(crate) fn is_letter(byte: u8) -> bool

@@ -5,7 +5,7 @@ ghost use Rattle.feed_openurl.specs.Laws.{WrittenIsShort, WrittenIsUnderstood};
 
 use feed_answer::{set_has_exactly_its_identifiers, sets_ascend};
 
-/// For a query that the core answers, each of its identifiers is looked up, with its days and its volume if it has them,
+/// For a query that the core answers, each of its identifiers is looked up, with its days and its volume if it has any,
 /// unless the query has more than `IDENTIFIER_LIMIT` identifiers.
 pub fn answered_is_contained()
     ensures { AnsweredIsContained }
@@ -13,7 +13,7 @@ pub fn answered_is_contained()
     set_has_exactly_its_identifiers();
 }
 
-/// Two pairs that change places change nothing of the identifiers that are looked up, nor of the reason if there is none.
+/// Two pairs that change places change nothing of the identifiers that are looked up, nor of the reason if none is.
 pub fn order_is_free()
     ensures { OrderIsFree }
 {

@@ -158,7 +158,7 @@ fn volume_by(
     VolumeText::of_query(alloc, without_zeros(&digits))
 }
 
-/// Returns the volume that a Roman numeral up to MMMCMXCIX is, in any case of letters. A single C, D, L or M is none: it
+/// Returns the volume that a Roman numeral up to MMMCMXCIX is, in either case. A single C, D, L or M is none: it
 /// names a section, as in "J. Phys. C".
 pub(crate) fn roman_volume(alloc: Global, text: &[u8]) -> Result<Option<VolumeText>, AllocError>
     ensures { IfOk result (λ volume. volume ≡ roman_volume text.now) }
