@@ -46,11 +46,11 @@ pub struct Hosting<'a> {
 /// of wanted ones has no active release, which is reported (`NoRelease`). If the node has a source, a client that has
 /// the token can make it fetch a release from there. It prints a line for each request, at once. The first fault is
 /// reported: of the source (`Host`, `Read`, `Token`), of the site file (`Read`, `Site`), of the file of wanted packages
-/// (`Read`, `Wanted`), of the database, of the address (`Bind`), of a list (`Damaged`), of the sockets (`Poll`), and of a
-/// database whose file is gone (`Device`). Lines of the log that cannot be written are dropped and counted, and that is
-/// reported. A host that has no address yet is reported too (`Resolve`), and the node runs. If there are too few
-/// descriptors for all clients, that is reported (`Descriptors`), and the node answers fewer at a time, or does not start
-/// with fewer than 16.
+/// (`Read`, `Wanted`), of the database, of the address (`Bind`), of a list (`Damaged`), of the sockets (`Poll`), and of
+/// a database whose file is gone (`Device`). Lines of the log that cannot be written are dropped and counted, and that
+/// is reported. A host that has no address yet is reported too (`Resolve`), and the node runs. If there are too few
+/// descriptors for all clients, that is reported (`Descriptors`), and the node answers fewer at a time, or does not
+/// start with fewer than 16.
 ///
 /// A check answers no reader, and prints `ok` if all is well. It also reports a prefix of a proxy behind which a list
 /// can add parameters (`Prefix`), which is no fault.

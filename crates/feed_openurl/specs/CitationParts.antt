@@ -3,7 +3,8 @@ use Rattle.std.specs.Prelude.{ℕ, Bool, ◌==◌, List, Option, codes}
 use Rattle.std.specs.List.{find}
 use Rattle.std.specs.Str.{bytes_eq}
 use Rattle.feed_openurl.specs.declared.part.Part.{Part}
-use Rattle.feed_openurl.specs.declared.part.Part.TheVariants.{Article, Title, Author, Date, Volume, Issue, Page, Doi, Pmid, Genre, LastName, FirstName, LastPage, Pages, Series, Edition, Publisher, Place, Institution}
+use Rattle.feed_openurl.specs.declared.part.Part.TheVariants.{Article, Title, Author, Date, Volume, Issue, Page, Doi, Pmid, Genre}
+use Rattle.feed_openurl.specs.declared.part.Part.TheVariants.{LastName, FirstName, LastPage, Pages, Series, Edition, Publisher, Place, Institution}
 use Rattle.feed_openurl.specs.declared.part.TheConstants.{PARTS}
 
 -- the name of a part

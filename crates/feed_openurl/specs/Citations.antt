@@ -11,7 +11,8 @@ use Rattle.feed_openurl.specs.Keys.{after_prefix, is_name, key_of, mended, or_el
 use Rattle.feed_openurl.specs.Links.{bare_pmid_of, doi_of, pmid_of}
 use Rattle.feed_openurl.specs.Shown.{shown}
 use Rattle.feed_openurl.specs.declared.part.Part.{Part}
-use Rattle.feed_openurl.specs.declared.part.Part.TheVariants.{Article, Title, Author, Date, Volume, Issue, Page, Doi, Pmid, Genre, LastName, FirstName, LastPage, Pages, Series, Edition, Publisher, Place, Institution}
+use Rattle.feed_openurl.specs.declared.part.Part.TheVariants.{Article, Title, Author, Date, Volume, Issue, Page, Doi, Pmid, Genre}
+use Rattle.feed_openurl.specs.declared.part.Part.TheVariants.{LastName, FirstName, LastPage, Pages, Series, Edition, Publisher, Place, Institution}
 use Rattle.feed_openurl.specs.declared.part.TheConstants.{PARTS}
 use Rattle.feed_openurl.specs.declared.key.Key.{Key}
 use Rattle.feed_openurl.specs.declared.key.Key.TheVariants as key
