@@ -50,7 +50,7 @@ fn from_windows_1252(alloc: Global, text: &[u8]) -> Result<Vec<u8>, AllocError>
 fn is_utf8(text: &[u8]) -> bool
     ensures { result ≡ is_utf8 text.now }
 {
-    match str::from_utf8(text) {
+    match simdutf8::basic::from_utf8(text) {
         Ok(_) => true,
         Err(_) => false,
     }

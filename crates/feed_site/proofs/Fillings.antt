@@ -13,7 +13,7 @@ use Rattle.feed_site.specs.Laws.{is_plain}
 use Rattle.feed_site.specs.RequestLaws.{PartsAddNoMarks, RequestsAreLinks, RequestsKeepHost, marks}
 use Rattle.feed_site.specs.Requests.{CitedValue, filled, filled_from, part_of, part_text, request_link, if_link}
 use Rattle.feed_site.specs.Hosts.{host_behind, host_in, host_of, is_link}
-use Rattle.feed_site.specs.Urls.{after_scheme, authority_of, before_byte, begins_with, has_byte, is_visible, url_limit}
+use Rattle.feed_site.specs.Urls.{after_scheme, authority_of, before_byte, begins_with, ends_authority, has_byte, is_visible, url_limit}
 use Rattle.feed_site.proofs.Through.{escape_is_plain, kept_is_plain}
 
 -- the front of a list, up to the first element that passes, by recursion
@@ -126,15 +126,8 @@ pub cuts : (p q : ℕ → Bool) (xs : List ℕ) → front p (front q xs) ≡ fro
 cuts p q [] = refl
 cuts p q (b ∷ rest) = cuts_case p q (q b) b rest refl (cuts p q rest)
 
-two : (j k : ℕ) (p : ℕ → Bool) (xs : List ℕ) → before_byte j (front p xs) ≡ front (λ x. (x == j) || p x) xs
-two j k p xs = is_front_of (λ x. x == j) (front p xs) ∙ cuts (λ x. x == j) p xs
-
-pub authority_is : (xs : List ℕ) → authority_of xs ≡ front (λ x. (x == 47) || ((x == 63) || ((x == 35) || (x == 92)))) xs
-authority_is xs =
-    ap (λ (t : List ℕ). before_byte 47 (before_byte 63 (before_byte 35 t))) (is_front_of (λ x. x == 92) xs)
-    ∙ ap (λ (t : List ℕ). before_byte 47 (before_byte 63 t)) (two 35 0 (λ x. x == 92) xs)
-    ∙ ap (λ (t : List ℕ). before_byte 47 t) (two 63 0 (λ x. (x == 35) || (x == 92)) xs)
-    ∙ two 47 0 (λ x. (x == 63) || ((x == 35) || (x == 92))) xs
+pub authority_is : (xs : List ℕ) → authority_of xs ≡ front ends_authority xs
+authority_is xs = is_front_of ends_authority xs
 
 cut_case : (p : ℕ → Bool) (c : Bool) (b : ℕ) (fore y : List ℕ) → (c || list_any p fore) ≡ true
     → (list_any p fore ≡ true → front p (fore ++ y) ≡ front p fore)
@@ -146,7 +139,7 @@ cut_early : (p : ℕ → Bool) (fore y : List ℕ) → list_any p fore ≡ true 
 cut_early p [] y h = cc
 cut_early p (b ∷ fore) y h = cut_case p (p b) b fore y h (cut_early p fore y)
 
-authority_same : (rest y : List ℕ) → list_any (λ x. (x == 47) || ((x == 63) || ((x == 35) || (x == 92)))) rest ≡ true → authority_of (rest ++ y) ≡ authority_of rest
+authority_same : (rest y : List ℕ) → list_any ends_authority rest ≡ true → authority_of (rest ++ y) ≡ authority_of rest
 authority_same rest y h = authority_is (rest ++ y) ∙ cut_early _ rest y h ∙ sym (authority_is rest)
 
 hosts_same : (o : Option (List ℕ)) (y : List ℕ) → has_end o ≡ true → host_behind (option_map (λ rest. rest ++ y) o) ≡ host_behind o

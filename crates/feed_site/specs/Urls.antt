@@ -35,8 +35,11 @@ abbrev pub has_byte : ℕ → List ℕ → Bool
 has_byte byte text = list_any (λ b. b == byte) text
 
 -- the authority at the front of a text: `/`, `?` or `#` ends it, or the backslash that browsers take for a slash
+abbrev pub ends_authority : ℕ → Bool
+ends_authority b = (b == 47) || ((b == 63) || ((b == 35) || (b == 92)))
+
 abbrev pub authority_of : List ℕ → List ℕ
-authority_of text = before_byte 47 (before_byte 63 (before_byte 35 (before_byte 92 text)))
+authority_of text = before_first ends_authority text
 
 -- the text has at least and at most so many bytes
 abbrev pub is_sized : ℕ → ℕ → List ℕ → Bool

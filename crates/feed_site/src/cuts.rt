@@ -39,7 +39,7 @@ pub(crate) fn after(byte: u8, text: &[u8]) -> &[u8]
 pub(crate) fn has(byte: u8, text: &[u8]) -> bool
     ensures { result ≡ has_byte byte text.now }
 {
-    text.iter().any(|b| *b == byte)
+    text.contains(&byte)
 }
 
 /// Returns whether a text has at least and at most so many bytes.

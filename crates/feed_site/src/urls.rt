@@ -1,12 +1,12 @@
 //! The parts of URLs of `http` and `https`, the names of hosts, and the domains that a host is in.
-ghost use Rattle.std.specs.Prelude.{◌≡◌, ◌-◌, drop, length, option_copied};
-ghost use Rattle.std.specs.List.{list_all};
-ghost use Rattle.feed_site.specs.Urls.{after_scheme, authority_of, begins_with, is_dotted, is_host, is_hyphen};
-ghost use Rattle.feed_site.specs.Urls.{is_label, is_visible, is_within};
+ghost use Rattle.std.specs.Prelude.{◌≡◌, ◌≤◌, ◌-◌, drop, length, option_copied};
+ghost use Rattle.std.specs.List.{list_all, position_or_len};
+ghost use Rattle.feed_site.specs.Urls.{after_scheme, authority_of, begins_with, ends_authority, is_dotted, is_host};
+ghost use Rattle.feed_site.specs.Urls.{is_hyphen, is_label, is_visible, is_within};
 ghost use Rattle.feed_site.specs.Urls.{parts_between};
 
 use crate::bytes::ByteClass;
-use crate::cuts::{before, is_sized};
+use crate::cuts::is_sized;
 
 /// Returns whether a text begins with another one, in any case of letters, and is longer.
 pub fn begins_with(url: &[u8], front: &[u8]) -> bool
@@ -35,11 +35,29 @@ pub(crate) fn after_scheme(url: &[u8]) -> Option<&[u8]>
     }
 }
 
+fn ends_authority(byte: u8) -> bool
+    ensures { result ≡ ends_authority byte }
+{
+    matches!(byte, b'/' | b'?' | b'#' | b'\\')
+}
+
+fn authority_len(text: &[u8]) -> usize
+    ensures value { result ≡ position_or_len ends_authority text.now }
+    ensures bound { result ≤ length text.now }
+{
+    for place in 0..text.len() {
+        if ends_authority(text[place]) {
+            return place;
+        }
+    }
+    text.len()
+}
+
 /// Returns the authority at the front of a text: `/`, `?`, `#` or a backslash ends it.
 pub(crate) fn authority_of(text: &[u8]) -> &[u8]
     ensures { result.now ≡ authority_of text.now }
 {
-    before(b'/', before(b'?', before(b'#', before(b'\\', text))))
+    &text[..authority_len(text)]
 }
 
 fn is_hyphen(byte: u8) -> bool

@@ -5,10 +5,10 @@ use Rattle.std.proofs.lemmas.Str.{IsUtf8-from_is_utf8, is_utf8-from_IsUtf8}
 use Rattle.feed_resolver_reply.proofs.utf8.is_utf8.Goals as goal
 
 pub returns-in-Ok : goal.returns-in-Ok
-returns-in-Ok c = sym (is_utf8-from_IsUtf8 c.args.text.now c.in-Ok.ensures.cases.1)
+returns-in-Ok c = sym (is_utf8-from_IsUtf8 c.args.text.now c.in-Ok.ensures.1)
 
 pub returns-in-Err : goal.returns-in-Err
 returns-in-Err c = elim (cases_Bool (is_utf8 c.args.text.now)) [
-  | inl is ↦ absurd (c.in-Err.ensures.cases.0 (IsUtf8-from_is_utf8 c.args.text.now is))
+  | inl is ↦ absurd (c.in-Err.ensures (IsUtf8-from_is_utf8 c.args.text.now is))
   | inr not ↦ sym not
 ]
