@@ -38,11 +38,7 @@ report_to metrics gauges missing head keeps asked reply kind alone body k a b te
 }
 
 -- bytes that ask for no report get none
-both_false : (b : Bool) → (b && false) ≡ false
-both_false true = refl
-both_false false = refl
-
 pub gets_none : (is_local is_open : Bool) (bytes : List ℕ) → AsksForNoReport bytes → GetsNoReport is_local is_open bytes
 gets_none is_local is_open bytes (inl none) = inl none
 gets_none is_local is_open bytes (inr (head, begins, none)) =
-    inr (head, begins, ap (λ asked. may_report is_local is_open head && is_some asked) none ∙ both_false (may_report is_local is_open head))
+    inr (head, begins, ap (λ asked. is_some asked && may_report is_local is_open head) none)

@@ -49,7 +49,7 @@ may_report is_local is_open head = is_near is_local head || is_open
 
 -- whether a request with this head gets a report
 abbrev pub gets_report : Bool → Bool → RequestHead → Bool
-gets_report is_local is_open head = may_report is_local is_open head && is_some (report_of head)
+gets_report is_local is_open head = is_some (report_of head) && may_report is_local is_open head
 
 -- the bytes are a request that gets a report
 abbrev pub GetsReport : Bool → Bool → List ℕ → Type 0

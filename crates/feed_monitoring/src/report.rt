@@ -74,13 +74,13 @@ fn may_report(is_local: bool, is_open: bool, request: &Request<'_>) -> bool
     is_near(is_local, request) || is_open
 }
 
-/// Returns whether a request gets a report: its client may have it, and the request asks for one. `is_local` is whether
-/// it came from the same machine, and `is_open` whether reports are open to all.
+/// Returns whether a request gets a report: it asks for one, and its client may have it. `is_local` is whether it came
+/// from the same machine, and `is_open` whether reports are open to all.
 pub(crate) fn request_gets_report(is_local: bool, is_open: bool, request: &Request<'_>) -> bool
     requires { IsInBuffer request.now }
     ensures { (head : RequestHead) → HasHead request.now head → result ≡ gets_report is_local is_open head }
 {
-    may_report(is_local, is_open, request) && report_of(request).is_some()
+    report_of(request).is_some() && may_report(is_local, is_open, request)
 }
 
 /// Returns whether the bytes are a request that gets a report, as it came from the same machine or another one.

@@ -170,7 +170,7 @@ impl<'a> FeedResponder<'a> {
 
     // Has the node end the fetch that is under way, if the request asks for that and has the token.
     fn note_end(&self, bytes: &[u8], policy: &FetchPolicy<'_>) {
-        if ends_fetch(bytes, policy) {
+        if policy.is_busy && ends_fetch(bytes, policy) {
             self.state.cancel_fetch();
         }
     }
