@@ -5,8 +5,8 @@ openurl_random.py COUNT SEED LIST
 
 Makes queries of the keys of OpenURL 1.0 and 0.1, alone and mixed, with values that `kbfeed answer` reads and others.
 What `kbfeed openurl` writes of each has to be accepted by `kbfeed answer` with the list, and understood as itself. If
-the query is answered as it is, the answer to what is written has no other row, and lacks a row or has another grade
-only if nothing was tested before, or a date and a volume are now: that is the law of OPENURL.md, as hits show it.
+the query is answered as it is, the answer to what is written lacks a row or has another grade only if nothing was
+tested before, or a date and a volume are now: that is the law of OPENURL.md, as hits show it.
 Prints each breach, and then the number of queries. Fails if fewer than one in twenty of them are answered as they are,
 or only as they are understood, or if no row was graded anew."""
 import json
@@ -59,32 +59,37 @@ def grades_of(query):
 
 
 def is_kept(before, after, is_tested_by_both):
-    """Whether no row was added, and a row has another grade or went only if a date or a volume is new that tests it."""
-    return after.keys() <= before.keys() and all(
-        grade == "untested" or is_tested_by_both or after.get(record) == grade for record, grade in before.items())
+    """Whether a row has another grade or went only if a date or a volume is new that tests it."""
+    return all(grade == "untested" or is_tested_by_both or after.get(record) == grade
+               for record, grade in before.items())
 
 
-count, seed = int(sys.argv[1]), int(sys.argv[2])
-rng = random.Random(seed)
-answered = only = graded = 0
-for query in [query_of(rng) for _ in range(count)]:
-    read = understood(query)
-    before = grades_of(query)
-    answered += before is not None
-    if read["refused"]:
-        if before is not None:
-            print("refused", query)
-        continue
-    only += before is None
-    after = grades_of(read["query"])
-    if after is None:
-        print("not accepted", query)
-    elif before is not None:
-        graded += before != after
-        if not is_kept(before, after, read["date"] and read["volume"]):
-            print("not kept", query, before, after)
-    if understood(read["query"])["query"] != read["query"]:
-        print("not itself", query)
-if min(answered, only) * 20 < count or not graded:
-    sys.exit(f"{answered} answered as they are, {only} only as they are understood, {graded} graded anew")
-print(f"{count} queries")
+def main():
+    count, seed = int(sys.argv[1]), int(sys.argv[2])
+    rng = random.Random(seed)
+    answered = only = graded = 0
+    for query in [query_of(rng) for _ in range(count)]:
+        read = understood(query)
+        before = grades_of(query)
+        answered += before is not None
+        if read["refused"]:
+            if before is not None:
+                print("refused", query)
+            continue
+        only += before is None
+        after = grades_of(read["query"])
+        if after is None:
+            print("not accepted", query)
+        elif before is not None:
+            graded += before != after
+            if not is_kept(before, after, read["date"] and read["volume"]):
+                print("not kept", query, before, after)
+        if understood(read["query"])["query"] != read["query"]:
+            print("not itself", query)
+    if min(answered, only) * 20 < count or not graded:
+        sys.exit(f"{answered} answered as they are, {only} only as they are understood, {graded} graded anew")
+    print(f"{count} queries")
+
+
+if __name__ == "__main__":
+    main()

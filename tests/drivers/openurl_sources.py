@@ -4,16 +4,26 @@
 openurl_sources.py TABLE
 
 TABLE has one query a line, as `kbfeed openurl --json` gets it, with the identifiers, the date and the volume that are
-wanted, and in a note the DOI, the PMID and the reason of a refusal. Prints each difference, and then the counts."""
+wanted, and in a note the DOI, the PMID and the reason of a refusal. A query that names an author has to have one in its
+citation, and one that names none must not. Prints each difference, and then the counts."""
 import json
 import re
 import subprocess
 import sys
+from urllib.parse import parse_qsl
+
+# The keys that name an author, after `rft.` or alone.
+AUTHOR_KEYS = {"au", "aulast", "aufirst", "auinit", "auinit1", "creator"}
 
 
 def noted(name, pattern, note):
     found = re.search(name + "=(" + pattern + ")", note)
     return found[1] if found else ""
+
+
+def names_author(query):
+    pairs = parse_qsl(query.replace("&amp;", "&").lstrip("?"), encoding="latin-1")
+    return any(key.lower().removeprefix("rft.") in AUTHOR_KEYS and value.strip() for key, value in pairs)
 
 
 def wanted_of(fields):
@@ -22,9 +32,10 @@ def wanted_of(fields):
         "identifiers": "" if identifiers == "none" else identifiers,
         "date": date,
         "volume": volume,
-        "doi": noted("doi", r"10\.5555/[a-z0-9.]+(?:;1<2>)?", note),
+        "doi": noted("doi", r"10\.\d+/[\w.()-]*[\w)](?:;1<2>)?", note),
         "pmid": noted("pmid", r"\d+", note),
         "refused": noted("refused", r"\w+", note) or ("NoIssn" if identifiers == "none" else ""),
+        "author": names_author(fields[3]),
     }
 
 
@@ -40,6 +51,7 @@ def understood(query):
         "doi": read["citation"]["doi"],
         "pmid": read["citation"]["pmid"],
         "refused": read["refused"],
+        "author": bool(read["citation"]["author"]),
     }
 
 
