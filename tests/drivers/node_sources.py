@@ -66,7 +66,7 @@ def wanted_reply(row):
     refused = wanted["refused"]
     if not refused:
         return 200, wanted_hits(wanted)
-    if refused in ("NoIssn", "NoIsbn") and is_cited(row[3], wanted):
+    if refused != "TooMany" and is_cited(row[3], wanted):
         return 200, "nothing to look up: " + refused
     return 400, refused
 

@@ -139,17 +139,14 @@ class Query:
         isbns = {value for key, value in pairs if key == "rft.isbn" and value in ISBNS}
         versions = [value for key, value in pairs if key == "url_ver" and value]
         self.fault = None
-        if any(it != "Z39.88-2004" for it in versions):
-            self.fault = "Version"
-        elif formats - {"journal", "book"}:
-            self.fault = "OtherFormat"
-        if formats == {"journal"} and issns:
-            isbns = set()
-        if formats == {"book"} and isbns:
-            issns = set()
         self.identifiers = issns | isbns
-        if not self.fault and not self.identifiers:
-            self.fault = "NoIsbn" if formats == {"book"} else "NoIssn"
+        if not self.identifiers:
+            if any(it != "Z39.88-2004" for it in versions):
+                self.fault = "Version"
+            elif formats - {"journal", "book"}:
+                self.fault = "OtherFormat"
+            else:
+                self.fault = "NoIsbn" if formats == {"book"} else "NoIssn"
         dates = [it for it in (query_days_of(value) for key, value in pairs if key == "rft.date") if it]
         volumes = [it for it in (volume_of(value) for key, value in pairs if key == "rft.volume") if it is not None]
         self.days, self.volume = dates[0] if dates else None, volumes[0] if volumes else None
@@ -408,8 +405,6 @@ class Request:
         if not self.pairs and self.format == "html":
             return 200, None, None
         query = Query(self.pairs)
-        if query.fault in ("Version", "OtherFormat"):
-            return 400, None, self.fault(query.fault)
         if query.fault:
             status = (404 if self.path == "/go" else 200) if query.is_cited else 400
             return status, None, self.fault(f"nothing to look up: {query.fault}" if query.is_cited else query.fault)

@@ -63,8 +63,10 @@ fn read(alloc: Global, query: &str) -> Result<Reading, AllocError> {
 // Returns why a query has nothing to look up.
 fn cause_of(refusal: Refusal) -> &'static str {
     match refusal {
-        Refusal::Version => "url_ver and ctx_ver are Z39.88-2004",
-        Refusal::OtherFormat => "rft_val_fmt is that of journals or that of books",
+        Refusal::Version => "no value has an ISSN or an ISBN, and a version is not Z39.88-2004",
+        Refusal::OtherFormat => {
+            "no value has an ISSN or an ISBN, and a format is not that of journals or of books"
+        }
         Refusal::NoIssn => "no value has an ISSN or an ISBN with its check digit",
         Refusal::NoIsbn => "no value has an ISBN or an ISSN with its check digit",
         Refusal::TooMany => "a query has at most 64 ISSNs and ISBNs",

@@ -44,6 +44,10 @@ row_of text.Inside = row "inside" "Covers the whole of what you asked for" "Deck
 row_of text.Overlap = row "overlap" "Covers a part of the date that you asked for" "Deckt einen Teil des gesuchten Zeitraums ab" "Couvre une partie de la période demandée"
 row_of text.Untested = row "untested" "Not compared with a date or a volume" "Nicht mit einem Datum oder Band verglichen" "Non comparé à une date ou à un volume"
 row_of text.Outside = row "outside" "Does not cover what you asked for" "Deckt Ihre Anfrage nicht ab" "Ne couvre pas votre demande"
+row_of text.VolumeOutside =
+    row "volume_outside" "The date is covered, the volume is not in this list's range"
+    "Das Datum ist abgedeckt, der Band liegt nicht im Bereich dieser Liste"
+    "La date est couverte, le volume n’est pas dans ceux de cette liste"
 row_of text.Partly = row "partly" "Only a part of it is open to readers today" "Nur ein Teil davon ist heute zugänglich" "Seule une partie est accessible aujourd’hui"
 row_of text.Embargoed = row "embargoed" "Not open to readers today" "Heute nicht zugänglich" "Non accessible aujourd’hui"
 row_of text.Depth = row "depth" "Full text" "Volltext" "Texte intégral"
@@ -104,10 +108,6 @@ row_of text.NoList =
     row "no_list" "This package has no list at present. Search in all packages here."
     "Für dieses Paket gibt es derzeit keine Liste. Suchen Sie hier in allen Paketen."
     "Ce bouquet n’a pas de liste pour le moment. Recherchez ici dans tous les bouquets."
-row_of text.LinkNotRead =
-    row "link_not_read" "This link does not cite a journal or a book in a form that can be read. Enter the ISSN or the ISBN here."
-    "Dieser Link nennt keine Zeitschrift und kein Buch in lesbarer Form. Geben Sie hier die ISSN oder die ISBN ein."
-    "Ce lien ne cite ni revue ni livre sous une forme lisible. Saisissez ici l’ISSN ou l’ISBN."
 row_of text.TooManyNumbers =
     row "too_many_numbers" "This link has too many ISSNs and ISBNs. Search for one of them here."
     "Dieser Link enthält zu viele ISSN und ISBN. Suchen Sie hier nach einer davon."

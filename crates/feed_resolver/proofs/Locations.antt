@@ -30,7 +30,7 @@ use Rattle.feed_resolver_hits.proofs.SoleHits.{sole_is}
 use Rattle.feed_resolver_hits.specs.Laws.{IsSoleHit}
 use Rattle.feed_page_texts.specs.declared.table.Text.TheVariants as advice
 use Rattle.feed_resolver_page.specs.ErrorPages.{error_reply}
-use Rattle.feed_resolver_page.specs.QueryRefusals.{advice_on, asks_for_form, form_page, is_numberless, numberless_body, numberless_status, reason_text, unasked_reply}
+use Rattle.feed_resolver_page.specs.QueryRefusals.{asks_for_form, form_page, is_numberless, numberless_body, numberless_status, reason_text, unasked_reply}
 use Rattle.feed_resolver_page.specs.TitlesPage.{titles_by}
 use Rattle.feed_titles.specs.Asks as title_asks
 use Rattle.feed_titles.specs.declared.asked.TitleFault.{TitleFault}
@@ -84,7 +84,7 @@ unasked_located : (site : site_file.SiteValue) (query : List ℕ) (code : Status
 unasked_located site query code representation ask why =
     let read : ReplyValue =
     reply_with (numberless_status (names_work ask.citation) code) representation (numberless_body site query (names_work ask.citation) representation ask why) in
-    let refused : ReplyValue = error_reply site query status.BadRequest representation (advice_on why) (reason_text why) in
+    let refused : ReplyValue = error_reply site query status.BadRequest representation advice.TooManyNumbers (reason_text why) in
     either_located (asks_for_form query representation) (reply_with status.Good Html (form_page site))
     (if is_numberless why then read else refused) plain
     (either_located (is_numberless why) read refused plain plain)

@@ -22,7 +22,6 @@ use Rattle.feed_resolver_page.specs.Frames.{page_top}
 use Rattle.feed_resolver_page.specs.HitsPage.{page_bottom, page_foot, paragraph}
 use Rattle.feed_resolver_page.specs.SearchForms.{search_form}
 use Rattle.feed_resolver_page.specs.TitlesForms.{titles_form}
-use Rattle.feed_page_texts.specs.declared.table.Text.{Text as PageText}
 use Rattle.feed_page_texts.specs.declared.table.Text.TheVariants as page
 
 -- the name of a reason
@@ -33,11 +32,10 @@ reason_text reason.NoIssn = codes "NoIssn"
 reason_text reason.NoIsbn = codes "NoIsbn"
 reason_text reason.TooMany = codes "TooMany"
 
--- the query is read, and has no number that is looked up
+-- the query has no number that is looked up, whatever its format and its version are
 abbrev pub is_numberless : Refusal → Bool
-is_numberless reason.NoIssn = true
-is_numberless reason.NoIsbn = true
-is_numberless reason = false
+is_numberless reason.TooMany = false
+is_numberless reason = true
 
 -- the citation of the query, that nothing is looked up, and the form for its title
 unfoldable pub nothing_part : site_file.SiteValue → List (List ℕ × List ℕ) → AskValue → List ℕ
@@ -80,17 +78,12 @@ asks_for_form query representation = false
 unfoldable pub form_page : site_file.SiteValue → List ℕ
 form_page site = page_top site page.FindHoldings ++ (search_form site [] ++ (titles_form site [] ++ page_foot site))
 
--- what a reader may do about a query that is rejected
-abbrev pub advice_on : Refusal → PageText
-advice_on reason.TooMany = page.TooManyNumbers
-advice_on reason = page.LinkNotRead
-
 -- the reply to a query for which nothing is looked up: the form, if the query is empty and the reply is a page; with this
--- status, if it has no number and its citation names a work; otherwise it is rejected
+-- status, if it has no number and its citation names a work; otherwise it is rejected, as one with too many numbers is
 abbrev pub unasked_reply : site_file.SiteValue → List ℕ → Status → Representation → AskValue → Refusal → ReplyValue
 unasked_reply site query code representation ask why =
     if asks_for_form query representation then reply_with status.Good Html (form_page site)
     else if is_numberless why
     then reply_with (numberless_status (names_work ask.citation) code) representation
     (numberless_body site query (names_work ask.citation) representation ask why)
-    else error_reply site query status.BadRequest representation (advice_on why) (reason_text why)
+    else error_reply site query status.BadRequest representation page.TooManyNumbers (reason_text why)

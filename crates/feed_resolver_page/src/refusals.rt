@@ -3,7 +3,7 @@ ghost use Rattle.std.specs.Prelude.{◌≡◌, ◌++◌, IfOk, OnOk, true, false
 ghost use Rattle.feed_resolver_request.specs.declared.representation.Representation.TheVariants as representation;
 ghost use Rattle.feed_resolver_reply.specs.Replies.{reply_with};
 ghost use Rattle.feed_resolver_reply.specs.declared.status.Status.TheVariants as status;
-ghost use Rattle.feed_resolver_page.specs.QueryRefusals.{advice_on, asks_for_form, form_page};
+ghost use Rattle.feed_resolver_page.specs.QueryRefusals.{asks_for_form, form_page};
 ghost use Rattle.feed_resolver_page.specs.QueryRefusals.{is_numberless, nothing_json, nothing_page, nothing_part};
 ghost use Rattle.feed_resolver_page.specs.QueryRefusals.{nothing_text, numberless_body, numberless_status};
 ghost use Rattle.feed_resolver_page.specs.QueryRefusals.{page_of_nothing};
@@ -40,7 +40,7 @@ fn reason_text(reason: Refusal) -> &'static [u8]
 fn is_numberless(reason: Refusal) -> bool
     ensures { result ≡ is_numberless reason }
 {
-    matches!(reason, Refusal::NoIssn | Refusal::NoIsbn)
+    !matches!(reason, Refusal::TooMany)
 }
 
 #[tactic(auto, unfolding(crate::specs::QueryRefusals::nothing_part))]
@@ -183,18 +183,9 @@ fn form_reply(alloc: Global, site: &SiteFile) -> Result<Reply, AllocError>
     Ok(Reply::new(Status::Good, Representation::Html, body))
 }
 
-fn advice_on(reason: Refusal) -> Text
-    ensures { result ≡ advice_on reason }
-{
-    match reason {
-        Refusal::TooMany => Text::TooManyNumbers,
-        _ => Text::LinkNotRead,
-    }
-}
-
 /// Returns the reply to a query for which nothing is looked up: the form, if the query is empty and the reply is a
-/// page. A query without an ISSN and an ISBN whose citation names a work has a reply with this status. Any other is
-/// rejected.
+/// page. A query without an ISSN and an ISBN, of any format and version, has a reply with this status if its citation
+/// names a work. Any other is rejected.
 ///
 /// # Errors
 ///
@@ -232,7 +223,7 @@ pub fn unasked_reply(
         text,
         Status::BadRequest,
         representation,
-        advice_on(reason),
+        Text::TooManyNumbers,
         reason_text(reason),
     )
 }
