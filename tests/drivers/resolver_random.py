@@ -4,8 +4,8 @@ resolver_random.py [--cases N] [--seed N]
 
 The model is written from docs/RESOLVER.md, docs/KBART.md and docs/OPENURL.md alone. It goes through all rows of all
 lists for each request. Each world has up to three packages with a few rows, a site file or none, and a day; it gets
-twenty requests. Compared are the status, the address of a redirect, the whole text, the hits of JSON with most members,
-and the links of a page, in their order. `feed_test_http` gives the replies."""
+twenty requests. Compared are the status, the address of a redirect, the whole text, the hits and `also` of JSON with
+most members, and the links of a page, in their order. `feed_test_http` gives the replies."""
 import argparse
 import calendar
 import datetime
@@ -147,6 +147,8 @@ class Query:
                 self.fault = "OtherFormat"
             else:
                 self.fault = "NoIsbn" if formats == {"book"} else "NoIssn"
+        genre = next((value for key, value in pairs if key == "rft.genre" and value), "")
+        self.is_book_first = bool(issns and isbns) and genre.lower() not in ("article", "journal")
         dates = [it for it in (query_days_of(value) for key, value in pairs if key == "rft.date") if it]
         volumes = [it for it in (volume_of(value) for key, value in pairs if key == "rft.volume") if it is not None]
         self.days, self.volume = dates[0] if dates else None, volumes[0] if volumes else None
@@ -170,6 +172,15 @@ def grade_of(row, query):
     if not tests_date and not tests_volume:
         return "untested"
     return "overlap" if tests_date and not lies_in(query.days, row.coverage()) else "inside"
+
+
+def dated_grade_of(row, query):
+    """Returns the grade of a serial's row by the date, if that is covered and the volume is not; otherwise None."""
+    if row.kind == BOOK or not row.identifiers & query.identifiers or query.days is None or not row.has_dates():
+        return None
+    if grade_of(row, query) or not meet(query.days, row.coverage()):
+        return None
+    return "inside" if lies_in(query.days, row.coverage()) else "overlap"
 
 
 def months_before(day, months):
@@ -205,6 +216,7 @@ class Hit:
 
     def __init__(self, row, grade, query, world):
         self.row, self.grade = row, grade
+        self.is_first = query.is_book_first and row.kind == BOOK
         left = open_days(row.cells["embargo_info"], world.today)
         if query.days is None or not row.has_dates() or left is None:
             self.availability = "not compared"
@@ -223,7 +235,7 @@ class Hit:
         full = self.row.cells["coverage_depth"] == "fulltext"
         listed = [it.get("id") for it in world.packages]
         place = listed.index(self.row.package) if self.row.package in listed else len(listed)
-        return (["available", "partly", "not compared", "embargoed"].index(self.availability),
+        return (not self.is_first, ["available", "partly", "not compared", "embargoed"].index(self.availability),
                 ["inside", "overlap", "untested"].index(self.grade), not full,
                 not (full and self.row.cells["access_type"] == "F"), place)
 
@@ -337,6 +349,13 @@ class World:
             found[package] = [Hit(row, grade, query, self) for row, grade in graded if grade and self.has(row, query)]
         return found
 
+    def dated(self, query, packages):
+        """Returns the rows that cover the date of a query and do not have its volume, in the order of their ranks."""
+        rows = [it for package in packages for it in self.lists[package] if not it.aside]
+        graded = [(it, dated_grade_of(it, query)) for it in rows]
+        found = [Hit(row, grade, query, self) for row, grade in graded if grade and self.has(row, query)]
+        return sorted(found, key=lambda it: it.rank(self))
+
 
 def name_of(package):
     return f"{package}_2024-01-01.txt"
@@ -355,7 +374,8 @@ class Request:
         for key, values, chance in (
                 ("url_ver", ["Z39.88-2004", "Z39.88-2004", ""], 0.3), ("rft.issn", ISSNS + ["x"], 0.8),
                 ("rft_val_fmt", formats, 0.2), ("rft.eissn", ISSNS, 0.2), ("rft.isbn", ISBNS, 0.4),
-                ("rft.jtitle", ["Acta"], 0.2), ("rft.date", dates, 0.7), ("rft.volume", ["3", "007", "12"], 0.3)):
+                ("rft.jtitle", ["Acta"], 0.2), ("rft.date", dates, 0.7), ("rft.volume", ["3", "007", "12"], 0.3),
+                ("rft.genre", ["article", "Journal", "book", "bookitem", ""], 0.4)):
             if dice.random() < chance:
                 self.pairs.append((key, pick(values)))
         dice.shuffle(self.pairs)
@@ -414,10 +434,10 @@ class Request:
             best = next((it for it in ranked if it.is_link), None)
             if best:
                 return 302, best.link, None
-            return 404, None, self.body(found, ranked)
+            return 404, None, self.body(found, ranked, self.world.dated(query, packages))
         if self.format == "html" and self.world.redirects and self.is_sole(ranked, query):
             return 302, ranked[0].link, None
-        return 200, None, self.body(found, ranked)
+        return 200, None, self.body(found, ranked, self.world.dated(query, packages))
 
     def wanted_titles(self):
         """Returns the same for the titles that contain a text. No list here is long enough for a limit of a reply."""
@@ -442,8 +462,8 @@ class Request:
                 and hit.row.cells["coverage_depth"] == "fulltext" and query.days is not None
                 and lies_in(query.days, self.world.library_days(hit.row)))
 
-    def body(self, found, ranked):
-        """Returns the text, the hits of JSON, or of a page the heading and the cards."""
+    def body(self, found, ranked, dated):
+        """Returns the text, or the hits of JSON or the links of a page and those of the rows whose date is covered."""
         if self.format == "text":
             lines = []
             for package, hits in found.items():
@@ -454,8 +474,8 @@ class Request:
                     lines.append("\t".join([str(it.row.number), it.grade, *cells]))
             return "".join(f"{it}\n" for it in lines)
         if self.format == "json":
-            return [json_of(it) for it in ranked]
-        return [it.link for it in ranked if it.is_link]
+            return [json_of(it) for it in ranked], [json_of(it) | {"why": "volume"} for it in dated]
+        return [it.link for it in ranked if it.is_link], [it.link for it in dated if it.is_link], not ranked
 
 
 def json_of(hit):
@@ -521,12 +541,16 @@ def differences(request, line):
             found = [it.split("\t")[:3] for it in bytes_given.decode().splitlines()]
         return None if found == body else f"titles {found} in place of {body}"
     if request.format == "json":
-        hits = [{key: it[key] for key in body[0]} if body else it for it in json.loads(bytes_given)["hits"]]
-        return None if hits == body else f"hits {hits} in place of {body}"
+        answer = json.loads(bytes_given)
+        found = tuple([{key: it[key] for key in rows[0]} if rows else it for it in given]
+                      for rows, given in zip(body, (answer["hits"], answer["also"])))
+        return None if found == body else f"hits {found} in place of {body}"
     if request.format == "html":
-        found = Links(bytes_given.decode()).found
-        # Without hits for the date, a page shows those of other dates, which have no place in this model.
-        return None if found == body or not body else f"links {found} in place of {body}"
+        found, (hits, dated, is_none) = Links(bytes_given.decode()).found, body
+        # Without hits for the date, a page then shows those of other dates, which have no place in this model.
+        wanted = hits + dated
+        shown = found[:len(wanted)] if is_none else found
+        return None if shown == wanted else f"links {found} in place of {body}"
     text = bytes_given.decode()
     return None if text == body else f"{text!r} in place of {body!r}"
 

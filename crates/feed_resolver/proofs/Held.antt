@@ -6,8 +6,8 @@ use Rattle.std.proofs.lemmas.List.Elements.{Contains-append_left, Contains-appen
 use Rattle.std.proofs.lemmas.Bool.{false≢true}
 use Rattle.std.proofs.lemmas.Option.{get_or_from_slice_get, slice_get_within}
 use Rattle.feed_answer.specs.Answers.{answer_of}
-use Rattle.feed_answer.specs.QueryValue.{QueryValue}
-use Rattle.feed_resolver_hits.specs.Hits.{ReleaseHitValue, best_link, held_hits, is_held, link_text, release_hit}
+use Rattle.feed_resolver_hits.specs.Searches.{SearchValue, compared}
+use Rattle.feed_resolver_hits.specs.Hits.{ReleaseHitValue, best_link, held_hits, is_found, link_text, release_hit}
 use Rattle.feed_resolver_hits.specs.Ranks.{IsBestLink}
 use Rattle.feed_resolver_hits.specs.Tallies.{count_limit, counted}
 use Rattle.feed_resolver_hits.proofs.BestLinks.{best_is}
@@ -96,38 +96,38 @@ take_has {X} (suc n) (w ∷ xs) x has = by (take_has n xs x) (first_or_later w (
 
 -- ---- hits
 
-held_from : (query : QueryValue) (actives : Sited) (found : ReleaseHitValue) → Contains (hits_among query actives) found → IsHeldHit query actives found
-held_from query actives found has =
-    let from = flat_has (release_hits actives.library actives.today query) actives.actives found has in
+held_from : (search : SearchValue) (actives : Sited) (found : ReleaseHitValue) → Contains (hits_among search actives) found → IsHeldHit search actives found
+held_from search actives found has =
+    let from = flat_has (release_hits actives.library actives.today search) actives.actives found has in
     let name = from.0.name in
-    let answer = answer_of from.0.holdings query in
-    let hit = map_has (release_hit actives.library actives.today query name) (held_hits actives.library query name answer) found from.2 in
-    let kept = filter_has (is_held actives.library query name) answer hit.0 hit.1 in
+    let answer = answer_of from.0.holdings (compared search) in
+    let hit = map_has (release_hit actives.library actives.today search name) (held_hits actives.library search name answer) found from.2 in
+    let kept = filter_has (is_found actives.library search name) answer hit.0 hit.1 in
     record { active = from.0; hit = hit.0; is_active = from.1; answers = kept.0; held = kept.1; shown = hit.2 }
 
-held_gives : (query : QueryValue) (actives : Sited) (found : ReleaseHitValue) → IsHeldHit query actives found → Contains (hits_among query actives) found
-held_gives query actives found is =
+held_gives : (search : SearchValue) (actives : Sited) (found : ReleaseHitValue) → IsHeldHit search actives found → Contains (hits_among search actives) found
+held_gives search actives found is =
     let name = is.active.name in
-    let answer = answer_of is.active.holdings query in
-    let kept = filter_gives (is_held actives.library query name) answer is.hit is.answers is.held in
-    let own = map_gives (release_hit actives.library actives.today query name) (held_hits actives.library query name answer) is.hit kept in
-    subst (λ (f : ReleaseHitValue). Contains (hits_among query actives) f) (sym is.shown)
-    (flat_gives (release_hits actives.library actives.today query) actives.actives is.active (release_hit actives.library actives.today query name is.hit) is.is_active own)
+    let answer = answer_of is.active.holdings (compared search) in
+    let kept = filter_gives (is_found actives.library search name) answer is.hit is.answers is.held in
+    let own = map_gives (release_hit actives.library actives.today search name) (held_hits actives.library search name answer) is.hit kept in
+    subst (λ (f : ReleaseHitValue). Contains (hits_among search actives) f) (sym is.shown)
+    (flat_gives (release_hits actives.library actives.today search) actives.actives is.active (release_hit actives.library actives.today search name is.hit) is.is_active own)
 
 pub hits_are : HitsAreHeld
-hits_are query actives found = (held_from query actives found, held_gives query actives found)
+hits_are search actives found = (held_from search actives found, held_gives search actives found)
 
 place_has : {X : Type 0} → (xs : List X) (place : ℕ) (x : X) → slice_get xs place ≡ Some x → Contains xs x
 place_has {X} xs place x at =
     subst (λ (y : X). Contains xs y) (get_or_from_slice_get xs place x x at) (Contains-get_or xs place x (slice_get_within xs place x at))
 
-link_from : (query : QueryValue) (actives : Sited) (url : List ℕ) (best : Option (List ℕ)) → best ≡ Some url → IsBestLink (counted (hits_among query actives)) best
-    → (found : ReleaseHitValue) × IsHeldHit query actives found × (url ≡ link_text found)
-link_from query actives url None at is = absurd (cc)
-link_from query actives url (Some text) at is =
+link_from : (search : SearchValue) (actives : Sited) (url : List ℕ) (best : Option (List ℕ)) → best ≡ Some url → IsBestLink (counted (hits_among search actives)) best
+    → (found : ReleaseHitValue) × IsHeldHit search actives found × (url ≡ link_text found)
+link_from search actives url None at is = absurd (cc)
+link_from search actives url (Some text) at is =
     let same : text ≡ url = cc in
-    let hits = hits_among query actives in
-    (is.1, held_from query actives is.1 (take_has count_limit hits is.1 (place_has (counted hits) is.0 is.1 is.2.at)), sym same ∙ is.3)
+    let hits = hits_among search actives in
+    (is.1, held_from search actives is.1 (take_has count_limit hits is.1 (place_has (counted hits) is.0 is.1 is.2.at)), sym same ∙ is.3)
 
 pub links_are : LinksAreHeld
-links_are query actives url at = link_from query actives url (best_link (counted (hits_among query actives))) at (best_is (counted (hits_among query actives)))
+links_are search actives url at = link_from search actives url (best_link (counted (hits_among search actives))) at (best_is (counted (hits_among search actives)))

@@ -8,7 +8,7 @@ use Rattle.std.proofs.lemmas.List.Elements.{All-nil, All-weaker}
 use Rattle.std.proofs.lemmas.List.Sums.{AllPass-from_list_all}
 use Rattle.httparse.specs.Grammar.{RequestHead, is_uri_byte}
 use Rattle.feed_http_heads.specs.Requests.{lacks_host, is_get, is_head}
-use Rattle.feed_answer.specs.QueryValue.{QueryValue}
+use Rattle.feed_resolver_hits.specs.Searches.{SearchValue}
 use Rattle.feed_openurl.specs.declared.fault.Refusal.{Refusal}
 use Rattle.feed_resolver_request.specs.Representations.{accepted_representation, representation_of}
 use Rattle.feed_resolver_request.specs.Targets.{resource_of, package_in, is_unsupported_method}
@@ -89,8 +89,8 @@ unasked_located site query code representation ask why =
     (if is_numberless why then read else refused) plain
     (either_located (is_numberless why) read refused plain plain)
 
-query_located : (actives : Sited) (code : Status) (representation : Representation) (text : List ℕ) (reply : QueryValue → ReplyValue) (o : Result QueryValue Refusal)
-    → ((query : QueryValue) → IsLocated (reply query)) → IsLocated (query_reply actives code representation text reply o)
+query_located : (actives : Sited) (code : Status) (representation : Representation) (text : List ℕ) (reply : SearchValue → ReplyValue) (o : Result SearchValue Refusal)
+    → ((query : SearchValue) → IsLocated (reply query)) → IsLocated (query_reply actives code representation text reply o)
 query_located actives code representation text reply (Ok query) located = located query
 query_located actives code representation text reply (Err why) located = unasked_located actives.library text code representation (ask_of text) why
 
@@ -99,7 +99,7 @@ sole_wanted : (wants : Bool) (link : Option (List ℕ)) (url : List ℕ) → (if
 sole_wanted true link url e = (refl, e)
 sole_wanted false link url e = absurd (cc)
 
-pub sole_hit : (representation : Representation) (actives : Sited) (query : QueryValue) (url : List ℕ) → sole_redirect representation actives query ≡ Some url
+pub sole_hit : (representation : Representation) (actives : Sited) (query : SearchValue) (url : List ℕ) → sole_redirect representation actives query ≡ Some url
     → (representation ≡ Html) × (actives.library.redirects_sole_hit ≡ true) × IsSoleHit (hits_among query actives) url
 sole_hit Text actives query url e = absurd (cc)
 sole_hit Json actives query url e = absurd (cc)
@@ -123,7 +123,7 @@ package_located : (representation : Representation) (text : List ℕ) (actives :
 package_located representation text actives other None located = located
 package_located representation text actives other (Some place) located = resolve_located representation text _
 
-best_located : (representation : Representation) (text : List ℕ) (actives : Sited) (query : QueryValue) → IsLocated (redirect_reply representation text actives query)
+best_located : (representation : Representation) (text : List ℕ) (actives : Sited) (query : SearchValue) → IsLocated (redirect_reply representation text actives query)
 best_located representation text actives query =
     redirect_located (best_link (counted (hits_among query actives))) (hits_reply status.NotFound representation text actives query) (best_is (counted (hits_among query actives))) plain
 

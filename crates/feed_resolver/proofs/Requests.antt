@@ -11,7 +11,7 @@ use Rattle.httparse.specs.Grammar.{RequestHead, ResponseHead, is_uri_byte}
 use Rattle.feed_http_heads.specs.Fields.{values_named, only, has_any}
 use Rattle.feed_http_heads.specs.Requests.{lacks_host, is_get, is_head}
 use Rattle.feed_http_heads.specs.Targets.{origin_form}
-use Rattle.feed_answer.specs.QueryValue.{QueryValue}
+use Rattle.feed_resolver_hits.specs.Searches.{SearchValue}
 use Rattle.feed_openurl.specs.declared.fault.Refusal.{Refusal}
 use Rattle.feed_resolver_request.specs.FoundRequests.{BeginsWith}
 use Rattle.feed_resolver_request.specs.FetchRequests.{FetchPolicyValue, name_to_fetch, name_after_feed}
@@ -129,7 +129,7 @@ status_answered target actives is head =
     subst (λ r. IsGoodIn (representation_of (query_in target) head) (resource_reply r head (path_in target) (query_in target) actives)) (sym is) (refl, refl)
 
 -- a library that redirects no browser
-shown : (representation : Representation) (text : List ℕ) (actives : Sited) (query : QueryValue) → actives.library.redirects_sole_hit ≡ false
+shown : (representation : Representation) (text : List ℕ) (actives : Sited) (query : SearchValue) → actives.library.redirects_sole_hit ≡ false
     → IsGoodIn representation (found_reply representation text actives query)
 shown Text text actives query off = (refl, refl)
 shown Json text actives query off = (refl, refl)
@@ -137,24 +137,24 @@ shown Html text actives query off =
     let none : sole_redirect Html actives query ≡ None = ap (λ b. if b then sole_link (tally_among query actives) else None) off in
     subst (λ (o : Option (List ℕ)). IsGoodIn Html (option_map_or redirect_to o (hits_reply status.Good Html text actives query))) (sym none) (refl, refl)
 
-query_answered : (representation : Representation) (text : List ℕ) (actives : Sited) (o : Result QueryValue Refusal) (query : QueryValue)
+query_answered : (representation : Representation) (text : List ℕ) (actives : Sited) (o : Result SearchValue Refusal) (query : SearchValue)
     → actives.library.redirects_sole_hit ≡ false → o ≡ Ok query
     → IsGoodIn representation (query_reply actives status.Good representation text (found_reply representation text actives) o)
 query_answered representation text actives (Ok other) query off is = shown representation text actives other off
 query_answered representation text actives (Err why) query off is = absurd (cc)
 
-pub resolve_answered : (target : List ℕ) (actives : Sited) (query : QueryValue) → resource_of (path_in target) ≡ resource.Resolve
+pub resolve_answered : (target : List ℕ) (actives : Sited) (query : SearchValue) → resource_of (path_in target) ≡ resource.Resolve
     → actives.library.redirects_sole_hit ≡ false → asked_of (query_in target) ≡ Ok query → IsAnswered target actives
 resolve_answered target actives query is off valid head =
     subst (λ r. IsGoodIn (representation_of (query_in target) head) (resource_reply r head (path_in target) (query_in target) actives)) (sym is)
     (query_answered (representation_of (query_in target) head) (query_in target) actives (asked_of (query_in target)) query off valid)
 
-placed_answered : (representation : Representation) (text : List ℕ) (actives : Sited) (query : QueryValue) (o : Option ℕ) (other : ReplyValue) → is_some o ≡ true
+placed_answered : (representation : Representation) (text : List ℕ) (actives : Sited) (query : SearchValue) (o : Option ℕ) (other : ReplyValue) → is_some o ≡ true
     → actives.library.redirects_sole_hit ≡ false → asked_of text ≡ Ok query → IsGoodIn representation (option_map_or (resolve_reply_at representation text actives) o other)
 placed_answered representation text actives query (Some place) other some off valid = query_answered representation text _ (asked_of text) query off valid
 placed_answered representation text actives query None other some off valid = absurd (cc)
 
-pub package_answered : (target : List ℕ) (actives : Sited) (query : QueryValue) → resource_of (path_in target) ≡ resource.Package
+pub package_answered : (target : List ℕ) (actives : Sited) (query : SearchValue) → resource_of (path_in target) ≡ resource.Package
     → is_some (position (is_of (package_in (path_in target))) actives.actives) ≡ true → actives.library.redirects_sole_hit ≡ false → asked_of (query_in target) ≡ Ok query
     → IsAnswered target actives
 package_answered target actives query is some off valid head =
@@ -225,7 +225,7 @@ head_alone site keeps actives bytes asked body form head response reply is begin
 
 -- ---- /go
 
-go_replied : (head : RequestHead) (body : List ℕ) (query : QueryValue) (actives : Sited) → AsksToGo head query
+go_replied : (head : RequestHead) (body : List ℕ) (query : SearchValue) (actives : Sited) → AsksToGo head query
     → reply_to head body actives ≡ redirect_reply (accepted_representation head) (target_query head) actives query
 go_replied head body query actives asks =
     read_reply head body actives asks.method
@@ -279,7 +279,7 @@ redirect_of : (o : Option (List ℕ)) (other : ReplyValue) → other.status ≡ 
 redirect_of None other good found = absurd (cc)
 redirect_of (Some url) other good found = refl
 
-sole_redirected : (representation : Representation) (text : List ℕ) (actives : Sited) (o : Result QueryValue Refusal) (query : QueryValue) → o ≡ Ok query
+sole_redirected : (representation : Representation) (text : List ℕ) (actives : Sited) (o : Result SearchValue Refusal) (query : SearchValue) → o ≡ Ok query
     → (query_reply actives status.Good representation text (found_reply representation text actives) o).status ≡ status.Found
     → (representation ≡ Html) × (actives.library.redirects_sole_hit ≡ true)
     × IsSoleHit (hits_among query actives) (query_reply actives status.Good representation text (found_reply representation text actives) o).location

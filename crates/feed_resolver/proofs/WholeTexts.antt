@@ -9,7 +9,7 @@ use Rattle.feed_answer.specs.HitValue.{HitValue}
 use Rattle.feed_answer.specs.Answers.{answer_of, answer_text, hit_line}
 use Rattle.feed_embargo.specs.Today.{TodayValue}
 use Rattle.feed_site.specs.Site as site_file
-use Rattle.feed_answer.specs.QueryValue.{QueryValue}
+use Rattle.feed_resolver_hits.specs.Searches.{SearchValue, compared}
 use Rattle.feed_releases.specs.Actives.{ActiveValue}
 use Rattle.feed_resolver_hits.specs.Hits.{ReleaseHitValue, held_hits, release_hit}
 use Rattle.feed_resolver_hits.specs.HitsText.{release_hit_line, release_head_line, release_text}
@@ -75,14 +75,14 @@ whole_of hits few all =
     }
 
 -- the lines of a release
-lines_are : (site : site_file.SiteValue) (today : TodayValue) (query : QueryValue) (name : Name) (hits : List HitValue)
-    → flat_map release_hit_line (map (release_hit site today query name) hits) ≡ flat_map hit_line hits
-lines_are site today query name [] = refl
-lines_are site today query name (hit ∷ hits) = ap (λ t. hit_line hit ++ t) (lines_are site today query name hits)
+lines_are : (site : site_file.SiteValue) (today : TodayValue) (search : SearchValue) (name : Name) (hits : List HitValue)
+    → flat_map release_hit_line (map (release_hit site today search name) hits) ≡ flat_map hit_line hits
+lines_are site today search name [] = refl
+lines_are site today search name (hit ∷ hits) = ap (λ t. hit_line hit ++ t) (lines_are site today search name hits)
 
-length_map : (site : site_file.SiteValue) (today : TodayValue) (query : QueryValue) (name : Name) (hits : List HitValue) → length (map (release_hit site today query name) hits) ≡ length hits
-length_map site today query name [] = refl
-length_map site today query name (hit ∷ hits) = ap suc (length_map site today query name hits)
+length_map : (site : site_file.SiteValue) (today : TodayValue) (search : SearchValue) (name : Name) (hits : List HitValue) → length (map (release_hit site today search name) hits) ≡ length hits
+length_map site today search name [] = refl
+length_map site today search name (hit ∷ hits) = ap suc (length_map site today search name hits)
 
 drop_front : {A : Type 0} → (xs ys : List A) → drop (length xs) (xs ++ ys) ≡ ys
 drop_front {A} [] ys = refl
@@ -92,22 +92,22 @@ length_append : {A : Type 0} → (xs ys : List A) → length (xs ++ ys) - length
 length_append {A} [] ys = omega arith
 length_append {A} (x ∷ xs) ys = let less = length_append xs ys in omega (arith, less)
 
-release_is : (site : site_file.SiteValue) (today : TodayValue) (query : QueryValue) (earlier : List ReleaseHitValue) (name : Name) (hits : List HitValue)
-    → IsWhole earlier → IsWhole (earlier ++ map (release_hit site today query name) hits)
-    → release_text (tally_of earlier) (tally_of (earlier ++ map (release_hit site today query name) hits)) name ≡ answer_text (text_of name) hits
+release_is : (site : site_file.SiteValue) (today : TodayValue) (search : SearchValue) (earlier : List ReleaseHitValue) (name : Name) (hits : List HitValue)
+    → IsWhole earlier → IsWhole (earlier ++ map (release_hit site today search name) hits)
+    → release_text (tally_of earlier) (tally_of (earlier ++ map (release_hit site today search name) hits)) name ≡ answer_text (text_of name) hits
 unfolding release_text answer_text
-release_is site today query earlier name hits before after =
-    let own = map (release_hit site today query name) hits in
+release_is site today search earlier name hits before after =
+    let own = map (release_hit site today search name) hits in
     let head = text_of name in
     let lines = flat_map release_hit_line (drop (length (tally_of earlier).shown) (tally_of (earlier ++ own)).shown) in
     ap (λ b. release_head_line head (length (counted (earlier ++ own)) - length (counted earlier)) b ++ lines) after.test
     ∙ ap (λ l. release_head_line head (length l - length (counted earlier)) true ++ lines) after.counts
     ∙ ap (λ l. release_head_line head (length (earlier ++ own) - length l) true ++ lines) before.counts
-    ∙ ap (λ n. release_head_line head n true ++ lines) (length_append earlier own ∙ length_map site today query name hits)
+    ∙ ap (λ n. release_head_line head n true ++ lines) (length_append earlier own ∙ length_map site today search name hits)
     ∙ ap (λ l. release_head_line head (length hits) true ++ flat_map release_hit_line (drop (length l) (tally_of (earlier ++ own)).shown)) before.shows
     ∙ ap (λ l. release_head_line head (length hits) true ++ flat_map release_hit_line (drop (length earlier) l)) after.shows
     ∙ ap (λ l. release_head_line head (length hits) true ++ flat_map release_hit_line l) (drop_front earlier own)
-    ∙ ap (λ t. release_head_line head (length hits) true ++ t) (lines_are site today query name hits)
+    ∙ ap (λ t. release_head_line head (length hits) true ++ t) (lines_are site today search name hits)
 
 fewer : {A : Type 0} → (xs ys : List A) → length xs ≤ length (xs ++ ys)
 fewer {A} [] ys = omega arith
@@ -119,25 +119,25 @@ front_whole hits more few all =
     let less : length hits ≤ length (hits ++ more) = fewer hits more in
     whole_of hits (omega (arith, few, less)) (prefix_shown shown_limit text_limit hits more all)
 
-texts_whole : (site : site_file.SiteValue) (today : TodayValue) (query : QueryValue) (earlier : List ReleaseHitValue) (actives : List ActiveValue)
-    → length (earlier ++ hits_among query (sited_by site today actives)) ≤ count_limit
-    → AllShown shown_limit text_limit (earlier ++ hits_among query (sited_by site today actives)) → texts_behind site today query earlier actives ≡ flat_map (written_answer site query) actives
-texts_whole site today query earlier [] few all = refl
-texts_whole site today query earlier (active ∷ actives) few all =
-    let own = release_hits site today query active in
-    let rest = hits_among query (sited_by site today actives) in
+texts_whole : (site : site_file.SiteValue) (today : TodayValue) (search : SearchValue) (earlier : List ReleaseHitValue) (actives : List ActiveValue)
+    → length (earlier ++ hits_among search (sited_by site today actives)) ≤ count_limit
+    → AllShown shown_limit text_limit (earlier ++ hits_among search (sited_by site today actives)) → texts_behind site today search earlier actives ≡ flat_map (written_answer site search) actives
+texts_whole site today search earlier [] few all = refl
+texts_whole site today search earlier (active ∷ actives) few all =
+    let own = release_hits site today search active in
+    let rest = hits_among search (sited_by site today actives) in
     let joint : earlier ++ (own ++ rest) ≡ (earlier ++ own) ++ rest = sym (append_assoc earlier own rest) in
     let count : length ((earlier ++ own) ++ rest) ≤ count_limit = rw (← joint) few in
     let shown : AllShown shown_limit text_limit ((earlier ++ own) ++ rest) = rw (← joint) all in
-    ap (λ t. t ++ texts_behind site today query (earlier ++ own) actives)
-    (release_is site today query earlier active.name (held_hits site query active.name (answer_of active.holdings query)) (front_whole earlier (own ++ rest) few all)
+    ap (λ t. t ++ texts_behind site today search (earlier ++ own) actives)
+    (release_is site today search earlier active.name (held_hits site search active.name (answer_of active.holdings (compared search))) (front_whole earlier (own ++ rest) few all)
     (front_whole (earlier ++ own) rest count shown))
-    ∙ ap (λ t. written_answer site query active ++ t) (texts_whole site today query (earlier ++ own) actives count shown)
+    ∙ ap (λ t. written_answer site search active ++ t) (texts_whole site today search (earlier ++ own) actives count shown)
 
 pub whole_text : WholeTextIsWritten
 unfolding answers_body
-whole_text text query actives all =
-    let hits = hits_among query actives in
+whole_text text search actives all =
+    let hits = hits_among search actives in
     let few : length hits ≤ count_limit = all_counted count_limit shown_limit text_limit hits all in
     let same : counted hits ≡ hits = take_all count_limit hits few in
-    texts_whole actives.library actives.today query [] actives.actives few (ap (first_within shown_limit text_limit) (sym same) ∙ all)
+    texts_whole actives.library actives.today search [] actives.actives few (ap (first_within shown_limit text_limit) (sym same) ∙ all)

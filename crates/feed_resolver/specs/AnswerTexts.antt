@@ -2,15 +2,15 @@
 use Rattle.std.specs.Prelude.{ℕ, List, [], ◌∷◌, ◌++◌}
 use Rattle.feed_embargo.specs.Today.{TodayValue}
 use Rattle.feed_site.specs.Site as site_file
-use Rattle.feed_answer.specs.QueryValue.{QueryValue}
+use Rattle.feed_resolver_hits.specs.Searches.{SearchValue}
 use Rattle.feed_releases.specs.Actives.{ActiveValue}
 use Rattle.feed_resolver_hits.specs.HitsText.{release_text}
 use Rattle.feed_resolver_hits.specs.Tallying.{RunningValue, with_hits, tally_from}
 use Rattle.feed_resolver.specs.Answers.{release_hits}
 
 -- the answers of releases as text, behind those whose hits made this tally
-abbrev pub texts_from : site_file.SiteValue → TodayValue → QueryValue → RunningValue → List ActiveValue → List ℕ
-texts_from site today query running [] = []
-texts_from site today query running (active ∷ actives) =
-    release_text (tally_from running) (tally_from (with_hits running (release_hits site today query active))) active.name
-    ++ texts_from site today query (with_hits running (release_hits site today query active)) actives
+abbrev pub texts_from : site_file.SiteValue → TodayValue → SearchValue → RunningValue → List ActiveValue → List ℕ
+texts_from site today search running [] = []
+texts_from site today search running (active ∷ actives) =
+    release_text (tally_from running) (tally_from (with_hits running (release_hits site today search active))) active.name
+    ++ texts_from site today search (with_hits running (release_hits site today search active)) actives

@@ -12,7 +12,8 @@ use Rattle.feed_resolver_request.specs.declared.representation.Representation.Th
 use Rattle.feed_resolver_hits.specs.Hits.{ReleaseHitValue, library_hits}
 use Rattle.feed_resolver_hits.specs.AnswerJson.{answer_json}
 use Rattle.feed_resolver_hits.specs.Asks.{ask_of}
-use Rattle.feed_resolver_hits.specs.Searches.{whole_titles}
+use Rattle.feed_resolver_hits.specs.Searches.{SearchValue, compared, in_scope}
+use Rattle.feed_resolver_hits.specs.declared.search.Scope.TheVariants as scope
 use Rattle.feed_resolver_hits.specs.HitsText.{release_text}
 use Rattle.feed_resolver_hits.specs.Tallies.{TallyValue, tally_of}
 use Rattle.feed_resolver_page.specs.HitsPage.{hits_page}
@@ -50,44 +51,55 @@ pub record ContextValue : Type 0 where
 abbrev pub sited_in : ContextValue → Sited
 sited_in context = sited context.site context.actives
 
--- the hits of a query in a release that the library has
-abbrev pub release_hits : site_file.SiteValue → TodayValue → QueryValue → ActiveValue → List ReleaseHitValue
-release_hits site today query active = library_hits site today query active.name (answer_of active.holdings query)
+-- the hits of a search in a release that the library has
+abbrev pub release_hits : site_file.SiteValue → TodayValue → SearchValue → ActiveValue → List ReleaseHitValue
+release_hits site today search active = library_hits site today search active.name (answer_of active.holdings (compared search))
 
 -- the hits in all the releases, in their order
-abbrev pub hits_among : QueryValue → Sited → List ReleaseHitValue
-hits_among query actives = flat_map (release_hits actives.library actives.today query) actives.actives
+abbrev pub hits_among : SearchValue → Sited → List ReleaseHitValue
+hits_among search actives = flat_map (release_hits actives.library actives.today search) actives.actives
 
 -- the release belongs to the package
 abbrev pub is_of : List ℕ → ActiveValue → Bool
 is_of stem active = bytes_eq active.name.stem stem
 
 -- the tally of the hits in all the releases
-abbrev pub tally_among : QueryValue → Sited → TallyValue
-tally_among query actives = tally_of (hits_among query actives)
+abbrev pub tally_among : SearchValue → Sited → TallyValue
+tally_among search actives = tally_of (hits_among search actives)
 
 -- the answers of releases as text, behind releases with these hits: the limits are on the hits of all
-abbrev pub texts_behind : site_file.SiteValue → TodayValue → QueryValue → List ReleaseHitValue → List ActiveValue → List ℕ
-texts_behind site today query earlier [] = []
-texts_behind site today query earlier (active ∷ actives) =
-    release_text (tally_of earlier) (tally_of (earlier ++ release_hits site today query active)) active.name
-    ++ texts_behind site today query (earlier ++ release_hits site today query active) actives
+abbrev pub texts_behind : site_file.SiteValue → TodayValue → SearchValue → List ReleaseHitValue → List ActiveValue → List ℕ
+texts_behind site today search earlier [] = []
+texts_behind site today search earlier (active ∷ actives) =
+    release_text (tally_of earlier) (tally_of (earlier ++ release_hits site today search active)) active.name
+    ++ texts_behind site today search (earlier ++ release_hits site today search active) actives
 
--- the query names a date or a volume
+-- the query names a date and a volume, or one of them
+abbrev pub has_both : QueryValue → Bool
+has_both query = is_some query.days && is_some query.volume
+
 abbrev pub is_placed : QueryValue → Bool
 is_placed query = is_some query.days || is_some query.volume
 
--- the hits of the same titles for any date and volume, which a query that names a date or a volume has if it has no hits
--- of its own
-abbrev pub others_beside : ℕ → QueryValue → Sited → List ReleaseHitValue
-others_beside count query actives = if (count == 0) && is_placed query then hits_among (whole_titles query) actives else []
+-- the rows of the same titles whose days are covered and whose volumes are not, if the query names both
+abbrev pub also_beside : SearchValue → Sited → List ReleaseHitValue
+also_beside search actives = if has_both search.query then hits_among (in_scope scope.Dated search) actives else []
 
-abbrev pub others_among : QueryValue → Sited → TallyValue
-others_among query actives = tally_of (others_beside (tally_among query actives).count query actives)
+abbrev pub also_among : SearchValue → Sited → TallyValue
+also_among search actives = tally_of (also_beside search actives)
+
+-- the other rows of the same titles, for any date and volume, which a query that names a date or a volume has if it has no
+-- hits of its own
+abbrev pub others_beside : ℕ → SearchValue → Sited → List ReleaseHitValue
+others_beside count search actives =
+    if (count == 0) && is_placed search.query then hits_among (in_scope scope.Others search) actives else []
+
+abbrev pub others_among : SearchValue → Sited → TallyValue
+others_among search actives = tally_of (others_beside (tally_among search actives).count search actives)
 
 -- the body of an answer from these releases, for what this text asks; as text, an answer does not repeat the query
-unfoldable pub answers_body : Representation → List ℕ → QueryValue → Sited → List ℕ
-answers_body Text text query actives = texts_behind actives.library actives.today query [] actives.actives
-answers_body Json text query actives = answer_json (ask_of text) [] (tally_among query actives)
-answers_body Html text query actives =
-    hits_page actives.library text (ask_of text) (tally_among query actives) (others_among query actives)
+unfoldable pub answers_body : Representation → List ℕ → SearchValue → Sited → List ℕ
+answers_body Text text search actives = texts_behind actives.library actives.today search [] actives.actives
+answers_body Json text search actives = answer_json (ask_of text) [] (tally_among search actives) (also_among search actives)
+answers_body Html text search actives =
+    hits_page actives.library text (ask_of text) (tally_among search actives) (also_among search actives) (others_among search actives)

@@ -7,11 +7,11 @@ use Rattle.feed_embargo.specs.Today.{TodayValue}
 use Rattle.feed_names.specs.ReleaseName.{Name, text_of}
 use Rattle.feed_answer.specs.Answers.{answer_of, answer_text}
 use Rattle.feed_answer.specs.HitValue.{HitValue}
-use Rattle.feed_answer.specs.QueryValue.{QueryValue}
+use Rattle.feed_resolver_hits.specs.Searches.{SearchValue, compared}
 use Rattle.feed_model.specs.History.{History, IsFile}
 use Rattle.feed_releases.specs.Actives.{ActiveValue, ReportAlike}
 use Rattle.feed_resolver_request.specs.declared.representation.Representation.TheVariants.{Text, Json}
-use Rattle.feed_resolver_hits.specs.Hits.{ReleaseHitValue, held_hits, is_held, link_text, release_hit}
+use Rattle.feed_resolver_hits.specs.Hits.{ReleaseHitValue, held_hits, is_found, link_text, release_hit}
 use Rattle.feed_site.specs.Site as site_file
 use Rattle.feed_resolver_reply.specs.Replies.{ResponseValue}
 use Rattle.feed_resolver.specs.Answers.{Sited, hits_among, tally_among, answers_body}
@@ -49,32 +49,33 @@ SameReleasesSameNodeBytes =
 abbrev pub StatusIsJson : Type 0
 StatusIsJson = (site : site_file.SiteValue) (actives : List ActiveValue) → document (status_body site Json actives) ≡ Some (array (items_of (map active_value actives)))
 
--- a hit of the core in an active release, and what the library has of it
-pub record IsHeldHit (query : QueryValue) (actives : Sited) (found : ReleaseHitValue) : Type 0 where
+-- a hit of the core in an active release, for the query that rows are compared with, that is one of those that are searched
+-- for and that the library has
+pub record IsHeldHit (search : SearchValue) (actives : Sited) (found : ReleaseHitValue) : Type 0 where
   pub active : ActiveValue
   pub is_active : Contains actives.actives active
   pub hit : HitValue
-  pub answers : Contains (answer_of active.holdings query) hit
-  pub held : is_held actives.library query active.name hit ≡ true
-  pub shown : found ≡ release_hit actives.library actives.today query active.name hit
+  pub answers : Contains (answer_of active.holdings (compared search)) hit
+  pub held : is_found actives.library search active.name hit ≡ true
+  pub shown : found ≡ release_hit actives.library actives.today search active.name hit
 
 -- a reply counts exactly the hits of the core that the library has
 abbrev pub HitsAreHeld : Type 0
-HitsAreHeld = (query : QueryValue) (actives : Sited) (found : ReleaseHitValue)
-    → Contains (hits_among query actives) found ↔ IsHeldHit query actives found
+HitsAreHeld = (search : SearchValue) (actives : Sited) (found : ReleaseHitValue)
+    → Contains (hits_among search actives) found ↔ IsHeldHit search actives found
 
 -- a link is that of such a hit
 abbrev pub LinksAreHeld : Type 0
-LinksAreHeld = (query : QueryValue) (actives : Sited) (url : List ℕ) → (tally_among query actives).best ≡ Some url
-    → (found : ReleaseHitValue) × IsHeldHit query actives found × (url ≡ link_text found)
+LinksAreHeld = (search : SearchValue) (actives : Sited) (url : List ℕ) → (tally_among search actives).best ≡ Some url
+    → (found : ReleaseHitValue) × IsHeldHit search actives found × (url ≡ link_text found)
 
 -- the answer of a release, as `Answer::write` prints it, without the hits that the library does not have
-abbrev pub written_answer : site_file.SiteValue → QueryValue → ActiveValue → List ℕ
-written_answer site query active =
-    answer_text (text_of active.name) (held_hits site query active.name (answer_of active.holdings query))
+abbrev pub written_answer : site_file.SiteValue → SearchValue → ActiveValue → List ℕ
+written_answer site search active =
+    answer_text (text_of active.name) (held_hits site search active.name (answer_of active.holdings (compared search)))
 
 -- a reply that shows all hits has, as text, the answers that `Answer::write` prints, of the hits that the library has
 abbrev pub WholeTextIsWritten : Type 0
 WholeTextIsWritten =
-    (text : List ℕ) (query : QueryValue) (actives : Sited) → (tally_among query actives).shown ≡ hits_among query actives
-    → answers_body Text text query actives ≡ flat_map (written_answer actives.library query) actives.actives
+    (text : List ℕ) (search : SearchValue) (actives : Sited) → (tally_among search actives).shown ≡ hits_among search actives
+    → answers_body Text text search actives ≡ flat_map (written_answer actives.library search) actives.actives

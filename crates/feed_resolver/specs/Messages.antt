@@ -4,7 +4,7 @@ use Rattle.httparse.specs.Grammar.{RequestHead, ResponseHead}
 use Rattle.feed_http_heads.specs.Fields.{values_named}
 use Rattle.feed_http_heads.specs.Requests.{lacks_host, is_get, is_head}
 use Rattle.feed_http_heads.specs.Targets.{origin_form}
-use Rattle.feed_answer.specs.QueryValue.{QueryValue}
+use Rattle.feed_resolver_hits.specs.Searches.{SearchValue}
 use Rattle.feed_resolver_request.specs.FoundRequests.{BeginsWith, HasNoHead}
 use Rattle.feed_resolver_request.specs.Targets.{resource_of, path_in, query_in}
 use Rattle.feed_resolver_request.specs.declared.representation.Representation.{Representation}
@@ -55,13 +55,13 @@ HeadIsHeadOfGet =
     → reply.body_length < 2 ^ 64 → site.max_age < 2 ^ 64
     → IsHeadAlone response reply
 
--- the request is one of `/go` with this query
-pub record AsksToGo (head : RequestHead) (query : QueryValue) : Type 0 where
+-- the request is one of `/go` with a query that asks for this search
+pub record AsksToGo (head : RequestHead) (search : SearchValue) : Type 0 where
   pub host : lacks_host head ≡ false
   pub method : (is_get head || is_head head) ≡ true
   pub body : has_coded_body head ≡ false
   pub resource : resource_of (path_in (origin_form head.target)) ≡ Go
-  pub asked : asked_of (query_in (origin_form head.target)) ≡ Ok query
+  pub asked : asked_of (query_in (origin_form head.target)) ≡ Ok search
 
 -- the response is a redirect to this URL, or there is none to go to
 abbrev pub GoesTo : Option (List ℕ) → ResponseValue → Type 0
@@ -72,18 +72,18 @@ GoesTo (Some url) response =
 -- `/go` redirects to a hit above which no hit ranks, of those that are counted, that may be linked to
 abbrev pub GoesToBest : Type 0
 GoesToBest =
-    (site : SiteValue) (keeps : Bool) (actives : Dated) (bytes body : List ℕ) (head : RequestHead) (query : QueryValue) (response : ResponseValue)
-    → BeginsWith bytes head → AsksToGo head query → IsResponse site bytes body keeps actives response
-    → (best : Option (List ℕ)) × IsBestLink (counted (hits_among query (sited site actives))) best × GoesTo best response
+    (site : SiteValue) (keeps : Bool) (actives : Dated) (bytes body : List ℕ) (head : RequestHead) (search : SearchValue) (response : ResponseValue)
+    → BeginsWith bytes head → AsksToGo head search → IsResponse site bytes body keeps actives response
+    → (best : Option (List ℕ)) × IsBestLink (counted (hits_among search (sited site actives))) best × GoesTo best response
 
 -- `/resolve` redirects only a browser, only if the library wants it, and to the link of the only hit: one that is available,
 -- covers the whole of what is asked for, in full text, and the library has all those days
 abbrev pub RedirectsSoleHit : Type 0
 RedirectsSoleHit =
-    (representation : Representation) (text : List ℕ) (query : QueryValue) (actives : Sited)
-    → asked_of text ≡ Ok query → (resolve_reply representation text actives).status ≡ status.Found
+    (representation : Representation) (text : List ℕ) (search : SearchValue) (actives : Sited)
+    → asked_of text ≡ Ok search → (resolve_reply representation text actives).status ≡ status.Found
     → (representation ≡ Html) × (actives.library.redirects_sole_hit ≡ true)
-    × IsSoleHit (hits_among query actives) (resolve_reply representation text actives).location
+    × IsSoleHit (hits_among search actives) (resolve_reply representation text actives).location
 
 -- a GET that asks what a form asks: the same fields and path, and the form as its query
 pub record IsGetOfForm (post get : RequestHead) (body : List ℕ) : Type 0 where

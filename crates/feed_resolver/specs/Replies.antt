@@ -5,7 +5,7 @@ use Rattle.httparse.specs.Grammar.{RequestHead}
 use Rattle.feed_http_heads.specs.Fields.{values_named, has_any}
 use Rattle.feed_http_heads.specs.Targets.{origin_form}
 use Rattle.feed_http_heads.specs.Requests.{lacks_host, is_get, is_head}
-use Rattle.feed_answer.specs.QueryValue.{QueryValue}
+use Rattle.feed_resolver_hits.specs.Searches.{SearchValue}
 use Rattle.feed_openurl.specs.declared.fault.Refusal.{Refusal}
 use Rattle.feed_embargo.specs.Today.{TodayValue}
 use Rattle.feed_model.specs.History.{History}
@@ -36,26 +36,26 @@ use Rattle.feed_resolver.specs.Status.{status_body, home_page}
 use Rattle.feed_resolver.specs.Validators.{final_reply, tag_to}
 
 -- the reply to what a query asks for, or the one that says why nothing is looked up
-abbrev pub query_reply : Sited → Status → Representation → List ℕ → (QueryValue → ReplyValue) → Result QueryValue Refusal → ReplyValue
-query_reply actives code representation text reply (Ok query) = reply query
+abbrev pub query_reply : Sited → Status → Representation → List ℕ → (SearchValue → ReplyValue) → Result SearchValue Refusal → ReplyValue
+query_reply actives code representation text reply (Ok search) = reply search
 query_reply actives code representation text reply (Err reason) =
     unasked_reply actives.library text code representation (ask_of text) reason
 
 -- the hits in the given releases
-abbrev pub hits_reply : Status → Representation → List ℕ → Sited → QueryValue → ReplyValue
-hits_reply code representation text actives query = reply_with code representation (answers_body representation text query actives)
+abbrev pub hits_reply : Status → Representation → List ℕ → Sited → SearchValue → ReplyValue
+hits_reply code representation text actives search = reply_with code representation (answers_body representation text search actives)
 
 -- the link that a browser is redirected to: that of the sole hit, if the library wants it
-abbrev pub sole_redirect : Representation → Sited → QueryValue → Option (List ℕ)
-sole_redirect Text actives query = None
-sole_redirect Json actives query = None
-sole_redirect Html actives query =
-    if actives.library.redirects_sole_hit then sole_link (tally_among query actives) else None
+abbrev pub sole_redirect : Representation → Sited → SearchValue → Option (List ℕ)
+sole_redirect Text actives search = None
+sole_redirect Json actives search = None
+sole_redirect Html actives search =
+    if actives.library.redirects_sole_hit then sole_link (tally_among search actives) else None
 
 -- a redirect to the sole hit, or the hits
-abbrev pub found_reply : Representation → List ℕ → Sited → QueryValue → ReplyValue
-found_reply representation text actives query = option_map_or redirect_to
-    (sole_redirect representation actives query) (hits_reply status.Good representation text actives query)
+abbrev pub found_reply : Representation → List ℕ → Sited → SearchValue → ReplyValue
+found_reply representation text actives search = option_map_or redirect_to
+    (sole_redirect representation actives search) (hits_reply status.Good representation text actives search)
 
 -- the answer of all packages, by package
 abbrev pub resolve_reply : Representation → List ℕ → Sited → ReplyValue
@@ -73,9 +73,9 @@ package_reply representation stem text actives = option_map_or (resolve_reply_at
     (error_reply actives.library text status.NotFound representation advice.NoList (codes "NoRelease"))
 
 -- a redirect to the best of the counted hits, or the answer if none has a link
-abbrev pub redirect_reply : Representation → List ℕ → Sited → QueryValue → ReplyValue
-redirect_reply representation text actives query = option_map_or redirect_to
-    (tally_among query actives).best (hits_reply status.NotFound representation text actives query)
+abbrev pub redirect_reply : Representation → List ℕ → Sited → SearchValue → ReplyValue
+redirect_reply representation text actives search = option_map_or redirect_to
+    (tally_among search actives).best (hits_reply status.NotFound representation text actives search)
 
 -- the same for what a text asks
 abbrev pub go_reply : Representation → List ℕ → Sited → ReplyValue

@@ -3,15 +3,15 @@ ghost use Rattle.std.specs.Prelude.{◌≡◌, ◌++◌, [], IfOk, OnOk};
 ghost use Rattle.feed_resolver_hits.specs.Tallying.{no_hits, with_hits};
 ghost use Rattle.feed_resolver_hits.specs.AnswerJson.{answer_json};
 ghost use Rattle.feed_resolver_page.specs.HitsPage.{hits_page};
-ghost use Rattle.feed_resolver.specs.Answers.{answers_body, hits_among, is_placed, others_among};
-ghost use Rattle.feed_resolver.specs.Answers.{others_beside, tally_among};
+ghost use Rattle.feed_resolver.specs.Answers.{also_among, also_beside, answers_body, has_both, hits_among};
+ghost use Rattle.feed_resolver.specs.Answers.{is_placed, others_among, others_beside, tally_among};
 ghost use Rattle.feed_resolver.specs.Answers.{release_hits, sited_in};
 ghost use Rattle.feed_resolver.specs.AnswerTexts.{texts_from};
 
 use crate::context::Context;
 use feed_answer::Query;
 use feed_releases::ActiveRelease;
-use feed_resolver_hits::{Ask, Search, Tally, put_answer_json, put_release};
+use feed_resolver_hits::{Ask, Lookup, Search, Tally, put_answer_json, put_release};
 use feed_resolver_page::put_hits_page;
 use feed_resolver_request::Representation;
 use std::alloc::{AllocError, Global};
@@ -51,12 +51,18 @@ fn tally_by<'a>(
 pub(crate) fn tally_among<'a>(
     alloc: Global,
     context: &Context<'a>,
-    query: &Query,
+    lookup: &Lookup,
 ) -> Result<Tally<'a>, AllocError>
     ensures { IfOk result (λ tally. tally
-        ≡ with_hits no_hits (hits_among query.now (sited_in context.now))) }
+        ≡ with_hits no_hits (hits_among lookup.now (sited_in context.now))) }
 {
-    tally_by(alloc, context, &Search::of(query))
+    tally_by(alloc, context, &Search::of(lookup))
+}
+
+fn has_both(query: &Query) -> bool
+    ensures { result ≡ has_both query.now }
+{
+    query.days().is_some() && query.volume().is_some()
 }
 
 fn is_placed(query: &Query) -> bool
@@ -65,19 +71,36 @@ fn is_placed(query: &Query) -> bool
     query.days().is_some() || query.volume().is_some()
 }
 
-// Returns the tally of the hits of the same titles, whatever the date and the volume are, if the query names one of
-// these and has no hits itself.
+// Returns the tally of the rows of the same titles whose days are covered and whose volumes are not, if the query names
+// both.
+fn also_beside<'a>(
+    alloc: Global,
+    context: &Context<'a>,
+    lookup: &Lookup,
+) -> Result<Tally<'a>, AllocError>
+    ensures { IfOk result (λ tally. tally
+        ≡ with_hits no_hits (also_beside lookup.now (sited_in context.now))) }
+{
+    if has_both(lookup.query()) {
+        tally_by(alloc, context, &Search::dated(lookup))
+    } else {
+        Ok(Tally::new(alloc))
+    }
+}
+
+// Returns the tally of the other rows of the same titles, whatever the date and the volume are, if the query names one
+// of these and has no hits itself.
 fn others_beside<'a>(
     alloc: Global,
     context: &Context<'a>,
-    query: &Query,
+    lookup: &Lookup,
     count: usize,
 ) -> Result<Tally<'a>, AllocError>
     ensures { IfOk result (λ tally. tally
-        ≡ with_hits no_hits (others_beside count query.now (sited_in context.now))) }
+        ≡ with_hits no_hits (others_beside count lookup.now (sited_in context.now))) }
 {
-    if count == 0 && is_placed(query) {
-        tally_by(alloc, context, &Search::of_titles(query))
+    if count == 0 && is_placed(lookup.query()) {
+        tally_by(alloc, context, &Search::others(lookup))
     } else {
         Ok(Tally::new(alloc))
     }
@@ -87,11 +110,11 @@ fn put_texts(
     alloc: Global,
     out: &mut Vec<u8>,
     context: &Context<'_>,
-    query: &Query,
+    lookup: &Lookup,
 ) -> Result<(), AllocError>
     ensures { OnOk result (out.new.items
         ≡ out.old.items
-        ++ texts_from context.now.site.library context.now.actives.today query.now no_hits
+        ++ texts_from context.now.site.library context.now.actives.today lookup.now no_hits
         context.now.actives.actives) }
 {
     let mut tally = Tally::new(alloc);
@@ -104,43 +127,56 @@ fn put_texts(
             context.today,
             active.name(),
             active.holdings(),
-            query,
+            lookup,
         )?;
     }
     Ok(())
 }
 
-// Writes the facts about a query, and its hits of highest rank, as JSON.
+// Writes the facts about a query, its hits of highest rank, and the titles whose date is covered, as JSON.
 fn put_json(
     alloc: Global,
     out: &mut Vec<u8>,
     ask: &Ask,
     context: &Context<'_>,
-    query: &Query,
+    lookup: &Lookup,
 ) -> Result<(), AllocError>
     ensures { OnOk result (out.new.items
-        ≡ out.old.items ++ answer_json ask.now [] (tally_among query.now (sited_in context.now))) }
+        ≡ out.old.items ++ answer_json ask.now [] (tally_among lookup.now (sited_in context.now))
+        (also_among lookup.now (sited_in context.now))) }
 {
-    let tally = tally_among(alloc, context, query)?;
-    put_answer_json(out, ask, b"", &tally)
+    let tally = tally_among(alloc, context, lookup)?;
+    let also = also_beside(alloc, context, lookup)?;
+    put_answer_json(out, ask, b"", &tally, &also)
 }
 
-// Writes the same as a page. Without a hit, the page shows the hits of the same titles.
+// Writes the same as a page. Without a hit, the page shows the other rows of the same titles too.
 fn put_page(
     alloc: Global,
     out: &mut Vec<u8>,
     text: &[u8],
     ask: &Ask,
     context: &Context<'_>,
-    query: &Query,
+    lookup: &Lookup,
 ) -> Result<(), AllocError>
     ensures { OnOk result (out.new.items
         ≡ out.old.items ++ hits_page context.now.site.library text.now ask.now
-        (tally_among query.now (sited_in context.now)) (others_among query.now (sited_in context.now))) }
+        (tally_among lookup.now (sited_in context.now)) (also_among lookup.now (sited_in context.now))
+        (others_among lookup.now (sited_in context.now))) }
 {
-    let tally = tally_among(alloc, context, query)?;
-    let others = others_beside(alloc, context, query, tally.count())?;
-    put_hits_page(alloc, out, context.library(), text, ask, &tally, &others)
+    let tally = tally_among(alloc, context, lookup)?;
+    let also = also_beside(alloc, context, lookup)?;
+    let others = others_beside(alloc, context, lookup, tally.count())?;
+    put_hits_page(
+        alloc,
+        out,
+        context.library(),
+        text,
+        ask,
+        &tally,
+        &also,
+        &others,
+    )
 }
 
 /// Writes the answer of the given releases to a query, which is what the text asks for: its hits as text, or what it
@@ -152,20 +188,20 @@ pub(crate) fn put_answer(
     representation: Representation,
     text: &[u8],
     context: &Context<'_>,
-    query: &Query,
+    lookup: &Lookup,
 ) -> Result<(), AllocError>
     ensures { OnOk result (out.new.items
-        ≡ out.old.items ++ answers_body representation text.now query.now (sited_in context.now)) }
+        ≡ out.old.items ++ answers_body representation text.now lookup.now (sited_in context.now)) }
 {
     match representation {
-        Representation::Text => put_texts(alloc, out, context, query),
+        Representation::Text => put_texts(alloc, out, context, lookup),
         Representation::Json => {
             let ask = Ask::read(alloc, text)?;
-            put_json(alloc, out, &ask, context, query)
+            put_json(alloc, out, &ask, context, lookup)
         }
         Representation::Html => {
             let ask = Ask::read(alloc, text)?;
-            put_page(alloc, out, text, &ask, context, query)
+            put_page(alloc, out, text, &ask, context, lookup)
         }
     }
 }

@@ -30,14 +30,13 @@ use crate::asked::Asked;
 use crate::context::Context;
 use crate::status::{put_home_page, put_status};
 use crate::validators::{preflight_status, tag_to, validated_reply};
-use feed_answer::Query;
 use feed_embargo::Today;
 use feed_http_heads::{FIELD_LIMIT, Request, origin_form};
 use feed_keep::Keep;
 use feed_openurl::Refusal;
 use feed_page_texts::Text;
 use feed_releases::{ActiveRelease, Feed};
-use feed_resolver_hits::{Ask, read_query};
+use feed_resolver_hits::{Ask, Lookup, read_query};
 use feed_resolver_page::error_reply;
 use feed_resolver_reply::{Reply, Response, Status, bad_head_response, refusal};
 use feed_resolver_request::{
@@ -55,10 +54,10 @@ fn hits_reply(
     status: Status,
     asked: &Asked<'_>,
     context: &Context<'_>,
-    query: &Query,
+    lookup: &Lookup,
 ) -> Result<Reply, AllocError>
     ensures { IfOk result (λ reply. reply
-        ≡ hits_reply status asked.now.representation asked.now.text (sited_in context.now) query.now) }
+        ≡ hits_reply status asked.now.representation asked.now.text (sited_in context.now) lookup.now) }
 {
     let mut body = Vec::new(alloc);
     put_answer(
@@ -67,7 +66,7 @@ fn hits_reply(
         asked.representation,
         asked.text,
         context,
-        query,
+        lookup,
     )?;
     Ok(Reply::new(status, asked.representation, body))
 }
@@ -99,12 +98,12 @@ fn copied(alloc: Global, link: Option<&[u8]>) -> Result<Option<Vec<u8>>, AllocEr
 fn sole_link(
     alloc: Global,
     context: &Context<'_>,
-    query: &Query,
+    lookup: &Lookup,
 ) -> Result<Option<Vec<u8>>, AllocError>
     ensures { IfOk result (λ link. option_map (λ text. text.items) link
-        ≡ sole_link (tally_among query.now (sited_in context.now))) }
+        ≡ sole_link (tally_among lookup.now (sited_in context.now))) }
 {
-    let tally = tally_among(alloc, context, query)?;
+    let tally = tally_among(alloc, context, lookup)?;
     copied(alloc, tally.sole_link())
 }
 
@@ -113,14 +112,14 @@ fn sole_redirect(
     alloc: Global,
     representation: Representation,
     context: &Context<'_>,
-    query: &Query,
+    lookup: &Lookup,
 ) -> Result<Option<Vec<u8>>, AllocError>
     ensures { IfOk result (λ link. option_map (λ text. text.items) link
-        ≡ sole_redirect representation (sited_in context.now) query.now) }
+        ≡ sole_redirect representation (sited_in context.now) lookup.now) }
 {
     match representation {
         Representation::Html if context.library().redirects_sole_hit() => {
-            sole_link(alloc, context, query)
+            sole_link(alloc, context, lookup)
         }
         _ => Ok(None),
     }
@@ -130,14 +129,14 @@ fn found_reply(
     alloc: Global,
     asked: &Asked<'_>,
     context: &Context<'_>,
-    query: &Query,
+    lookup: &Lookup,
 ) -> Result<Reply, AllocError>
     ensures { IfOk result (λ reply. reply
-        ≡ found_reply asked.now.representation asked.now.text (sited_in context.now) query.now) }
+        ≡ found_reply asked.now.representation asked.now.text (sited_in context.now) lookup.now) }
 {
-    match sole_redirect(alloc, asked.representation, context, query)? {
+    match sole_redirect(alloc, asked.representation, context, lookup)? {
         Some(link) => Ok(Reply::redirect(alloc, link)),
-        None => hits_reply(alloc, Status::Good, asked, context, query),
+        None => hits_reply(alloc, Status::Good, asked, context, lookup),
     }
 }
 
@@ -150,7 +149,7 @@ fn resolve_reply(
         ≡ resolve_reply asked.now.representation asked.now.text (sited_in context.now)) }
 {
     match read_query(alloc, asked.text)? {
-        Ok(query) => found_reply(alloc, asked, context, &query),
+        Ok(lookup) => found_reply(alloc, asked, context, &lookup),
         Err(reason) => unasked_reply(alloc, Status::Good, asked, context.library(), reason),
     }
 }
@@ -189,12 +188,12 @@ fn package_reply(
 fn best_link(
     alloc: Global,
     context: &Context<'_>,
-    query: &Query,
+    lookup: &Lookup,
 ) -> Result<Option<Vec<u8>>, AllocError>
     ensures { IfOk result (λ best. option_map (λ text. text.items) best
-        ≡ (tally_among query.now (sited_in context.now)).best) }
+        ≡ (tally_among lookup.now (sited_in context.now)).best) }
 {
-    let tally = tally_among(alloc, context, query)?;
+    let tally = tally_among(alloc, context, lookup)?;
     copied(alloc, tally.best_link())
 }
 
@@ -202,14 +201,14 @@ fn redirect_reply(
     alloc: Global,
     asked: &Asked<'_>,
     context: &Context<'_>,
-    query: &Query,
+    lookup: &Lookup,
 ) -> Result<Reply, AllocError>
     ensures { IfOk result (λ reply. reply
-        ≡ redirect_reply asked.now.representation asked.now.text (sited_in context.now) query.now) }
+        ≡ redirect_reply asked.now.representation asked.now.text (sited_in context.now) lookup.now) }
 {
-    match best_link(alloc, context, query)? {
+    match best_link(alloc, context, lookup)? {
         Some(link) => Ok(Reply::redirect(alloc, link)),
-        None => hits_reply(alloc, Status::NotFound, asked, context, query),
+        None => hits_reply(alloc, Status::NotFound, asked, context, lookup),
     }
 }
 
@@ -218,7 +217,7 @@ fn go_reply(alloc: Global, asked: &Asked<'_>, context: &Context<'_>) -> Result<R
         ≡ go_reply asked.now.representation asked.now.text (sited_in context.now)) }
 {
     match read_query(alloc, asked.text)? {
-        Ok(query) => redirect_reply(alloc, asked, context, &query),
+        Ok(lookup) => redirect_reply(alloc, asked, context, &lookup),
         Err(reason) => unasked_reply(alloc, Status::NotFound, asked, context.library(), reason),
     }
 }

@@ -4,7 +4,7 @@ ghost use Rattle.std.specs.Prelude.{◌≡◌, IfOk, true, false, Ok};
 ghost use Rattle.std.specs.List.{flat_map};
 ghost use Rattle.httparse.specs.Grammar.{RequestHead};
 ghost use Rattle.feed_http_heads.specs.Requests.{IsInBuffer, HasHead};
-ghost use Rattle.feed_answer.specs.QueryValue.{QueryValue};
+ghost use Rattle.feed_resolver_hits.specs.Searches.{SearchValue};
 ghost use Rattle.feed_resolver_hits.specs.Asked.{asked_of};
 ghost use Rattle.feed_resolver_tag.specs.Tags.{entity_tag, inputs_of};
 ghost use Rattle.feed_resolver.specs.Status.{active_line};
@@ -107,7 +107,7 @@ pub(crate) fn tag_to(
 }
 
 fn is_query(alloc: Global, text: &[u8]) -> Result<bool, AllocError>
-    ensures { IfOk result (λ is. is ≡ true → (query : QueryValue) × (asked_of text.now ≡ Ok query)) }
+    ensures { IfOk result (λ is. is ≡ true → (search : SearchValue) × (asked_of text.now ≡ Ok search)) }
 {
     match read_query(alloc, text)? {
         Ok(_) => Ok(true),
@@ -119,7 +119,7 @@ fn is_query(alloc: Global, text: &[u8]) -> Result<bool, AllocError>
 // sole hit has to count them first.
 fn shows_hits(alloc: Global, library: &SiteFile, text: &[u8]) -> Result<bool, AllocError>
     ensures { IfOk result (λ is. is ≡ true
-        → (library.now.redirects_sole_hit ≡ false) × ((query : QueryValue) × (asked_of text.now ≡ Ok query))) }
+        → (library.now.redirects_sole_hit ≡ false) × ((search : SearchValue) × (asked_of text.now ≡ Ok search))) }
 {
     if library.redirects_sole_hit() {
         return Ok(false);

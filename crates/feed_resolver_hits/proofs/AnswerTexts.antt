@@ -17,12 +17,12 @@ use Rattle.feed_resolver_reply.specs.JsonStrings.{json_string}
 use Rattle.feed_resolver_reply.specs.Pieces.{joined}
 use Rattle.feed_resolver_reply.proofs.JsonTexts.{Lexes, lexes_then, IsText, parsed}
 use Rattle.feed_resolver_hits.specs.Hits.{ReleaseHitValue}
-use Rattle.feed_resolver_hits.specs.HitsJson.{hits_json, item_values}
+use Rattle.feed_resolver_hits.specs.HitsJson.{also_json, also_value, hits_json, item_values, values_with}
 use Rattle.feed_resolver_hits.specs.Asks.{AskValue}
-use Rattle.feed_resolver_hits.specs.AnswerJson.{citation_front, citation_json, part_member, query_members, answer_start, answer_json, answer_value}
+use Rattle.feed_resolver_hits.specs.AnswerJson.{citation_front, citation_json, part_member, query_members, answer_start, answer_json, answer_value, also_member}
 use Rattle.feed_resolver_hits.specs.Laws.{AnswerIsJson}
 use Rattle.feed_resolver_hits.specs.Tallies.{TallyValue}
-use Rattle.feed_resolver_hits.proofs.HitTexts.{string_lexemes, with_string, hits_in, hits_flat}
+use Rattle.feed_resolver_hits.proofs.HitTexts.{string_lexemes, with_string, hits_in, hits_flat, also_in, also_shallow}
 
 article_key : Lexes (codes "{\"citation\":{\"article\":")
     (token Token.begin_object ∷ token (Token.string (codes "citation")) ∷ colon ∷ token Token.begin_object ∷ token (Token.string (codes "article")) ∷ colon ∷ [])
@@ -163,20 +163,40 @@ start_tokens ask refused ts =
     Token.begin_object ∷ Token.key (codes "citation") ∷ Token.begin_object ∷ part_tokens ask.citation PARTS
     (Token.end_object ∷ Token.key (codes "query") ∷ Token.string ask.query ∷ Token.key (codes "refused") ∷ Token.string refused ∷ Token.key (codes "hits") ∷ ts)
 
-started : (ask : AskValue) (refused : List ℕ) (tally : TallyValue) (ls : List Lexeme)
-    → punctuate fresh ls ≡ json_tokens (array (items_of (item_values tally))) ++ (Token.end_object ∷ [])
-    → punctuate fresh (start_lexemes ask refused ++ ls) ≡ json_tokens (answer_value ask refused tally)
-unfolding punctuate
-started ask refused tally ls rest = ap (start_tokens ask refused) rest
+-- the tokens of the end of an answer
+abbrev also_tokens : TallyValue → List Token
+also_tokens also = Token.key (codes "also") ∷ (json_tokens (array (items_of (values_with also_value also))) ++ (Token.end_object ∷ []))
 
-answer_tokens : (ask : AskValue) (refused : List ℕ) (tally : TallyValue) → IsText (hits_json tally) (array (items_of (item_values tally)))
-    → tokens (answer_json ask refused tally) ≡ json_tokens (answer_value ask refused tally)
-unfolding answer_json lex punctuate
-answer_tokens ask refused tally is =
-    ap (punctuate fresh) ((lexes_start ask refused).lexed (hits_json tally ++ codes "}\n"))
-    ∙ started ask refused tally (lex between (hits_json tally ++ codes "}\n")) (is fresh refl (codes "}\n"))
+started : (ask : AskValue) (refused : List ℕ) (tally also : TallyValue) (ls : List Lexeme)
+    → punctuate fresh ls ≡ json_tokens (array (items_of (item_values tally))) ++ also_tokens also
+    → punctuate fresh (start_lexemes ask refused ++ ls) ≡ json_tokens (answer_value ask refused tally also)
+unfolding punctuate
+started ask refused tally also ls rest = ap (start_tokens ask refused) rest
+
+also_key : Lexes (codes ",\"also\":") (comma ∷ token (Token.string (codes "also")) ∷ colon ∷ [])
+unfolding lex content
+also_key = record { lexed = λ rest. refl }
+
+-- the end of an answer, behind the hits
+ended : (also : TallyValue) → IsText (also_json also) (array (items_of (values_with also_value also)))
+    → punctuate after_value (lex between (also_member also)) ≡ also_tokens also
+unfolding also_member lex punctuate
+ended also is =
+    ap (punctuate after_value) (also_key.lexed (also_json also ++ codes "}\n"))
+    ∙ ap (λ ts. Token.key (codes "also") ∷ ts) (is fresh refl (codes "}\n"))
+
+answer_tokens : (ask : AskValue) (refused : List ℕ) (tally also : TallyValue) → IsText (hits_json tally) (array (items_of (item_values tally)))
+    → IsText (also_json also) (array (items_of (values_with also_value also)))
+    → tokens (answer_json ask refused tally also) ≡ json_tokens (answer_value ask refused tally also)
+unfolding answer_json
+answer_tokens ask refused tally also is ends =
+    ap (punctuate fresh) ((lexes_start ask refused).lexed (hits_json tally ++ also_member also))
+    ∙ started ask refused tally also (lex between (hits_json tally ++ also_member also))
+    (is fresh refl (also_member also) ∙ ap (λ ts. json_tokens (array (items_of (item_values tally))) ++ ts) (ended also ends))
 
 pub answer_read : AnswerIsJson
-answer_read ask refused tally small counts =
+answer_read ask refused tally also small counts few amount =
     let shallow : items_depth (items_of (item_values tally)) ≤ 1 = hits_flat tally in
-    parsed (answer_json ask refused tally) (answer_value ask refused tally) (answer_tokens ask refused tally (hits_in tally small counts)) (omega arith)
+    let flat : items_depth (items_of (values_with also_value also)) ≤ 1 = also_shallow also in
+    parsed (answer_json ask refused tally also) (answer_value ask refused tally also)
+    (answer_tokens ask refused tally also (hits_in tally small counts) (also_in also few amount)) (omega arith)

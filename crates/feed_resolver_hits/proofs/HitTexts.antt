@@ -27,6 +27,7 @@ use Rattle.feed_resolver_hits.specs.Coverages.{day_text, days_words, volume_text
 use Rattle.feed_site.specs.Hosts.{shown_host}
 use Rattle.feed_resolver_hits.specs.HitsJson.{days_members, row_members, target_members, volumes_members}
 use Rattle.feed_resolver_hits.specs.HitsJson.{more_start, more_object, more_items, hits_json, hit_value, more_value, item_values}
+use Rattle.feed_resolver_hits.specs.HitsJson.{also_json, also_value, list_json, values_with}
 use Rattle.feed_resolver_hits.specs.Laws.{HitsAreJson}
 
 -- a key, behind a comma, and a string
@@ -207,37 +208,67 @@ lexes_row row link = lexes_then (title_members row link) _ (title_lexemes row li
     (lexes_then (target_members row) _ (target_lexemes row) _ (lexes_target row)
     (lexes_then (days_members row) (volumes_members row) (days_lexemes row) (volumes_lexemes row) (lexes_days row) (lexes_volumes row)))
 
-abbrev access_lexemes : RowValue → List ℕ → List Lexeme
-access_lexemes row words =
+abbrev access_lexemes : RowValue → List ℕ → List Lexeme → List Lexeme
+access_lexemes row words ls =
     string_lexemes (codes "embargo") row.embargo (string_lexemes (codes "embargo_words") words
-    (string_lexemes (codes "access") row.access (token Token.end_object ∷ [])))
+    (string_lexemes (codes "access") row.access ls))
 
-lexes_access : (row : RowValue) (words : List ℕ) → Lexes (access_members row words) (access_lexemes row words)
+lexes_access : (row : RowValue) (words end : List ℕ) (ls : List Lexeme) → Lexes (end ++ []) ls → Lexes (access_members row words end) (access_lexemes row words ls)
 unfolding access_members
-lexes_access row words =
+lexes_access row words end ls last =
     with_string (codes ",\"embargo\":") row.embargo _ _ _ embargo_key
     (with_string (codes ",\"embargo_words\":") words _ _ _ words_key
-    (with_string (codes ",\"access\":") row.access _ _ _ access_key last_brace))
+    (with_string (codes ",\"access\":") row.access _ _ _ access_key last))
 
-abbrev hit_lexemes : ReleaseHitValue → List Lexeme
-hit_lexemes found =
+abbrev hit_lexemes : ReleaseHitValue → List Lexeme → List Lexeme
+hit_lexemes found ls =
     release_lexemes found.name
-    ++ (grade_lexemes found ++ (row_lexemes found.hit.row (link_text found) ++ access_lexemes found.hit.row (embargo_words found.hit.row.embargo)))
+    ++ (grade_lexemes found ++ (row_lexemes found.hit.row (link_text found) ++ access_lexemes found.hit.row (embargo_words found.hit.row.embargo) ls))
 
-lexes_hit : (found : ReleaseHitValue) → found.hit.row.number < 2 ^ 64 → Lexes (hit_object found) (hit_lexemes found)
+lexes_hit : (end : List ℕ) (ls : List Lexeme) (found : ReleaseHitValue) → Lexes (end ++ []) ls → found.hit.row.number < 2 ^ 64
+    → Lexes (hit_object end found) (hit_lexemes found ls)
 unfolding hit_object
-lexes_hit found small = lexes_then (release_members found.name) _ (release_lexemes found.name) _ (lexes_release found.name)
+lexes_hit end ls found last small = lexes_then (release_members found.name) _ (release_lexemes found.name) _ (lexes_release found.name)
     (lexes_then (grade_members found) _ (grade_lexemes found) _ (lexes_grade found small)
-    (lexes_then (row_members found.hit.row (link_text found)) (access_members found.hit.row (embargo_words found.hit.row.embargo)) (row_lexemes found.hit.row (link_text found))
-    (access_lexemes found.hit.row (embargo_words found.hit.row.embargo)) (lexes_row found.hit.row (link_text found))
-    (lexes_access found.hit.row (embargo_words found.hit.row.embargo))))
+    (lexes_then (row_members found.hit.row (link_text found)) (access_members found.hit.row (embargo_words found.hit.row.embargo) end)
+    (row_lexemes found.hit.row (link_text found))
+    (access_lexemes found.hit.row (embargo_words found.hit.row.embargo) ls) (lexes_row found.hit.row (link_text found))
+    (lexes_access found.hit.row (embargo_words found.hit.row.embargo) end ls last)))
 
-hit_is : (found : ReleaseHitValue) → AreOf (hit_lexemes found) (hit_value found)
+abbrev hit_end : List Lexeme
+hit_end = token Token.end_object ∷ []
+
+hit_is : (found : ReleaseHitValue) → AreOf (hit_lexemes found hit_end) (hit_value found)
 unfolding punctuate
 hit_is found fresh may more = refl
 hit_is found after_value may more = absurd (cc)
 hit_is found after_comma may more = refl
 hit_is found after_key may more = absurd (cc)
+
+pub hit_reads : (found : ReleaseHitValue) → found.hit.row.number < 2 ^ 64 → IsText (hit_object (codes "}") found) (hit_value found)
+hit_reads found small =
+    text_of_lexemes (hit_object (codes "}") found) (hit_lexemes found hit_end) (hit_value found) (lexes_hit (codes "}") hit_end found last_brace small) (hit_is found)
+
+-- ---- the object of a title whose date is covered
+
+abbrev also_end : List Lexeme
+also_end = string_lexemes (codes "why") (codes "volume") (token Token.end_object ∷ [])
+
+why_lexes : Lexes (codes ",\"why\":\"volume\"}" ++ []) also_end
+unfolding lex content
+why_lexes = record { lexed = λ rest. refl }
+
+also_is : (found : ReleaseHitValue) → AreOf (hit_lexemes found also_end) (also_value found)
+unfolding punctuate
+also_is found fresh may more = refl
+also_is found after_value may more = absurd (cc)
+also_is found after_comma may more = refl
+also_is found after_key may more = absurd (cc)
+
+pub also_reads : (found : ReleaseHitValue) → found.hit.row.number < 2 ^ 64 → IsText (hit_object (codes ",\"why\":\"volume\"}") found) (also_value found)
+also_reads found small =
+    text_of_lexemes (hit_object (codes ",\"why\":\"volume\"}") found) (hit_lexemes found also_end) (also_value found)
+    (lexes_hit (codes ",\"why\":\"volume\"}") also_end found why_lexes small) (also_is found)
 
 -- ---- the object that counts what is left out
 
@@ -286,16 +317,8 @@ more_is n false after_key may more = absurd (cc)
 -- ---- all items
 
 -- an item: a hit, or how many are left out and whether these are all
-abbrev Item : Type 0
+abbrev pub Item : Type 0
 Item = ReleaseHitValue ⊎ (ℕ × Bool)
-
-abbrev item_text : Item → List ℕ
-item_text (inl found) = hit_object found
-item_text (inr more) = more_object more.0 more.1
-
-abbrev item_value : Item → Json
-item_value (inl found) = hit_value found
-item_value (inr more) = more_value more.0 more.1
 
 abbrev hit_items : List ReleaseHitValue → List Item
 hit_items hits = map (λ found. inl found) hits
@@ -304,90 +327,128 @@ hit_items hits = map (λ found. inl found) hits
 abbrev last_items : Bool → ℕ → Bool → List Item
 last_items none n b = if none then [] else inr (n, b) ∷ []
 
-items_are : (hits : List ReleaseHitValue) (place : ℕ) (last : List Item)
-    → items_from item_text place (hit_items hits ++ last) ≡ items_from hit_object place hits ++ items_from item_text (place + length hits) last
-items_are [] place last = let same : place ≡ place + 0 = omega arith in ap (λ p. items_from item_text p last) same
-items_are (found ∷ more) place last =
-    let same : place + 1 + length more ≡ place + suc (length more) = omega arith in
-    let here = comma_before place ++ hit_object found in
-    ap (λ t. here ++ t) (items_are more (place + 1) last)
-    ∙ sym (append_assoc here (items_from hit_object (place + 1) more) (items_from item_text (place + 1 + length more) last))
-    ∙ ap (λ p. (here ++ items_from hit_object (place + 1) more) ++ items_from item_text p last) same
-
-last_is : (none : Bool) (place n : ℕ) (b : Bool) → items_from item_text (0 + place) (last_items none n b) ≡ (if none then [] else comma_before place ++ more_object n b)
-last_is true place n b = refl
-last_is false place n b =
-    let same : 0 + place ≡ place = omega arith in
-    append-nil (comma_before (0 + place) ++ more_object n b) ∙ ap (λ p. comma_before p ++ more_object n b) same
-
 abbrev items_in : TallyValue → List Item
 items_in tally = hit_items tally.top ++ last_items (left_out tally == 0) (left_out tally) tally.is_whole
 
-text_is : (tally : TallyValue) → json_list item_text (items_in tally) ≡ hits_json tally
-unfolding hits_json
-text_is tally = let last = last_items (left_out tally == 0) (left_out tally) tally.is_whole in
-    ap (λ t. codes "[" ++ (t ++ codes "\n]\n"))
-    (items_are tally.top 0 last ∙ ap (λ t. items_from hit_object 0 tally.top ++ t) (last_is (left_out tally == 0) (length tally.top) (left_out tally) tally.is_whole))
-    ∙ ap (λ t. codes "[" ++ t) (append_assoc (items_from hit_object 0 tally.top) (more_items tally) (codes "\n]\n"))
+-- the value of a hit is an object of texts and numbers, and its text with this end reads as it
+abbrev pub Reads : List ℕ → (ReleaseHitValue → Json) → Type 0
+Reads end value = (found : ReleaseHitValue) → found.hit.row.number < 2 ^ 64 → IsText (hit_object end found) (value found)
 
-values_of : (hits : List ReleaseHitValue) (none : Bool) (n : ℕ) (b : Bool)
-    → map item_value (hit_items hits ++ last_items none n b) ≡ map hit_value hits ++ (if none then [] else more_value n b ∷ [])
-values_of [] true n b = refl
-values_of [] false n b = refl
-values_of (found ∷ more) none n b = ap (λ vs. hit_value found ∷ vs) (values_of more none n b)
+abbrev pub IsFlat : (ReleaseHitValue → Json) → Type 0
+IsFlat value = (found : ReleaseHitValue) → depth (value found) ≤ 1
 
-each_last : (none : Bool) (n : ℕ) (b : Bool) → n < 2 ^ 64 → AllByRecursion (λ item. IsText (item_text item) (item_value item)) (last_items none n b)
-each_last true n b small = tt
-each_last false n b small = (text_of_lexemes (more_object n b) (more_lexemes n b) (more_value n b) (lexes_more n b small) (more_is n b), tt)
+abbrev pub item_text : List ℕ → Item → List ℕ
+item_text end (inl found) = hit_object end found
+item_text end (inr more) = more_object more.0 more.1
 
-each_item : (hits : List ReleaseHitValue) (last : List Item) → AllByRecursion (λ (found : ReleaseHitValue). found.hit.row.number < 2 ^ 64) hits
-    → AllByRecursion (λ item. IsText (item_text item) (item_value item)) last
-    → AllByRecursion (λ item. IsText (item_text item) (item_value item)) (hit_items hits ++ last)
-each_item [] last small rest = rest
-each_item (found ∷ more) last small rest =
-    (text_of_lexemes (hit_object found) (hit_lexemes found) (hit_value found) (lexes_hit found small.0) (hit_is found), each_item more last small.1 rest)
+abbrev pub item_value : (ReleaseHitValue → Json) → Item → Json
+item_value value (inl found) = value found
+item_value value (inr more) = more_value more.0 more.1
 
-flat_last : (none : Bool) (n : ℕ) (b : Bool) → AllByRecursion (λ item. depth (item_value item) ≤ 1) (last_items none n b)
-flat_last true n b = tt
-flat_last false n true = (lit≤ tt, tt)
-flat_last false n false = (lit≤ tt, tt)
+module _ (end : List ℕ) (value : ReleaseHitValue → Json) (reads : Reads end value) (flat : IsFlat value) where
+  items_are : (hits : List ReleaseHitValue) (place : ℕ) (last : List Item)
+      → items_from (item_text end) place (hit_items hits ++ last) ≡ items_from (hit_object end) place hits ++ items_from (item_text end) (place + length hits) last
+  items_are [] place last = let same : place ≡ place + 0 = omega arith in ap (λ p. items_from (item_text end) p last) same
+  items_are (found ∷ more) place last =
+      let same : place + 1 + length more ≡ place + suc (length more) = omega arith in
+      let here = comma_before place ++ hit_object end found in
+      ap (λ t. here ++ t) (items_are more (place + 1) last)
+      ∙ sym (append_assoc here (items_from (hit_object end) (place + 1) more) (items_from (item_text end) (place + 1 + length more) last))
+      ∙ ap (λ p. (here ++ items_from (hit_object end) (place + 1) more) ++ items_from (item_text end) p last) same
 
-flat_items : (hits : List ReleaseHitValue) (last : List Item) → AllByRecursion (λ item. depth (item_value item) ≤ 1) last
-    → AllByRecursion (λ item. depth (item_value item) ≤ 1) (hit_items hits ++ last)
-flat_items [] last rest = rest
-flat_items (found ∷ more) last rest = (lit≤ tt, flat_items more last rest)
+  last_is : (none : Bool) (place n : ℕ) (b : Bool) → items_from (item_text end) (0 + place) (last_items none n b) ≡ (if none then [] else comma_before place ++ more_object n b)
+  last_is true place n b = refl
+  last_is false place n b =
+      let same : 0 + place ≡ place = omega arith in
+      append-nil (comma_before (0 + place) ++ more_object n b) ∙ ap (λ p. comma_before p ++ more_object n b) same
 
-each_of : (tally : TallyValue) → All (λ (found : ReleaseHitValue). found.hit.row.number < 2 ^ 64) tally.top → tally.count < 2 ^ 64
-    → AllByRecursion (λ item. IsText (item_text item) (item_value item)) (items_in tally)
-each_of tally small counts =
-    let fits : left_out tally < 2 ^ 64 = omega arith in
-    each_item tally.top (last_items (left_out tally == 0) (left_out tally) tally.is_whole)
-    (recursion_from_All (λ (found : ReleaseHitValue). found.hit.row.number < 2 ^ 64) tally.top small)
-    (each_last (left_out tally == 0) (left_out tally) tally.is_whole fits)
+  text_is : (tally : TallyValue) → json_list (item_text end) (items_in tally) ≡ list_json end tally
+  unfolding list_json
+  text_is tally = let last = last_items (left_out tally == 0) (left_out tally) tally.is_whole in
+      ap (λ t. codes "[" ++ (t ++ codes "\n]\n"))
+      (items_are tally.top 0 last ∙ ap (λ t. items_from (hit_object end) 0 tally.top ++ t) (last_is (left_out tally == 0) (length tally.top) (left_out tally) tally.is_whole))
+      ∙ ap (λ t. codes "[" ++ t) (append_assoc (items_from (hit_object end) 0 tally.top) (more_items tally) (codes "\n]\n"))
 
--- the hits in another text
+  values_of : (hits : List ReleaseHitValue) (none : Bool) (n : ℕ) (b : Bool)
+      → map (item_value value) (hit_items hits ++ last_items none n b) ≡ map value hits ++ (if none then [] else more_value n b ∷ [])
+  values_of [] true n b = refl
+  values_of [] false n b = refl
+  values_of (found ∷ more) none n b = ap (λ vs. value found ∷ vs) (values_of more none n b)
+
+  each_last : (none : Bool) (n : ℕ) (b : Bool) → n < 2 ^ 64 → AllByRecursion (λ item. IsText (item_text end item) (item_value value item)) (last_items none n b)
+  each_last true n b small = tt
+  each_last false n b small = (text_of_lexemes (more_object n b) (more_lexemes n b) (more_value n b) (lexes_more n b small) (more_is n b), tt)
+
+  each_item : (hits : List ReleaseHitValue) (last : List Item) → AllByRecursion (λ (found : ReleaseHitValue). found.hit.row.number < 2 ^ 64) hits
+      → AllByRecursion (λ item. IsText (item_text end item) (item_value value item)) last
+      → AllByRecursion (λ item. IsText (item_text end item) (item_value value item)) (hit_items hits ++ last)
+  each_item [] last small rest = rest
+  each_item (found ∷ more) last small rest = (reads found small.0, each_item more last small.1 rest)
+
+  flat_last : (none : Bool) (n : ℕ) (b : Bool) → AllByRecursion (λ item. depth (item_value value item) ≤ 1) (last_items none n b)
+  flat_last true n b = tt
+  flat_last false n true = (lit≤ tt, tt)
+  flat_last false n false = (lit≤ tt, tt)
+
+  flat_items : (hits : List ReleaseHitValue) (last : List Item) → AllByRecursion (λ item. depth (item_value value item) ≤ 1) last
+      → AllByRecursion (λ item. depth (item_value value item) ≤ 1) (hit_items hits ++ last)
+  flat_items [] last rest = rest
+  flat_items (found ∷ more) last rest = (flat found, flat_items more last rest)
+
+  each_of : (tally : TallyValue) → All (λ (found : ReleaseHitValue). found.hit.row.number < 2 ^ 64) tally.top → tally.count < 2 ^ 64
+      → AllByRecursion (λ item. IsText (item_text end item) (item_value value item)) (items_in tally)
+  each_of tally small counts =
+      let fits : left_out tally < 2 ^ 64 = omega arith in
+      each_item tally.top (last_items (left_out tally == 0) (left_out tally) tally.is_whole)
+      (recursion_from_All (λ (found : ReleaseHitValue). found.hit.row.number < 2 ^ 64) tally.top small)
+      (each_last (left_out tally == 0) (left_out tally) tally.is_whole fits)
+
+  flat_of : (tally : TallyValue) → AllByRecursion (λ item. depth (item_value value item) ≤ 1) (items_in tally)
+  flat_of tally =
+      flat_items tally.top (last_items (left_out tally == 0) (left_out tally) tally.is_whole) (flat_last (left_out tally == 0) (left_out tally) tally.is_whole)
+
+  -- the list in another text
+  pub list_is : (tally : TallyValue) → All (λ (found : ReleaseHitValue). found.hit.row.number < 2 ^ 64) tally.top → tally.count < 2 ^ 64
+      → IsText (list_json end tally) (array (items_of (values_with value tally)))
+  list_is tally small counts =
+      subst (λ (t : List ℕ). IsText t (array (items_of (values_with value tally)))) (text_is tally)
+      (subst (λ (vs : List Json). IsText (json_list (item_text end) (items_in tally)) (array (items_of vs)))
+      (values_of tally.top (left_out tally == 0) (left_out tally) tally.is_whole)
+      (list_in (item_text end) (item_value value) (items_in tally) (each_of tally small counts)))
+
+  -- and it is as deep as an object
+  pub list_flat : (tally : TallyValue) → items_depth (items_of (values_with value tally)) ≤ 1
+  list_flat tally =
+      subst (λ (vs : List Json). items_depth (items_of vs) ≤ 1) (values_of tally.top (left_out tally == 0) (left_out tally) tally.is_whole)
+      (items_shallow (item_value value) (items_in tally) (flat_of tally))
+
+  pub document_read : (tally : TallyValue) → All (λ (found : ReleaseHitValue). found.hit.row.number < 2 ^ 64) tally.top → tally.count < 2 ^ 64
+      → document (list_json end tally) ≡ Some (array (items_of (values_with value tally)))
+  document_read tally small counts =
+      ap document (sym (text_is tally))
+      ∙ list_read (item_text end) (item_value value) (items_in tally) (each_of tally small counts) (flat_of tally)
+      ∙ ap (λ vs. Some (array (items_of vs))) (values_of tally.top (left_out tally == 0) (left_out tally) tally.is_whole)
+
+-- the hits, and the titles whose date is covered
+hit_flat : (found : ReleaseHitValue) → depth (hit_value found) ≤ 1
+hit_flat found = lit≤ tt
+
+also_flat : (found : ReleaseHitValue) → depth (also_value found) ≤ 1
+also_flat found = lit≤ tt
+
 pub hits_in : (tally : TallyValue) → All (λ (found : ReleaseHitValue). found.hit.row.number < 2 ^ 64) tally.top → tally.count < 2 ^ 64
     → IsText (hits_json tally) (array (items_of (item_values tally)))
-hits_in tally small counts =
-    subst (λ (t : List ℕ). IsText t (array (items_of (item_values tally)))) (text_is tally)
-    (subst (λ (vs : List Json). IsText (json_list item_text (items_in tally)) (array (items_of vs)))
-    (values_of tally.top (left_out tally == 0) (left_out tally) tally.is_whole)
-    (list_in item_text item_value (items_in tally) (each_of tally small counts)))
+hits_in tally small counts = list_is (codes "}") hit_value hit_reads hit_flat tally small counts
 
--- and they are as deep as an object
 pub hits_flat : (tally : TallyValue) → items_depth (items_of (item_values tally)) ≤ 1
-hits_flat tally =
-    subst (λ (vs : List Json). items_depth (items_of vs) ≤ 1) (values_of tally.top (left_out tally == 0) (left_out tally) tally.is_whole)
-    (items_shallow item_value (items_in tally)
-    (flat_items tally.top (last_items (left_out tally == 0) (left_out tally) tally.is_whole) (flat_last (left_out tally == 0) (left_out tally) tally.is_whole)))
+hits_flat tally = list_flat (codes "}") hit_value hit_reads hit_flat tally
+
+pub also_in : (also : TallyValue) → All (λ (found : ReleaseHitValue). found.hit.row.number < 2 ^ 64) also.top → also.count < 2 ^ 64
+    → IsText (also_json also) (array (items_of (values_with also_value also)))
+also_in also small counts = list_is (codes ",\"why\":\"volume\"}") also_value also_reads also_flat also small counts
+
+pub also_shallow : (also : TallyValue) → items_depth (items_of (values_with also_value also)) ≤ 1
+also_shallow also = list_flat (codes ",\"why\":\"volume\"}") also_value also_reads also_flat also
 
 pub hits_read : HitsAreJson
-hits_read tally small counts =
-    let fits : left_out tally < 2 ^ 64 = omega arith in
-    let last = last_items (left_out tally == 0) (left_out tally) tally.is_whole in
-    ap document (sym (text_is tally))
-    ∙ list_read item_text item_value (items_in tally)
-    (each_item tally.top last (recursion_from_All (λ (found : ReleaseHitValue). found.hit.row.number < 2 ^ 64) tally.top small)
-    (each_last (left_out tally == 0) (left_out tally) tally.is_whole fits))
-    (flat_items tally.top last (flat_last (left_out tally == 0) (left_out tally) tally.is_whole))
-    ∙ ap (λ vs. Some (array (items_of vs))) (values_of tally.top (left_out tally == 0) (left_out tally) tally.is_whole)
+hits_read tally small counts = document_read (codes "}") hit_value hit_reads hit_flat tally small counts

@@ -5,6 +5,7 @@ pub mod BestLinks
 pub mod Redirects
 pub mod Written
 pub mod Tops
+pub mod BooksFirst
 pub mod Tallies
 pub mod PlacesAsked
 pub mod TitlesAsked

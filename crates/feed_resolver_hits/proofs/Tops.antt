@@ -12,8 +12,8 @@ use Rattle.feed_answer.specs.declared.grade.Grade.TheVariants.{Inside, Overlap, 
 use Rattle.feed_embargo.specs.declared.availability.Availability.{Availability}
 use Rattle.feed_embargo.specs.declared.availability.Availability.TheVariants.{Available, Partly, NotCompared, Embargoed}
 use Rattle.feed_kbart.specs.RowValue.{RowValue}
-use Rattle.feed_resolver_hits.specs.Hits.{ReleaseHitValue, availability_rank, grade_rank, place_rank, text_rank, rank_of}
-use Rattle.feed_resolver_hits.specs.Ranks.{in_rank, below_rank, ranked, rank_limit}
+use Rattle.feed_resolver_hits.specs.Hits.{ReleaseHitValue, availability_rank, first_rank, grade_rank, place_rank, text_rank, rank_of}
+use Rattle.feed_resolver_hits.specs.Ranks.{IsBetter, IsPreferred, in_rank, below_rank, ranked, rank_limit}
 use Rattle.feed_resolver_hits.specs.Laws.{RanksInOrder}
 use Rattle.feed_resolver_hits.specs.Tallies.{first_within, shown_limit, text_size}
 use Rattle.feed_resolver_hits.specs.Tallying.{skip_below, kept_above, with_top}
@@ -39,16 +39,21 @@ two_or_less false b = omega arith
 text_small : (row : RowValue) → text_rank row ≤ 2
 text_small row = two_or_less _ _
 
-place_small : (place : ℕ) → place_rank place ≤ 65535
+pub place_small : (place : ℕ) → place_rank place ≤ 65535
 place_small place = omega arith
+
+one_or_less : (b : Bool) → first_rank b ≤ 1
+one_or_less true = omega arith
+one_or_less false = omega arith
 
 pub rank_small : (found : ReleaseHitValue) → rank_of found < rank_limit
 rank_small found =
+    let zeroth = one_or_less found.is_first in
     let one = availability_small found.availability in
     let two = grade_small found.hit.grade in
     let three = text_small found.hit.row in
     let four = place_small found.place in
-    omega (arith, one, two, three, four)
+    omega (arith, zeroth, one, two, three, four)
 
 -- ---- hits above and below a rank
 
@@ -383,10 +388,50 @@ whole_order a b c d e f i j p q r s t u = (forth, back)
     back (inr (inr (inl less))) = places.1 (inl (parts.1 (inr (inr less))))
     back (inr (inr (inr (x, y, z, less)))) = places.1 (inr (omega (arith, x, y, z), less))
 
-pub preferred : RanksInOrder
-preferred one other =
+-- what comes first decides before all else
+first_order : (h g m n i j : ℕ) → m ≤ 35 → n ≤ 35 → i ≤ 65535 → j ≤ 65535
+    → (65536 * (36 * g + n) + j < 65536 * (36 * h + m) + i) ↔ ((g < h) ⊎ ((g ≡ h) × (65536 * n + j < 65536 * m + i)))
+first_order h g m n i j p q r s = (forth, back)
+  where
+    forth : 65536 * (36 * g + n) + j < 65536 * (36 * h + m) + i → (g < h) ⊎ ((g ≡ h) × (65536 * n + j < 65536 * m + i))
+    forth lt = elim (cases_lt g h) [
+      | inl less ↦ inl less
+      | inr ge ↦ inr (omega (arith, p, q, r, s, lt, ge), omega (arith, p, q, r, s, lt, ge))
+    ]
+
+    back : (g < h) ⊎ ((g ≡ h) × (65536 * n + j < 65536 * m + i)) → 65536 * (36 * g + n) + j < 65536 * (36 * h + m) + i
+    back (inl less) = omega (arith, p, q, r, s, less)
+    back (inr (same, less)) = omega (arith, same, less)
+
+pub quality_small : (found : ReleaseHitValue) → 9 * availability_rank found.availability + 3 * grade_rank found.hit.grade + text_rank found.hit.row ≤ 35
+quality_small found =
+    let one = availability_small found.availability in
+    let two = grade_small found.hit.grade in
+    let three = text_small found.hit.row in
+    omega (arith, one, two, three)
+
+better_order : (one other : ReleaseHitValue)
+    → (65536 * (9 * availability_rank other.availability + 3 * grade_rank other.hit.grade + text_rank other.hit.row) + place_rank other.place
+    < 65536 * (9 * availability_rank one.availability + 3 * grade_rank one.hit.grade + text_rank one.hit.row) + place_rank one.place) ↔ IsBetter one other
+better_order one other =
     whole_order (availability_rank one.availability) (grade_rank one.hit.grade) (text_rank one.hit.row)
     (availability_rank other.availability) (grade_rank other.hit.grade) (text_rank other.hit.row)
     (place_rank one.place) (place_rank other.place)
     (grade_small one.hit.grade) (text_small one.hit.row) (grade_small other.hit.grade) (text_small other.hit.row)
     (place_small one.place) (place_small other.place)
+
+pub preferred : RanksInOrder
+preferred one other = (forth, back)
+  where
+    whole : (rank_of other < rank_of one) ↔ ((first_rank other.is_first < first_rank one.is_first) ⊎ ((first_rank other.is_first ≡ first_rank one.is_first)
+        × (65536 * (9 * availability_rank other.availability + 3 * grade_rank other.hit.grade + text_rank other.hit.row) + place_rank other.place
+        < 65536 * (9 * availability_rank one.availability + 3 * grade_rank one.hit.grade + text_rank one.hit.row) + place_rank one.place)))
+    whole = first_order (first_rank one.is_first) (first_rank other.is_first) _ _ (place_rank one.place) (place_rank other.place)
+        (quality_small one) (quality_small other) (place_small one.place) (place_small other.place)
+
+    forth : rank_of other < rank_of one → IsPreferred one other
+    forth lt = elim (whole.0 lt) [ inl less ↦ inl less | inr rest ↦ inr (rest.0, (better_order one other).0 rest.1) ]
+
+    back : IsPreferred one other → rank_of other < rank_of one
+    back (inl less) = whole.1 (inl less)
+    back (inr rest) = whole.1 (inr (rest.0, (better_order one other).1 rest.1))

@@ -19,13 +19,13 @@ release_named old new key text name stem reads is = is
     ∙ ap (λ n. old ++ joined (codes "{\"package\":" ∷ json_string name.stem ∷ codes ",\"release\":" ∷ json_string n ∷ [])) reads
 
 -- the members for the embargo and the access of a row
-pub access_written : (old new embargo access : List ℕ) (row : RowValue) (words : List ℕ) → embargo ≡ row.embargo → access ≡ row.access
-    → new ≡ old ++ joined (codes ",\"embargo\":" ∷ json_string embargo ∷ codes ",\"embargo_words\":" ∷ json_string words ∷ codes ",\"access\":" ∷ json_string access ∷ codes "}" ∷ [])
-    → new ≡ old ++ access_members row words
+pub access_written : (old new embargo access : List ℕ) (row : RowValue) (words end : List ℕ) → embargo ≡ row.embargo → access ≡ row.access
+    → new ≡ old ++ joined (codes ",\"embargo\":" ∷ json_string embargo ∷ codes ",\"embargo_words\":" ∷ json_string words ∷ codes ",\"access\":" ∷ json_string access ∷ end ∷ [])
+    → new ≡ old ++ access_members row words end
 unfolding access_members
-access_written old new embargo access row words same also is = is
-    ∙ ap (λ e. old ++ joined (codes ",\"embargo\":" ∷ json_string e ∷ codes ",\"embargo_words\":" ∷ json_string words ∷ codes ",\"access\":" ∷ json_string access ∷ codes "}" ∷ [])) same
-    ∙ ap (λ a. old ++ joined (codes ",\"embargo\":" ∷ json_string row.embargo ∷ codes ",\"embargo_words\":" ∷ json_string words ∷ codes ",\"access\":" ∷ json_string a ∷ codes "}" ∷ [])) also
+access_written old new embargo access row words end same also is = is
+    ∙ ap (λ e. old ++ joined (codes ",\"embargo\":" ∷ json_string e ∷ codes ",\"embargo_words\":" ∷ json_string words ∷ codes ",\"access\":" ∷ json_string access ∷ end ∷ [])) same
+    ∙ ap (λ a. old ++ joined (codes ",\"embargo\":" ∷ json_string row.embargo ∷ codes ",\"embargo_words\":" ∷ json_string words ∷ codes ",\"access\":" ∷ json_string a ∷ end ∷ [])) also
 
 -- the members for the days of a row
 pub days_written : (old new first last words : List ℕ) (row : RowValue) → first ≡ day_text row.first_day → last ≡ day_text row.last_day → words ≡ days_words row
@@ -53,13 +53,13 @@ volumes_written old new first last words row one two three is = is
     ∷ codes ",\"volumes_words\":" ∷ json_string t ∷ [])) three
 
 -- the object of a hit
-pub object_written : (old one two three new : List ℕ) (row : RowValue) (link words : List ℕ) (found : ReleaseHitValue)
+pub object_written : (old one two three new : List ℕ) (row : RowValue) (link words end : List ℕ) (found : ReleaseHitValue)
     → row ≡ found.hit.row → link ≡ link_text found → words ≡ embargo_words row.embargo
-    → one ≡ old ++ release_members found.name → two ≡ one ++ grade_members found → three ≡ two ++ row_members row link → new ≡ three ++ access_members row words
-    → new ≡ old ++ hit_object found
+    → one ≡ old ++ release_members found.name → two ≡ one ++ grade_members found → three ≡ two ++ row_members row link → new ≡ three ++ access_members row words end
+    → new ≡ old ++ hit_object end found
 unfolding hit_object
-object_written old one two three new row link words found same linked worded first second third fourth =
+object_written old one two three new row link words end found same linked worded first second third fourth =
     in_four old one two three new (release_members found.name) (grade_members found) (row_members found.hit.row (link_text found))
-    (access_members found.hit.row (embargo_words found.hit.row.embargo)) first second
+    (access_members found.hit.row (embargo_words found.hit.row.embargo) end) first second
     (third ∙ ap (λ l. two ++ row_members row l) linked ∙ ap (λ (r : RowValue). two ++ row_members r (link_text found)) same)
-    (fourth ∙ ap (λ w. three ++ access_members row w) worded ∙ ap (λ (r : RowValue). three ++ access_members r (embargo_words r.embargo)) same)
+    (fourth ∙ ap (λ w. three ++ access_members row w end) worded ∙ ap (λ (r : RowValue). three ++ access_members r (embargo_words r.embargo) end) same)

@@ -1,4 +1,5 @@
--- The answer to a query as JSON: its citation, the query that is looked up, why none is, and the hits.
+-- The answer to a query as JSON: its citation, the query that is looked up, why none is, the hits, and the titles whose date
+-- is covered and whose volume is not.
 use Rattle.std.specs.Prelude.{ℕ, List, [], ◌∷◌, ◌++◌, codes, drop}
 use Rattle.std.specs.List.{flat_map}
 use Rattle.json.specs.Json.{Json, Members, object, array, string, member, no_members}
@@ -11,7 +12,7 @@ use Rattle.feed_openurl.specs.declared.part.TheConstants.{PARTS}
 use Rattle.feed_resolver_reply.specs.JsonStrings.{json_string}
 use Rattle.feed_resolver_reply.specs.Pieces.{joined}
 use Rattle.feed_resolver_hits.specs.Asks.{AskValue}
-use Rattle.feed_resolver_hits.specs.HitsJson.{hits_json, item_values, text_member}
+use Rattle.feed_resolver_hits.specs.HitsJson.{also_json, also_value, hits_json, item_values, text_member, values_with}
 use Rattle.feed_resolver_hits.specs.Tallies.{TallyValue}
 
 -- the beginning of a citation, with its first part
@@ -34,9 +35,13 @@ query_members query refused = joined (
 unfoldable pub answer_start : AskValue → List ℕ → List ℕ
 answer_start ask refused = citation_json ask.citation ++ query_members ask.query refused
 
+-- the end of an answer: the titles whose date is covered
+unfoldable pub also_member : TallyValue → List ℕ
+also_member also = codes ",\"also\":" ++ (also_json also ++ codes "}\n")
+
 -- the answer as an object
-unfoldable pub answer_json : AskValue → List ℕ → TallyValue → List ℕ
-answer_json ask refused tally = answer_start ask refused ++ (hits_json tally ++ codes "}\n")
+unfoldable pub answer_json : AskValue → List ℕ → TallyValue → TallyValue → List ℕ
+answer_json ask refused tally also = answer_start ask refused ++ (hits_json tally ++ also_member also)
 
 -- the members that state these parts of a citation
 abbrev pub part_members : CitationValue → List Part → Members
@@ -48,9 +53,10 @@ abbrev pub citation_value : CitationValue → Json
 citation_value citation = object (part_members citation PARTS)
 
 -- the object that states an answer
-abbrev pub answer_value : AskValue → List ℕ → TallyValue → Json
-answer_value ask refused tally = object (
+abbrev pub answer_value : AskValue → List ℕ → TallyValue → TallyValue → Json
+answer_value ask refused tally also = object (
     member (codes "citation") (citation_value ask.citation)
     (text_member (codes "query") ask.query
     (text_member (codes "refused") refused
-    (member (codes "hits") (array (items_of (item_values tally))) no_members))))
+    (member (codes "hits") (array (items_of (item_values tally)))
+    (member (codes "also") (array (items_of (values_with also_value also))) no_members)))))

@@ -1,14 +1,19 @@
 -- The query to look up for a request, in whatever form its source sent it, or why nothing is looked up.
-use Rattle.std.specs.Prelude.{ℕ, List, Result, Ok, Err}
+use Rattle.std.specs.Prelude.{ℕ, ◌&&◌, ◌||◌, not, nat_lt, Bool, List, length, codes, Result, Ok, Err}
 use Rattle.std.specs.Option.{option_map_or}
 use Rattle.feed_answer.specs.Queries.{query_of}
 use Rattle.feed_answer.specs.QueryValue.{QueryValue}
 use Rattle.feed_answer.specs.declared.fault.QueryFault.{QueryFault}
 use Rattle.feed_answer.specs.declared.fault.QueryFault.TheVariants as fault
+use Rattle.feed_openurl.specs.Citations.{citation_of, text_at}
 use Rattle.feed_openurl.specs.Values.{UnderstandingValue, understood}
 use Rattle.feed_openurl.specs.Written.{written}
 use Rattle.feed_openurl.specs.declared.fault.Refusal.{Refusal}
 use Rattle.feed_openurl.specs.declared.fault.Refusal.TheVariants as reason
+use Rattle.feed_openurl.specs.declared.part.Part.TheVariants.{Genre}
+use Rattle.feed_resolver_hits.specs.Hits.{is_word}
+use Rattle.feed_resolver_hits.specs.Searches.{SearchValue}
+use Rattle.feed_resolver_hits.specs.declared.search.Scope.TheVariants.{Hits}
 
 -- why the query that is written for another one is not read; one that is too long has too many identifiers
 abbrev pub reason_of : QueryFault → Refusal
@@ -28,6 +33,22 @@ read_back (Err fault) = Err (reason_of fault)
 abbrev pub asked_by : UnderstandingValue → Result QueryValue Refusal
 asked_by u = option_map_or (λ reason. Err reason) u.refusal (read_back (query_of (written u)))
 
+-- a query names a serial and a book, such as a chapter of a book in a series
+abbrev pub names_both : QueryValue → Bool
+names_both query = nat_lt 0 (length query.issns) && nat_lt 0 (length query.isbns)
+
+-- a genre is that of serials (the KEV format of journals)
+abbrev pub is_of_serials : List ℕ → Bool
+is_of_serials genre = is_word (codes "article") genre || is_word (codes "journal") genre
+
+-- the book comes before the serial, unless the genre is that of serials
+abbrev pub is_book_first : List ℕ → QueryValue → Bool
+is_book_first text query = names_both query && not (is_of_serials (text_at (citation_of text) Genre))
+
+abbrev pub search_by : List ℕ → Result QueryValue Refusal → Result SearchValue Refusal
+search_by text (Ok query) = Ok (record { query = query; scope = Hits; is_book_first = is_book_first text query })
+search_by text (Err reason) = Err reason
+
 -- what is looked up for a query
-unfoldable pub asked_of : List ℕ → Result QueryValue Refusal
-asked_of text = asked_by (understood text)
+unfoldable pub asked_of : List ℕ → Result SearchValue Refusal
+asked_of text = search_by text (asked_by (understood text))

@@ -1,5 +1,5 @@
 -- The hits of a query, each with its release and its availability, and the best link among them.
-use Rattle.std.specs.Prelude.{ℕ, ℤ, ◌+◌, ◌*◌, ◌-◌, ◌&&◌, Bool, true, false, nat_lt, if◌then◌else◌, List, [], ◌∷◌, codes, Option, Some, None, filter, map, option_map}
+use Rattle.std.specs.Prelude.{ℕ, ℤ, ◌+◌, ◌*◌, ◌-◌, ◌&&◌, not, Bool, true, false, nat_lt, if◌then◌else◌, List, [], ◌∷◌, codes, Option, Some, None, filter, map, option_map}
 use Rattle.std.specs.Str.{str_eq_ignore_ascii_case}
 use Rattle.feed_names.specs.ReleaseName.{Name, text_of}
 use Rattle.feed_identifiers.specs.Text.{trimmed}
@@ -22,9 +22,13 @@ use Rattle.feed_site.specs.Packages.{package_place}
 use Rattle.feed_site.specs.Proxies.{prefix_for, through}
 use Rattle.feed_site.specs.Site as site_file
 use Rattle.feed_site.specs.Hosts.{is_link}
+use Rattle.feed_resolver_hits.specs.Searches.{SearchValue, compared, is_dated, is_first_as, whole_titles}
+use Rattle.feed_resolver_hits.specs.declared.search.Scope.{Scope}
+use Rattle.feed_resolver_hits.specs.declared.search.Scope.TheVariants.{Hits, Dated, Others}
 
 -- a hit, its release, how the days that the query asks for lie in those that are open to readers, the prefix of its link, if
--- that goes through a proxy, the place of its package in the order of the site, and whether the library has all those days
+-- that goes through a proxy, the place of its package in the order of the site, whether the library has all those days, and
+-- whether it is a book that comes before its series
 pub record ReleaseHitValue : Type 0 where
   pub name : Name
   pub hit : HitValue
@@ -32,6 +36,7 @@ pub record ReleaseHitValue : Type 0 where
   pub prefix : Option (List ℕ)
   pub place : ℕ
   pub is_held_whole : Bool
+  pub is_first : Bool
 
 -- the trimmed text is this word, in any case
 abbrev pub is_word : List ℕ → List ℕ → Bool
@@ -61,14 +66,15 @@ holds_days site name row None = true
 holds_days site name row (Some days) = holds_day site name row days.first && holds_day site name row days.last
 
 -- a hit of this release, for the readers of a library, today
-abbrev pub release_hit : site_file.SiteValue → TodayValue → QueryValue → Name → HitValue → ReleaseHitValue
-release_hit site today query name hit = record {
+abbrev pub release_hit : site_file.SiteValue → TodayValue → SearchValue → Name → HitValue → ReleaseHitValue
+release_hit site today search name hit = record {
   name = name;
   hit = hit;
-  availability = availability_of today hit.row.embargo hit.row.first_day hit.row.last_day query.days;
+  availability = availability_of today hit.row.embargo hit.row.first_day hit.row.last_day (compared search).days;
   prefix = prefix_for site hit.row.url (is_free hit.row);
   place = package_place site name.stem;
-  is_held_whole = holds_days site name hit.row (days_asked (kind hit.row.identifiers) query.days);
+  is_held_whole = holds_days site name hit.row (days_asked (kind hit.row.identifiers) (compared search).days);
+  is_first = is_first_as (kind hit.row.identifiers) search.is_book_first;
 }
 
 -- the library has what is asked for of a hit of this release
@@ -76,13 +82,27 @@ abbrev pub is_held : site_file.SiteValue → QueryValue → Name → HitValue �
 is_held site query name hit =
     library_has site name.stem hit.row.title_id hit.row.first_day hit.row.last_day (days_asked (kind hit.row.identifiers) query.days)
 
--- the hits of this release that the library has
-abbrev pub held_hits : site_file.SiteValue → QueryValue → Name → List HitValue → List HitValue
-held_hits site query name hits = filter (is_held site query name) hits
+-- the library has the date that is asked for of a hit, whose row does not have the volume
+abbrev pub is_held_dated : site_file.SiteValue → QueryValue → Name → HitValue → Bool
+is_held_dated site query name hit = is_held site query name hit && is_dated query hit.row
 
--- the same for its readers, today
-abbrev pub library_hits : site_file.SiteValue → TodayValue → QueryValue → Name → List HitValue → List ReleaseHitValue
-library_hits site today query name hits = map (release_hit site today query name) (held_hits site query name hits)
+-- the hit is one of those that are searched for, and the library has it
+abbrev pub is_found_as : Scope → site_file.SiteValue → QueryValue → Name → HitValue → Bool
+is_found_as Hits site query name hit = is_held site query name hit
+is_found_as Dated site query name hit = is_held_dated site query name hit
+is_found_as Others site query name hit =
+    is_held site (whole_titles query) name hit && not (is_held_dated site query name hit)
+
+abbrev pub is_found : site_file.SiteValue → SearchValue → Name → HitValue → Bool
+is_found site search name hit = is_found_as search.scope site search.query name hit
+
+-- the hits of this release that are searched for
+abbrev pub held_hits : site_file.SiteValue → SearchValue → Name → List HitValue → List HitValue
+held_hits site search name hits = filter (is_found site search name) hits
+
+-- the same for the library's readers, today
+abbrev pub library_hits : site_file.SiteValue → TodayValue → SearchValue → Name → List HitValue → List ReleaseHitValue
+library_hits site today search name hits = map (release_hit site today search name) (held_hits site search name hits)
 
 -- the link of a hit: its URL, or that through the proxy
 abbrev pub link_text : ReleaseHitValue → List ℕ
@@ -131,10 +151,16 @@ text_rank row =
 abbrev pub place_rank : ℕ → ℕ
 place_rank place = 65535 - place
 
--- the rank of a hit: by its availability, then by its grade, then by its depth and access, then by the order of the site
+-- a book that comes before its series ranks above all others
+abbrev pub first_rank : Bool → ℕ
+first_rank is_first = if is_first then 1 else 0
+
+-- the rank of a hit: by whether it is a book that comes first, then by its availability, then by its grade, then by its depth
+-- and access, then by the order of the site
 abbrev pub rank_of : ReleaseHitValue → ℕ
 rank_of found =
-    65536 * (9 * availability_rank found.availability + 3 * grade_rank found.hit.grade + text_rank found.hit.row)
+    65536 * (36 * first_rank found.is_first
+    + (9 * availability_rank found.availability + 3 * grade_rank found.hit.grade + text_rank found.hit.row))
     + place_rank found.place
 
 -- the rank and the link of a hit that may be linked to

@@ -49,13 +49,13 @@ volumes_members row = joined (
 unfoldable pub row_members : RowValue → List ℕ → List ℕ
 row_members row link = title_members row link ++ (target_members row ++ (days_members row ++ volumes_members row))
 
--- those for its embargo, also in words, and its access
-unfoldable pub access_members : RowValue → List ℕ → List ℕ
-access_members row words = joined (
+-- those for its embargo, also in words, and its access, before the end of an object
+unfoldable pub access_members : RowValue → List ℕ → List ℕ → List ℕ
+access_members row words end = joined (
     codes ",\"embargo\":" ∷ json_string row.embargo
     ∷ codes ",\"embargo_words\":" ∷ json_string words
     ∷ codes ",\"access\":" ∷ json_string row.access
-    ∷ codes "}" ∷ [])
+    ∷ end ∷ [])
 
 -- the name of an availability
 abbrev pub availability_text : Availability → List ℕ
@@ -71,11 +71,11 @@ grade_members found = joined (
     ∷ codes ",\"grade\":" ∷ json_string (grade_text found.hit.grade)
     ∷ codes ",\"availability\":" ∷ json_string (availability_text found.availability) ∷ [])
 
--- a hit as a JSON object
-unfoldable pub hit_object : ReleaseHitValue → List ℕ
-hit_object found =
+-- a hit as a JSON object with this end
+unfoldable pub hit_object : List ℕ → ReleaseHitValue → List ℕ
+hit_object end found =
     release_members found.name
-    ++ (grade_members found ++ (row_members found.hit.row (link_text found) ++ access_members found.hit.row (embargo_words found.hit.row.embargo)))
+    ++ (grade_members found ++ (row_members found.hit.row (link_text found) ++ access_members found.hit.row (embargo_words found.hit.row.embargo) end))
 
 -- the beginning of the object that counts the hits that are left out: whether there may be still more
 abbrev pub more_start : Bool → List ℕ
@@ -91,17 +91,24 @@ abbrev pub more_items : TallyValue → List ℕ
 more_items tally =
     if left_out tally == 0 then [] else comma_before (length tally.top) ++ more_object (left_out tally) tally.is_whole
 
--- the hits that are shown, as a JSON list of objects
-unfoldable pub hits_json : TallyValue → List ℕ
-hits_json tally = codes "[" ++ (items_from hit_object 0 tally.top ++ (more_items tally ++ codes "\n]\n"))
+-- the hits that are shown, as a JSON list of objects with this end
+unfoldable pub list_json : List ℕ → TallyValue → List ℕ
+list_json end tally = codes "[" ++ (items_from (hit_object end) 0 tally.top ++ (more_items tally ++ codes "\n]\n"))
+
+-- the list of hits, and that of titles whose date is covered, each of which says why it is not a hit
+abbrev pub hits_json : TallyValue → List ℕ
+hits_json tally = list_json (codes "}") tally
+
+abbrev pub also_json : TallyValue → List ℕ
+also_json also = list_json (codes ",\"why\":\"volume\"}") also
 
 -- a member of an object whose value is a string, in front of others
 abbrev pub text_member : List ℕ → List ℕ → Members → Members
 text_member key text others = member key (string text) others
 
--- the object that states a hit
-abbrev pub hit_value : ReleaseHitValue → Json
-hit_value found = object (
+-- the object that states a hit, with these members behind its own
+abbrev pub value_with : Members → ReleaseHitValue → Json
+value_with others found = object (
     text_member (codes "package") found.name.stem
     (text_member (codes "release") (name_text found.name)
     (member (codes "record") (number (decimal found.hit.row.number))
@@ -121,7 +128,14 @@ hit_value found = object (
     (text_member (codes "volumes_words") (volumes_words found.hit.row)
     (text_member (codes "embargo") found.hit.row.embargo
     (text_member (codes "embargo_words") (embargo_words found.hit.row.embargo)
-    (text_member (codes "access") found.hit.row.access no_members))))))))))))))))))))
+    (text_member (codes "access") found.hit.row.access others))))))))))))))))))))
+
+abbrev pub hit_value : ReleaseHitValue → Json
+hit_value found = value_with no_members found
+
+-- the same with why it is not a hit
+abbrev pub also_value : ReleaseHitValue → Json
+also_value found = value_with (text_member (codes "why") (codes "volume") no_members) found
 
 -- the object that states how many hits are left out
 abbrev pub more_value : ℕ → Bool → Json
@@ -129,6 +143,9 @@ more_value n true = object (member (codes "more") (number (decimal n)) no_member
 more_value n false = object (member (codes "more_at_least") (number (decimal n)) no_members)
 
 -- the values of the items: the hits that are shown, and the object if hits are left out
+abbrev pub values_with : (ReleaseHitValue → Json) → TallyValue → List Json
+values_with value tally =
+    map value tally.top ++ (if left_out tally == 0 then [] else more_value (left_out tally) tally.is_whole ∷ [])
+
 abbrev pub item_values : TallyValue → List Json
-item_values tally =
-    map hit_value tally.top ++ (if left_out tally == 0 then [] else more_value (left_out tally) tally.is_whole ∷ [])
+item_values tally = values_with hit_value tally

@@ -8,13 +8,15 @@ use Rattle.feed_embargo.specs.declared.availability.Availability.TheVariants.{Av
 use Rattle.feed_site.specs.Proxies.{proxied}
 use Rattle.feed_site.specs.Site as site_file
 use Rattle.feed_answer.specs.HitValue.{HitValue}
-use Rattle.feed_answer.specs.QueryValue.{QueryValue}
+use Rattle.feed_kbart.specs.Identifiers.{kind}
+use Rattle.feed_kbart.specs.declared.identifiers.Kind.TheVariants.{Serial, Book}
 use Rattle.feed_answer.specs.declared.grade.Grade.TheVariants.{Inside}
 use Rattle.feed_resolver_hits.specs.AnswerJson.{answer_json, answer_value}
 use Rattle.feed_resolver_hits.specs.Asks.{AskValue}
 use Rattle.feed_site.specs.Hosts.{is_link}
 use Rattle.feed_resolver_hits.specs.Hits.{ReleaseHitValue, best_link, is_free, is_full_text, link_text, rank_of, release_hit}
 use Rattle.feed_resolver_hits.specs.HitsJson.{hits_json, item_values}
+use Rattle.feed_resolver_hits.specs.Searches.{SearchValue}
 use Rattle.feed_resolver_hits.specs.Ranks.{IsBestLink, IsPreferred}
 use Rattle.feed_resolver_hits.specs.Tallies.{TallyValue, sole_link, tally_of, text_limit, text_size}
 use Rattle.feed_resolver_hits.specs.Tallying.{no_hits, with_hits, tally_from}
@@ -25,17 +27,24 @@ RedirectsToLink = (hits : List ReleaseHitValue) (url : List ℕ) → best_link h
 
 -- the link of a hit is its URL as the site of the library writes it
 abbrev pub LinksAreProxied : Type 0
-LinksAreProxied = (site : site_file.SiteValue) (today : TodayValue) (query : QueryValue) (name : Name) (hit : HitValue)
-    → link_text (release_hit site today query name hit) ≡ proxied site hit.row.url (is_free hit.row)
+LinksAreProxied = (site : site_file.SiteValue) (today : TodayValue) (search : SearchValue) (name : Name) (hit : HitValue)
+    → link_text (release_hit site today search name hit) ≡ proxied site hit.row.url (is_free hit.row)
 
 -- no hit that may be linked to ranks above the best link
 abbrev pub BestLinkRanksHighest : Type 0
 BestLinkRanksHighest = (hits : List ReleaseHitValue) → IsBestLink hits (best_link hits)
 
--- the rank of one hit is higher than that of another exactly if its availability is better, or that is the same and its
--- grade is better, or both are the same and its depth and access are, or these are too and the site lists its package first
+-- the rank of one hit is higher than that of another exactly if it is a book that comes before its series and the other is
+-- not, or else its availability is better, or that is the same and its grade is better, or both are the same and its depth
+-- and access are, or these are too and the site lists its package first
 abbrev pub RanksInOrder : Type 0
 RanksInOrder = (one other : ReleaseHitValue) → (rank_of other < rank_of one) ↔ IsPreferred one other
+
+-- where a book comes before its series, each hit that is a book ranks above each that is a serial
+abbrev pub BooksComeFirst : Type 0
+BooksComeFirst = (site : site_file.SiteValue) (today : TodayValue) (search : SearchValue) (name other_name : Name) (book serial : HitValue)
+    → search.is_book_first ≡ true → kind book.row.identifiers ≡ Book → kind serial.row.identifiers ≡ Serial
+    → rank_of (release_hit site today search other_name serial) < rank_of (release_hit site today search name book)
 
 -- the hits are a single one: all days that are asked for are open, it covers the whole of what is asked for, in full text,
 -- the library has all those days, and it may be linked to, by this link
@@ -65,8 +74,10 @@ abbrev pub HitsAreJson : Type 0
 HitsAreJson = (tally : TallyValue) → All (λ found. found.hit.row.number < 2 ^ 64) tally.top → tally.count < 2 ^ 64
     → document (hits_json tally) ≡ Some (array (items_of (item_values tally)))
 
--- an answer in JSON is an object with the citation, the query that is looked up, the reason why none is, and the hits
+-- an answer in JSON is an object with the citation, the query that is looked up, the reason why none is, the hits, and the
+-- titles whose date is covered and whose volume is not
 abbrev pub AnswerIsJson : Type 0
-AnswerIsJson = (ask : AskValue) (refused : List ℕ) (tally : TallyValue)
+AnswerIsJson = (ask : AskValue) (refused : List ℕ) (tally also : TallyValue)
     → All (λ found. found.hit.row.number < 2 ^ 64) tally.top → tally.count < 2 ^ 64
-    → document (answer_json ask refused tally) ≡ Some (answer_value ask refused tally)
+    → All (λ found. found.hit.row.number < 2 ^ 64) also.top → also.count < 2 ^ 64
+    → document (answer_json ask refused tally also) ≡ Some (answer_value ask refused tally also)

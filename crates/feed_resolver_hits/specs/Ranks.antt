@@ -1,7 +1,7 @@
 -- The order of hits: by their ranks, and of equal ranks by their order in the answer.
 use Rattle.std.specs.Prelude.{◌≡◌, ◌<◌, ◌⊎◌, ◌==◌, ℕ, zero, suc, true, List, [], ◌++◌, Option, Some, None, filter, slice_get}
 use Rattle.feed_site.specs.Hosts.{is_link}
-use Rattle.feed_resolver_hits.specs.Hits.{ReleaseHitValue, availability_rank, grade_rank, link_text, place_rank, rank_of, text_rank}
+use Rattle.feed_resolver_hits.specs.Hits.{ReleaseHitValue, availability_rank, first_rank, grade_rank, link_text, place_rank, rank_of, text_rank}
 
 -- the hit at this place, which may be linked to
 pub record IsLinkAt (hits : List ReleaseHitValue) (place : ℕ) (found : ReleaseHitValue) : Type 0 where
@@ -31,7 +31,7 @@ below_rank (suc rank) hits = in_rank rank hits ++ below_rank rank hits
 
 -- all ranks are below this
 abbrev pub rank_limit : ℕ
-rank_limit = 2359296
+rank_limit = 4718592
 
 -- all hits in the order of their ranks
 abbrev pub ranked : List ReleaseHitValue → List ReleaseHitValue
@@ -39,11 +39,17 @@ ranked hits = below_rank rank_limit hits
 
 -- the one availability is better, or it is the same and the one grade is better, or that is the same too and the one text
 -- is better, or all three are the same and the site lists the one package first
-abbrev pub IsPreferred : ReleaseHitValue → ReleaseHitValue → Type 0
-IsPreferred one other =
+abbrev pub IsBetter : ReleaseHitValue → ReleaseHitValue → Type 0
+IsBetter one other =
     (availability_rank other.availability < availability_rank one.availability)
     ⊎ ((availability_rank other.availability ≡ availability_rank one.availability) × (grade_rank other.hit.grade < grade_rank one.hit.grade))
     ⊎ ((availability_rank other.availability ≡ availability_rank one.availability) × (grade_rank other.hit.grade ≡ grade_rank one.hit.grade)
     × (text_rank other.hit.row < text_rank one.hit.row))
     ⊎ ((availability_rank other.availability ≡ availability_rank one.availability) × (grade_rank other.hit.grade ≡ grade_rank one.hit.grade)
     × (text_rank other.hit.row ≡ text_rank one.hit.row) × (place_rank other.place < place_rank one.place))
+
+-- the one is a book that comes before its series and the other is not, or both are or neither is and the one is better
+abbrev pub IsPreferred : ReleaseHitValue → ReleaseHitValue → Type 0
+IsPreferred one other =
+    (first_rank other.is_first < first_rank one.is_first)
+    ⊎ ((first_rank other.is_first ≡ first_rank one.is_first) × IsBetter one other)

@@ -1,24 +1,41 @@
--- A query without its date and its volume.
-use Rattle.std.specs.Prelude.{ℕ, ◌||◌, Bool, if◌then◌else◌, List, Option, Some, None}
+-- What is searched for: the rows that match a query, those that its date alone would have, or all others of its titles.
+use Rattle.std.specs.Prelude.{ℕ, ◌&&◌, ◌||◌, not, Bool, true, false, Option, Some, None, is_some}
 use Rattle.feed_kbart.specs.Identifiers.{kind, online_isbn, online_issn, print_isbn, print_issn}
 use Rattle.feed_kbart.specs.RowValue.{RowValue}
 use Rattle.feed_kbart.specs.declared.identifiers.Kind.{Kind}
 use Rattle.feed_kbart.specs.declared.identifiers.Kind.TheVariants.{Serial, Book}
-use Rattle.feed_answer.specs.Grades.{is_named}
+use Rattle.feed_answer.specs.Grades.{days_grade, is_named, volume_grade}
 use Rattle.feed_answer.specs.QueryValue.{QueryValue}
+use Rattle.feed_answer.specs.declared.grade.Grade.{Grade}
+use Rattle.feed_answer.specs.declared.grade.Grade.TheVariants.{Inside, Overlap, Untested}
+use Rattle.feed_resolver_hits.specs.declared.search.Scope.{Scope}
+use Rattle.feed_resolver_hits.specs.declared.search.Scope.TheVariants.{Hits, Dated, Others}
 
--- a query, or only its identifiers, which ask for the whole titles
-abbrev pub searched : Bool → QueryValue → QueryValue
-searched is_of_titles query = record {
-  issns = query.issns;
-  isbns = query.isbns;
-  days = if is_of_titles then None else query.days;
-  volume = if is_of_titles then None else query.volume;
-}
+-- a query, which rows of its titles are searched for, and whether a book that it names comes before a serial
+pub record SearchValue : Type 0 where
+  pub query : QueryValue
+  pub scope : Scope
+  pub is_book_first : Bool
 
--- a query without its date and its volume
+-- the same query in another scope
+abbrev pub in_scope : Scope → SearchValue → SearchValue
+in_scope scope search = record { query = search.query; scope = scope; is_book_first = search.is_book_first }
+
+-- a query without its volume, and one without its date too, which asks for the whole titles
+abbrev pub without_volume : QueryValue → QueryValue
+without_volume query = record { issns = query.issns; isbns = query.isbns; days = query.days; volume = None }
+
 abbrev pub whole_titles : QueryValue → QueryValue
 whole_titles query = record { issns = query.issns; isbns = query.isbns; days = None; volume = None }
+
+-- the query that rows are compared with
+abbrev pub compared_as : Scope → QueryValue → QueryValue
+compared_as Hits query = query
+compared_as Dated query = without_volume query
+compared_as Others query = whole_titles query
+
+abbrev pub compared : SearchValue → QueryValue
+compared search = compared_as search.scope search.query
 
 -- a row of this kind has one of the identifiers of a query
 abbrev pub is_asked_as : Kind → QueryValue → RowValue → Bool
@@ -27,3 +44,24 @@ is_asked_as Book query row = is_named (print_isbn row.identifiers) query.isbns |
 
 abbrev pub is_asked : QueryValue → RowValue → Bool
 is_asked query row = is_asked_as (kind row.identifiers) query row
+
+-- days were compared, and some are covered
+abbrev pub is_covered : Option Grade → Bool
+is_covered (Some Inside) = true
+is_covered (Some Overlap) = true
+is_covered (Some Untested) = false
+is_covered None = false
+
+-- the row covers days that the query asks for, and does not have its volume; a book is compared with neither
+abbrev pub is_dated_as : Kind → QueryValue → RowValue → Bool
+is_dated_as Serial query row =
+    is_covered (days_grade row.first_day row.last_day query.days) && not (is_some (volume_grade row.first_volume row.last_volume query.volume))
+is_dated_as Book query row = false
+
+abbrev pub is_dated : QueryValue → RowValue → Bool
+is_dated query row = is_dated_as (kind row.identifiers) query row
+
+-- a row of this kind comes before others
+abbrev pub is_first_as : Kind → Bool → Bool
+is_first_as Serial is_book_first = false
+is_first_as Book is_book_first = is_book_first

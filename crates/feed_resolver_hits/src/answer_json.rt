@@ -1,12 +1,14 @@
-//! Writes the answer to a query as JSON: its citation, the query that is looked up, why none is, and the hits.
+//! Writes the answer to a query as JSON: its citation, the query that is looked up, why none is, the hits, and the rows
+//! whose date is covered and whose volume is not.
 ghost use Rattle.std.specs.Prelude.{◌≡◌, ◌++◌, OnOk};
 ghost use Rattle.std.specs.List.{flat_map};
-ghost use Rattle.feed_resolver_hits.specs.AnswerJson.{answer_json, answer_start, citation_front, citation_json};
+ghost use Rattle.feed_resolver_hits.specs.AnswerJson.{also_member, answer_json, answer_start, citation_front};
+ghost use Rattle.feed_resolver_hits.specs.AnswerJson.{citation_json};
 ghost use Rattle.feed_resolver_hits.specs.AnswerJson.{part_member, query_members};
 ghost use Rattle.feed_resolver_hits.specs.Tallying.{tally_from};
 
 use crate::ask::Ask;
-use crate::hits_json::put_hits_json;
+use crate::hits_json::{put_also_json, put_hits_json};
 use crate::tally::Tally;
 use feed_openurl::{Citation, PARTS, Part};
 use feed_pieces::put_all;
@@ -84,18 +86,29 @@ fn put_start(out: &mut Vec<u8>, ask: &Ask, refused: &[u8]) -> Result<(), AllocEr
     put_query(out, &ask.query, refused)
 }
 
-/// Writes the facts about a query, why nothing is looked up, or an empty reason, and the hits that a tally shows.
+#[tactic(auto, unfolding(crate::specs::AnswerJson::also_member))]
+fn put_also(out: &mut Vec<u8>, also: &Tally<'_>) -> Result<(), AllocError>
+    ensures { OnOk result (out.new.items ≡ out.old.items ++ also_member (tally_from also.now)) }
+{
+    put(out, b",\"also\":")?;
+    put_also_json(out, also)?;
+    put(out, b"}\n")
+}
+
+/// Writes the facts about a query, why nothing is looked up, or an empty reason, the hits that a tally shows, and the
+/// titles of another one, whose date is covered and whose volume is not.
 #[tactic(auto, unfolding(crate::specs::AnswerJson::answer_json))]
 pub fn put_answer_json(
     out: &mut Vec<u8>,
     ask: &Ask,
     refused: &[u8],
     tally: &Tally<'_>,
+    also: &Tally<'_>,
 ) -> Result<(), AllocError>
     ensures { OnOk result (out.new.items
-        ≡ out.old.items ++ answer_json ask.now refused.now (tally_from tally.now)) }
+        ≡ out.old.items ++ answer_json ask.now refused.now (tally_from tally.now) (tally_from also.now)) }
 {
     put_start(out, ask, refused)?;
     put_hits_json(out, tally)?;
-    put(out, b"}\n")
+    put_also(out, also)
 }

@@ -1,8 +1,9 @@
 //! Reads what a query asks for, in whatever form its source sent it.
 ghost use Rattle.std.specs.Prelude.{◌≡◌, IfOk};
 ghost use Rattle.feed_answer.specs.Queries.{query_of};
-ghost use Rattle.feed_resolver_hits.specs.Asked.{reason_of, read_back, asked_by, asked_of};
+ghost use Rattle.feed_resolver_hits.specs.Asked.{reason_of, read_back, asked_by, asked_of, search_by};
 
+use crate::lookup::Lookup;
 use feed_answer::{Query, QueryFault};
 use feed_openurl::{Refusal, Understanding};
 use std::alloc::{AllocError, Global};
@@ -41,18 +42,34 @@ fn asked_by(alloc: Global, understood: &Understanding) -> Result<Result<Query, R
     }
 }
 
-/// Returns what a query asks for, or why it asks for nothing. The query may have any length: the limit of the core
+fn looked_up(
+    alloc: Global,
+    text: &[u8],
+    asked: Result<Query, Refusal>,
+) -> Result<Result<Lookup, Refusal>, AllocError>
+    ensures { IfOk result (λ found. found ≡ search_by text.now asked) }
+{
+    match asked {
+        Ok(query) => Ok(Ok(Lookup::of(alloc, text, query)?)),
+        Err(reason) => Ok(Err(reason)),
+    }
+}
+
+/// Returns what is looked up for a query, or why nothing is. The query may have any length: the limit of the core
 /// applies to what is read of it.
 ///
 /// # Errors
 ///
 /// Running out of memory.
 #[tactic(auto, unfolding(crate::specs::Asked::asked_of))]
-pub fn read_query(alloc: Global, text: &[u8]) -> Result<Result<Query, Refusal>, AllocError>
+pub fn read_query(alloc: Global, text: &[u8]) -> Result<Result<Lookup, Refusal>, AllocError>
     ensures { IfOk result (λ asked. asked ≡ asked_of text.now) }
 {
     match Understanding::read(alloc, text) {
-        Ok(understood) => asked_by(alloc, &understood),
+        Ok(understood) => {
+            let asked = asked_by(alloc, &understood)?;
+            looked_up(alloc, text, asked)
+        }
         Err(_) => Err(AllocError),
     }
 }

@@ -2,13 +2,18 @@
 ghost use Rattle.std.specs.Prelude.{◌≡◌, IfOk, option_copied};
 ghost use Rattle.std.specs.Cow.{cow_slice_items};
 ghost use Rattle.feed_answer.specs.HitValue.{hit_of};
+ghost use Rattle.feed_site.specs.Held.{library_has};
 ghost use Rattle.feed_site.specs.Packages.{package_place};
-ghost use Rattle.feed_resolver_hits.specs.Hits.{days_asked, holds_day, holds_days, is_certain, is_held, link_text};
+ghost use Rattle.feed_kbart.specs.Identifiers.{kind};
+ghost use Rattle.feed_resolver_hits.specs.Hits.{days_asked, holds_day, holds_days, is_certain, is_found, is_held};
+ghost use Rattle.feed_resolver_hits.specs.Hits.{is_held_dated, link_text};
 ghost use Rattle.feed_resolver_hits.specs.Hits.{name_text, release_hit};
+ghost use Rattle.feed_resolver_hits.specs.Searches.{whole_titles};
 
+use crate::coverage_grade::is_dated;
 use crate::rank::{is_free, is_full_text};
-use crate::search::Search;
-use feed_answer::{Grade, Hit};
+use crate::search::{Scope, Search};
+use feed_answer::{Grade, Hit, Query};
 use feed_dates::DayRange;
 use feed_embargo::{Availability, Today, availability_of};
 use feed_kbart::{Kind, Row};
@@ -19,8 +24,8 @@ use std::borrow::CowSlice;
 use std::marker::Model;
 
 /// A hit, its release, how the days that the query asks for lie in those that are open to readers, the prefix of its
-/// link, if that goes through a proxy, the place of its package in the order of the site, and whether the library has
-/// all those days.
+/// link, if that goes through a proxy, the place of its package in the order of the site, whether the library has all
+/// those days, and whether it is a book that comes before its series.
 #[derive(Drop)]
 pub struct ReleaseHit<'a> {
     name: &'a ReleaseName,
@@ -30,6 +35,7 @@ pub struct ReleaseHit<'a> {
     prefix: Option<&'a str>,
     place: usize,
     is_held_whole: bool,
+    is_first: bool,
 }
 
 impl<'a> Model for ReleaseHit<'a> {
@@ -45,6 +51,7 @@ impl<'a> Model for ReleaseHit<'a> {
       prefix = option_copied f.prefix;
       place = f.place;
       is_held_whole = f.is_held_whole;
+      is_first = f.is_first;
     } };
 }
 
@@ -71,6 +78,7 @@ impl<'a> ReleaseHit<'a> {
             prefix: prefix_for(site, row.url(), is_free(row)),
             place: site_place,
             is_held_whole: holds_days(site, name, row, days_asked(row.kind(), search.days())),
+            is_first: search.is_first(row.kind()),
         }
     }
 
@@ -86,6 +94,7 @@ impl<'a> ReleaseHit<'a> {
             prefix: self.prefix,
             place: self.place,
             is_held_whole: self.is_held_whole,
+            is_first: self.is_first,
         }
     }
 
@@ -108,6 +117,13 @@ impl<'a> ReleaseHit<'a> {
         ensures { result ≡ self.now.place }
     {
         self.place
+    }
+
+    /// Returns whether the hit is a book that comes before its series.
+    pub(crate) fn is_first(&self) -> bool
+        ensures { result ≡ self.now.is_first }
+    {
+        self.is_first
     }
 
     /// Returns the name of the release.
@@ -186,19 +202,53 @@ fn holds_days(site: &SiteFile, name: &ReleaseName, row: &Row, asked: Option<DayR
     }
 }
 
-/// Returns whether the library has what is asked for of a hit of a release.
-pub(crate) fn is_held(
+// Returns whether the library has a row, on some of the days that are asked for if there are such.
+fn is_held_on(site: &SiteFile, name: &ReleaseName, row: &Row, days: Option<DayRange>) -> bool
+    ensures { result ≡ library_has site.now name.now.stem row.now.title_id row.now.first_day row.now.last_day
+        (days_asked (kind row.now.identifiers) days) }
+{
+    let (first, last) = (row.first_day(), row.last_day());
+    let asked = days_asked(row.kind(), days);
+    library_has(site, name.package(), row.title_id(), first, last, asked)
+}
+
+// Returns whether the library has what a query asks for of a hit of a release.
+fn is_held(site: &SiteFile, query: &Query, name: &ReleaseName, hit: &Hit<'_>) -> bool
+    ensures { result ≡ is_held site.now query.now name.now (hit_of hit.now) }
+{
+    is_held_on(site, name, hit.row, query.days())
+}
+
+// Returns the same whatever the date is.
+fn is_held_ever(site: &SiteFile, query: &Query, name: &ReleaseName, hit: &Hit<'_>) -> bool
+    ensures { result ≡ is_held site.now (whole_titles query.now) name.now (hit_of hit.now) }
+{
+    is_held_on(site, name, hit.row, None)
+}
+
+fn is_held_dated(site: &SiteFile, query: &Query, name: &ReleaseName, hit: &Hit<'_>) -> bool
+    ensures { result ≡ is_held_dated site.now query.now name.now (hit_of hit.now) }
+{
+    is_held(site, query, name, hit) && is_dated(hit.row, query)
+}
+
+/// Returns whether a hit of a release is one of those that are searched for, and the library has it.
+pub(crate) fn is_found(
     site: &SiteFile,
     search: &Search<'_>,
     name: &ReleaseName,
     hit: &Hit<'_>,
 ) -> bool
-    ensures { result ≡ is_held site.now search.now name.now (hit_of hit.now) }
+    ensures { result ≡ is_found site.now search.now name.now (hit_of hit.now) }
 {
-    let row = hit.row;
-    let (first, last) = (row.first_day(), row.last_day());
-    let asked = days_asked(row.kind(), search.days());
-    library_has(site, name.package(), row.title_id(), first, last, asked)
+    let query = search.query();
+    match search.scope() {
+        Scope::Hits => is_held(site, query, name, hit),
+        Scope::Dated => is_held_dated(site, query, name, hit),
+        Scope::Others => {
+            is_held_ever(site, query, name, hit) && !is_held_dated(site, query, name, hit)
+        }
+    }
 }
 
 /// Returns the text of a release's name.

@@ -5,7 +5,8 @@ ghost use Rattle.feed_resolver_reply.specs.JsonLists.{items_from};
 ghost use Rattle.feed_resolver_hits.specs.HitsJson.{availability_text, release_members, grade_members, title_members};
 ghost use Rattle.feed_resolver_hits.specs.HitsJson.{access_members, days_members, hit_object};
 ghost use Rattle.feed_resolver_hits.specs.HitsJson.{row_members, target_members, volumes_members};
-ghost use Rattle.feed_resolver_hits.specs.HitsJson.{more_start, more_object, more_items, hits_json};
+ghost use Rattle.feed_resolver_hits.specs.HitsJson.{also_json, hits_json, list_json};
+ghost use Rattle.feed_resolver_hits.specs.HitsJson.{more_start, more_object, more_items};
 ghost use Rattle.feed_resolver_hits.specs.Tallying.{tally_from};
 ghost use Rattle.feed_site.specs.Hosts.{shown_host};
 
@@ -170,8 +171,9 @@ fn put_access_members<'a>(
     out: &mut Vec<u8>,
     row: &'a Row,
     words: &'a [u8],
+    end: &'a [u8],
 ) -> Result<(), AllocError>
-    ensures { OnOk result (out.new.items ≡ out.old.items ++ access_members row.now words.now) }
+    ensures { OnOk result (out.new.items ≡ out.old.items ++ access_members row.now words.now end.now) }
 {
     put_all(
         out,
@@ -182,14 +184,14 @@ fn put_access_members<'a>(
             Piece::Quoted(words),
             Piece::Plain(b",\"access\":"),
             Piece::Quoted(row.access()),
-            Piece::Plain(b"}"),
+            Piece::Plain(end),
         ],
     )
 }
 
 #[tactic(auto, unfolding(crate::specs::HitsJson::hit_object))]
-fn put_object(out: &mut Vec<u8>, found: &ReleaseHit<'_>) -> Result<(), AllocError>
-    ensures { OnOk result (out.new.items ≡ out.old.items ++ hit_object found.now) }
+fn put_object(out: &mut Vec<u8>, end: &[u8], found: &ReleaseHit<'_>) -> Result<(), AllocError>
+    ensures { OnOk result (out.new.items ≡ out.old.items ++ hit_object end.now found.now) }
 {
     let row = found.row();
     let words = embargo_words(*out.allocator(), row.embargo())?;
@@ -197,15 +199,15 @@ fn put_object(out: &mut Vec<u8>, found: &ReleaseHit<'_>) -> Result<(), AllocErro
     put_release_members(out, found.name())?;
     put_grade_members(out, found)?;
     put_row_members(out, row, &link)?;
-    put_access_members(out, row, &words)
+    put_access_members(out, row, &words, end)
 }
 
-fn put_objects(out: &mut Vec<u8>, hits: &[ReleaseHit<'_>]) -> Result<(), AllocError>
-    ensures { OnOk result (out.new.items ≡ out.old.items ++ items_from hit_object 0 hits.now) }
+fn put_objects(out: &mut Vec<u8>, end: &[u8], hits: &[ReleaseHit<'_>]) -> Result<(), AllocError>
+    ensures { OnOk result (out.new.items ≡ out.old.items ++ items_from (hit_object end.now) 0 hits.now) }
 {
     for (place, found) in hits.iter().enumerate() {
         put_comma(out, place)?;
-        put_object(out, found)?;
+        put_object(out, end, found)?;
     }
     Ok(())
 }
@@ -246,13 +248,28 @@ fn put_more(out: &mut Vec<u8>, tally: &Tally<'_>) -> Result<(), AllocError>
     put_more_object(out, left_out as u64, tally.is_whole())
 }
 
+// Writes the hits that a tally shows as a list of objects with this end. If others are left out, the last item says how
+// many.
+#[tactic(auto, unfolding(crate::specs::HitsJson::list_json))]
+fn put_list(out: &mut Vec<u8>, end: &[u8], tally: &Tally<'_>) -> Result<(), AllocError>
+    ensures { OnOk result (out.new.items ≡ out.old.items ++ list_json end.now (tally_from tally.now)) }
+{
+    put_list_start(out)?;
+    put_objects(out, end, tally.top())?;
+    put_more(out, tally)?;
+    put_list_end(out)
+}
+
 /// Writes the hits that a tally shows as a list of objects. If others are left out, the last item says how many.
-#[tactic(auto, unfolding(crate::specs::HitsJson::hits_json))]
 pub(crate) fn put_hits_json(out: &mut Vec<u8>, tally: &Tally<'_>) -> Result<(), AllocError>
     ensures { OnOk result (out.new.items ≡ out.old.items ++ hits_json (tally_from tally.now)) }
 {
-    put_list_start(out)?;
-    put_objects(out, tally.top())?;
-    put_more(out, tally)?;
-    put_list_end(out)
+    put_list(out, b"}", tally)
+}
+
+/// Writes the same of titles whose date is covered and whose volume is not: each object says why it is not a hit.
+pub(crate) fn put_also_json(out: &mut Vec<u8>, also: &Tally<'_>) -> Result<(), AllocError>
+    ensures { OnOk result (out.new.items ≡ out.old.items ++ also_json (tally_from also.now)) }
+{
+    put_list(out, b",\"why\":\"volume\"}", also)
 }

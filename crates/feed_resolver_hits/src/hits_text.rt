@@ -5,12 +5,14 @@ ghost use Rattle.feed_names.specs.ReleaseName.{text_of};
 ghost use Rattle.feed_answer.specs.Answers.{answer_of};
 ghost use Rattle.feed_resolver_hits.specs.Hits.{library_hits};
 ghost use Rattle.feed_resolver_hits.specs.HitsText.{cut_head_line, release_head_line, release_hit_line, release_text};
+ghost use Rattle.feed_resolver_hits.specs.Searches.{compared};
 ghost use Rattle.feed_resolver_hits.specs.Tallying.{with_hits, tally_from};
 
 use crate::hits::ReleaseHit;
+use crate::lookup::Lookup;
 use crate::search::Search;
 use crate::tally::Tally;
-use feed_answer::{Query, write_head, write_hit};
+use feed_answer::{write_head, write_hit};
 use feed_embargo::Today;
 use feed_kbart::Holdings;
 use feed_names::ReleaseName;
@@ -94,17 +96,17 @@ pub fn put_release<'a>(
     today: &Today,
     name: &'a ReleaseName,
     holdings: &'a Holdings,
-    query: &Query,
+    lookup: &Lookup,
 ) -> Result<(), AllocError>
     ensures tally { OnOk result (tally.new
-        ≡ with_hits tally.old (library_hits site.now today.now query.now name.now
-        (answer_of holdings.now query.now))) }
+        ≡ with_hits tally.old (library_hits site.now today.now lookup.now name.now
+        (answer_of holdings.now (compared lookup.now)))) }
     ensures text { OnOk result (out.new.items
         ≡ out.old.items ++ release_text (tally_from tally.old) (tally_from tally.new) name.now) }
 {
     let counted = tally.count();
     let shown = tally.shown().len();
-    let search = Search::of(query);
+    let search = Search::of(lookup);
     tally.add_release(alloc, site, today, name, holdings, &search)?;
     let count = tally.count().saturating_sub(counted);
     put_head(out, name, count, tally.is_whole())?;

@@ -1,6 +1,6 @@
 //! Laws of hits, each stated as the contract of a function with an empty body.
-ghost use Rattle.feed_resolver_hits.specs.Laws.{AnswerIsJson, BestLinkRanksHighest, HitsAreJson, RedirectsToLink};
-ghost use Rattle.feed_resolver_hits.specs.Laws.{LinksAreProxied, RanksInOrder, SoleLinkIsOfSoleHit};
+ghost use Rattle.feed_resolver_hits.specs.Laws.{AnswerIsJson, BestLinkRanksHighest, BooksComeFirst, HitsAreJson};
+ghost use Rattle.feed_resolver_hits.specs.Laws.{LinksAreProxied, RanksInOrder, RedirectsToLink, SoleLinkIsOfSoleHit};
 ghost use Rattle.feed_resolver_hits.specs.Laws.{TallyTellsOfHits};
 
 /// The URL of a redirect is one of `http` or `https` in at most 8,000 bytes of visible ASCII, so no byte of a file can
@@ -19,10 +19,16 @@ pub fn best_link_ranks_highest()
     ensures { BestLinkRanksHighest }
 {}
 
-/// One hit ranks above another exactly if its availability is better, or that is the same and its grade is better, or
-/// both are the same and its depth and access are.
+/// One hit ranks above another exactly if it is a book that comes before its series and the other is not, or else its
+/// availability is better, or that is the same and its grade is better, or both are the same and its depth and access
+/// are, or these are too and the site lists its package first.
 pub fn ranks_in_order()
     ensures { RanksInOrder }
+{}
+
+/// Where a book comes before its series, each hit that is a book ranks above each that is a serial.
+pub fn books_come_first()
+    ensures { BooksComeFirst }
 {}
 
 /// A sole link is that of the only hit, which is available and covers the whole of what is asked for, in full text, and
@@ -44,7 +50,7 @@ pub fn hits_are_json()
 {}
 
 /// An answer in JSON is, by its grammar, an object with the citation, the query that is looked up, the reason why none
-/// is, and the hits.
+/// is, the hits, and the titles whose date is covered and whose volume is not.
 pub fn answer_is_json()
     ensures { AnswerIsJson }
 {}

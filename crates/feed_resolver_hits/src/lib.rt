@@ -6,12 +6,14 @@ mod answer_json;
 mod ask;
 mod asked;
 mod coverage;
+mod coverage_grade;
 mod embargo_words;
 mod hits;
 mod hits_json;
 mod hits_text;
 mod laws;
 mod links;
+mod lookup;
 mod rank;
 mod search;
 mod shown;
@@ -26,9 +28,10 @@ pub use hits::{ReleaseHit, name_text};
 pub use hits_json::put_release_members;
 pub use hits_text::put_release;
 pub use laws::{
-    answer_is_json, best_link_ranks_highest, hits_are_json, links_are_proxied, ranks_in_order,
-    redirects_to_link, sole_link_is_of_sole_hit, tally_tells_of_hits,
+    answer_is_json, best_link_ranks_highest, books_come_first, hits_are_json, links_are_proxied,
+    ranks_in_order, redirects_to_link, sole_link_is_of_sole_hit, tally_tells_of_hits,
 };
+pub use lookup::Lookup;
 pub use rank::{is_free, is_full_text};
-pub use search::Search;
+pub use search::{Scope, Search};
 pub use tally::Tally;

@@ -1,7 +1,7 @@
 //! The rank of a hit among those of a query.
 ghost use Rattle.std.specs.Prelude.{◌≡◌, ◌<◌};
 ghost use Rattle.feed_resolver_hits.specs.Hits.{availability_rank, grade_rank, is_free, is_full_text, is_word};
-ghost use Rattle.feed_resolver_hits.specs.Hits.{place_rank, rank_of, text_rank};
+ghost use Rattle.feed_resolver_hits.specs.Hits.{first_rank, place_rank, rank_of, text_rank};
 
 use crate::hits::ReleaseHit;
 use feed_answer::Grade;
@@ -32,7 +32,8 @@ fn grade_rank(grade: Grade) -> u32
     }
 }
 
-fn is_word(text: &[u8], word: &[u8]) -> bool
+/// Returns whether a trimmed text is a word, in any case.
+pub(crate) fn is_word(text: &[u8], word: &[u8]) -> bool
     ensures { result ≡ is_word word.now text.now }
 {
     trim_spaces(text).eq_ignore_ascii_case(word)
@@ -73,13 +74,21 @@ fn place_rank(place: usize) -> u32
     65_535_usize.saturating_sub(place) as u32
 }
 
-/// Returns the rank of a hit: by its availability, then by its grade, then by its depth and access, then by the place
-/// of its package in the order of the site.
+// Returns the rank of a book that comes before its series: it is above all others.
+fn first_rank(is_first: bool) -> u32
+    ensures value { result ≡ first_rank is_first }
+    ensures bound { result < 2 }
+{
+    if is_first { 1 } else { 0 }
+}
+
+/// Returns the rank of a hit: by whether it is a book that comes before its series, then by its availability, then by
+/// its grade, then by its depth and access, then by the place of its package in the order of the site.
 pub(crate) fn rank_of(found: &ReleaseHit<'_>) -> u32
     ensures { result ≡ rank_of found.now }
 {
     let quality = 9 * availability_rank(found.availability())
         + 3 * grade_rank(found.grade())
         + text_rank(found.row());
-    65_536 * quality + place_rank(found.place())
+    65_536 * (36 * first_rank(found.is_first()) + quality) + place_rank(found.place())
 }

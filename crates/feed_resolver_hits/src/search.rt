@@ -1,30 +1,44 @@
-//! A search for the hits of a query, or for those of its titles, whatever its date and its volume are.
+//! A search for the hits of a query, for the titles whose date is covered, or for those of other dates.
 ghost use Rattle.std.specs.Prelude.{◌≡◌, option_map};
-ghost use Rattle.feed_answer.specs.Grades.{is_named};
+ghost use Rattle.feed_answer.specs.Grades.{grade_of, is_named};
 ghost use Rattle.feed_answer.specs.HitValue.{hit_of};
 ghost use Rattle.feed_answer.specs.Places.{hit_at};
-ghost use Rattle.feed_resolver_hits.specs.Searches.{is_asked, is_asked_as, whole_titles};
+ghost use Rattle.feed_resolver_hits.specs.Searches.{compared, in_scope, is_asked, is_asked_as, is_first_as};
+ghost use Rattle.feed_resolver_hits.specs.Searches.{whole_titles, without_volume};
+ghost use Rattle.feed_resolver_hits.specs.declared.search.Scope.TheVariants as scope;
 
+use crate::coverage_grade::days_grade;
+use crate::lookup::Lookup;
 use feed_answer::{Grade, Hit, Query, hit_at};
 use feed_dates::DayRange;
 use feed_identifiers::{Isbn, Issn};
 use feed_kbart::{Kind, Row};
 use std::marker::Model;
 
-/// A search for the hits of a query, or for those of its titles, whatever its date and its volume are.
+/// Which rows of the titles that a query names are searched for.
+#[derive(Clone, Copy)]
+pub enum Scope {
+    /// Those that match the query.
+    Hits,
+    /// Those that cover its date, and do not have its volume.
+    Dated,
+    /// All that are not among these, whatever their dates and their volumes are.
+    Others,
+}
+
+/// A search for some rows of the titles that a query names.
 #[derive(Drop)]
 pub struct Search<'a> {
-    query: &'a Query,
-    is_of_titles: bool,
+    lookup: &'a Lookup,
+    scope: Scope,
 }
 
 impl<'a> Model for Search<'a> {
-    ghost use Rattle.feed_answer.specs.QueryValue.{QueryValue};
-    ghost use Rattle.feed_resolver_hits.specs.Searches.{searched};
+    ghost use Rattle.feed_resolver_hits.specs.Searches.{SearchValue, in_scope};
 
-    ghost Value = { QueryValue };
+    ghost Value = { SearchValue };
 
-    ghost view = { λ s. searched s.is_of_titles s.query.now };
+    ghost view = { λ s. in_scope s.scope s.lookup.now };
 }
 
 fn is_issn_named(issn: Option<Issn>, issns: &[Issn]) -> bool
@@ -69,54 +83,101 @@ fn title_at<'r>(rows: &'r [Row], place: u32, query: &Query) -> Option<Hit<'r>>
     }
 }
 
+fn dated_grade(row: &Row, query: &Query) -> Option<Grade>
+    ensures { result ≡ grade_of (without_volume query.now) row.now }
+{
+    if !is_asked(query, row) {
+        return None;
+    }
+    match row.kind() {
+        Kind::Serial => days_grade(row, query.days()),
+        Kind::Book => Some(Grade::Untested),
+    }
+}
+
+// Returns the row at a place with its grade by the date, if it exists and matches whatever its volumes are.
+fn dated_at<'r>(rows: &'r [Row], place: u32, query: &Query) -> Option<Hit<'r>>
+    ensures { option_map hit_of result ≡ hit_at (without_volume query.now) rows.now place }
+{
+    let row = rows.get(place as usize)?;
+    let grade = dated_grade(row, query)?;
+    Some(Hit { row, grade })
+}
+
 impl<'a> Search<'a> {
     /// Returns the search for the hits of a query.
-    pub fn of(query: &'a Query) -> Search<'a>
-        ensures { result ≡ query.now }
+    pub fn of(lookup: &'a Lookup) -> Search<'a>
+        ensures { result ≡ lookup.now }
     {
         Search {
-            query,
-            is_of_titles: false,
+            lookup,
+            scope: lookup.scope(),
         }
     }
 
-    /// Returns the search for the hits of the titles that a query asks for, whatever its date and its volume are.
-    pub fn of_titles(query: &'a Query) -> Search<'a>
-        ensures { result ≡ whole_titles query.now }
+    /// Returns the search for the rows that cover the date of a query, and do not have its volume.
+    pub fn dated(lookup: &'a Lookup) -> Search<'a>
+        ensures { result ≡ in_scope scope.Dated lookup.now }
     {
         Search {
-            query,
-            is_of_titles: true,
+            lookup,
+            scope: Scope::Dated,
         }
     }
 
-    /// Returns the query with the same identifiers.
+    /// Returns the search for all other rows of the titles that a query names, whatever its date and its volume are.
+    pub fn others(lookup: &'a Lookup) -> Search<'a>
+        ensures { result ≡ in_scope scope.Others lookup.now }
+    {
+        Search {
+            lookup,
+            scope: Scope::Others,
+        }
+    }
+
+    /// Returns the query.
     pub(crate) fn query(&self) -> &'a Query
-        ensures issns { result.now.issns ≡ self.now.issns }
-        ensures isbns { result.now.isbns ≡ self.now.isbns }
+        ensures { result.now ≡ self.now.query }
     {
-        self.query
+        self.lookup.query()
     }
 
-    /// Returns the days that are asked for.
-    pub(crate) fn days(&self) -> Option<DayRange>
-        ensures { result ≡ self.now.days }
+    /// Returns which rows are searched for.
+    pub(crate) fn scope(&self) -> Scope
+        ensures { result ≡ self.now.scope }
     {
-        if self.is_of_titles {
-            None
-        } else {
-            self.query.days()
+        self.scope
+    }
+
+    /// Returns whether a row of this kind comes before others.
+    pub(crate) fn is_first(&self, kind: Kind) -> bool
+        ensures { result ≡ is_first_as kind self.now.is_book_first }
+    {
+        match kind {
+            Kind::Serial => false,
+            Kind::Book => self.lookup.is_book_first(),
+        }
+    }
+
+    /// Returns the days that rows are compared with.
+    pub(crate) fn days(&self) -> Option<DayRange>
+        ensures { result ≡ (compared self.now).days }
+    {
+        match self.scope {
+            Scope::Hits => self.query().days(),
+            Scope::Dated => self.query().days(),
+            Scope::Others => None,
         }
     }
 
     /// Returns the row at a place with its grade, if the row exists and matches.
     pub(crate) fn hit_at<'r>(&self, rows: &'r [Row], place: u32) -> Option<Hit<'r>>
-        ensures { option_map hit_of result ≡ hit_at self.now rows.now place }
+        ensures { option_map hit_of result ≡ hit_at (compared self.now) rows.now place }
     {
-        if self.is_of_titles {
-            title_at(rows, place, self.query)
-        } else {
-            hit_at(rows, place, self.query)
+        match self.scope {
+            Scope::Hits => hit_at(rows, place, self.query()),
+            Scope::Dated => dated_at(rows, place, self.query()),
+            Scope::Others => title_at(rows, place, self.query()),
         }
     }
 }

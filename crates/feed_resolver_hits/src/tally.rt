@@ -7,10 +7,11 @@ ghost use Rattle.feed_answer.specs.HitValue.{hit_of};
 ghost use Rattle.feed_answer.specs.Places.{hit_at};
 ghost use Rattle.feed_site.specs.Packages.{package_place};
 ghost use Rattle.feed_resolver_hits.specs.Hits.{library_hits};
+ghost use Rattle.feed_resolver_hits.specs.Searches.{compared};
 ghost use Rattle.feed_resolver_hits.specs.Tallies.{left_out, sole_link};
 ghost use Rattle.feed_resolver_hits.specs.Tallying.{no_hits, with_hit, with_hits, tally_from};
 
-use crate::hits::{ReleaseHit, is_held};
+use crate::hits::{ReleaseHit, is_found};
 use crate::links::Links;
 use crate::search::Search;
 use crate::shown::Shown;
@@ -153,11 +154,11 @@ impl<'a> Tally<'a> {
         requires { site_place ≡ package_place site.now name.now.stem }
         ensures { OnOk result (self.new
             ≡ with_hits self.old (library_hits site.now today.now search.now name.now
-            (filter_map (hit_at search.now rows.now) (place ∷ [])))) }
+            (filter_map (hit_at (compared search.now) rows.now) (place ∷ [])))) }
     {
         match search.hit_at(rows, place) {
             Some(hit) => {
-                if is_held(site, search, name, &hit) {
+                if is_found(site, search, name, &hit) {
                     let found = ReleaseHit::new(site, today, search, name, site_place, &hit);
                     self.count_hit(alloc, found)
                 } else {
@@ -182,7 +183,7 @@ impl<'a> Tally<'a> {
         requires { site_place ≡ package_place site.now name.now.stem }
         ensures { OnOk result (self.new
             ≡ with_hits self.old (library_hits site.now today.now search.now name.now
-            (filter_map (hit_at search.now rows.now) places.now))) }
+            (filter_map (hit_at (compared search.now) rows.now) places.now))) }
     {
         for place in places {
             if !self.is_whole {
@@ -206,7 +207,7 @@ impl<'a> Tally<'a> {
     ) -> Result<(), AllocError>
         ensures { OnOk result (self.new
             ≡ with_hits self.old (library_hits site.now today.now search.now name.now
-            (answer_of holdings.now search.now))) }
+            (answer_of holdings.now (compared search.now)))) }
     {
         let site_place = package_place(site, name.package());
         let places = places_of(alloc, holdings, search.query())?;

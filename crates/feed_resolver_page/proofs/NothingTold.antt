@@ -9,9 +9,9 @@ use Rattle.feed_resolver_hits.specs.Tallying.{RunningValue, no_hits, tally_from}
 use Rattle.feed_resolver_hits.proofs.Tallies.{tally_is}
 
 pub nothing_told : (old new refused : List ℕ) (ask : AskValue) (reason : Refusal) (running : RunningValue) → refused ≡ reason_text reason → running ≡ no_hits
-    → new ≡ old ++ answer_json ask refused (tally_from running) → new ≡ old ++ nothing_json ask reason
+    → new ≡ old ++ answer_json ask refused (tally_from running) (tally_from running) → new ≡ old ++ nothing_json ask reason
 unfolding nothing_json
 nothing_told old new refused ask reason running same made is =
-    is ∙ ap (λ r. old ++ answer_json ask r (tally_from running)) same
-    ∙ ap (λ (r : RunningValue). old ++ answer_json ask (reason_text reason) (tally_from r)) made
-    ∙ ap (λ (t : TallyValue). old ++ answer_json ask (reason_text reason) t) (tally_is [])
+    is ∙ ap (λ r. old ++ answer_json ask r (tally_from running) (tally_from running)) same
+    ∙ ap (λ (r : RunningValue). old ++ answer_json ask (reason_text reason) (tally_from r) (tally_from r)) made
+    ∙ ap (λ (t : TallyValue). old ++ answer_json ask (reason_text reason) t t) (tally_is [])

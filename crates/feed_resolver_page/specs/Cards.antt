@@ -18,13 +18,14 @@ use Rattle.feed_page_texts.specs.declared.table.Text.{Text}
 use Rattle.feed_page_texts.specs.declared.table.Text.TheVariants as text
 use Rattle.feed_resolver_page.specs.declared.card.Fit.{Fit}
 use Rattle.feed_resolver_page.specs.declared.card.TheConstants.{BUTTON, HIDDEN, BUTTON_END, COVERAGE, CARD_END}
-use Rattle.feed_resolver_page.specs.declared.card.Fit.TheVariants.{Hit, Outside}
+use Rattle.feed_resolver_page.specs.declared.card.Fit.TheVariants.{Hit, Dated, Outside}
 
 -- the class that gives a fit its colour
 abbrev pub fit_class : Fit → List ℕ
 fit_class (Hit Inside) = codes "inside"
 fit_class (Hit Overlap) = codes "partly"
 fit_class (Hit Untested) = codes "partly"
+fit_class Dated = codes "partly"
 fit_class Outside = codes "partly"
 
 -- how a card fits what is asked for
@@ -32,6 +33,7 @@ abbrev pub fit_text : Fit → Text
 fit_text (Hit Inside) = text.Inside
 fit_text (Hit Overlap) = text.Overlap
 fit_text (Hit Untested) = text.Untested
+fit_text Dated = text.VolumeOutside
 fit_text Outside = text.Outside
 
 unfoldable pub fit_part : site_file.SiteValue → Fit → List ℕ

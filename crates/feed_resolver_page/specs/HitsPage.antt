@@ -1,5 +1,5 @@
 -- The hits of a query as an HTML page.
-use Rattle.std.specs.Prelude.{ℕ, ◌==◌, Bool, true, false, if◌then◌else◌, List, [], ◌∷◌, ◌++◌, codes, Option, Some, None}
+use Rattle.std.specs.Prelude.{ℕ, ◌==◌, ◌&&◌, Bool, true, false, if◌then◌else◌, List, [], ◌∷◌, ◌++◌, codes, Option, Some, None}
 use Rattle.std.specs.List.{flat_map}
 use Rattle.std.specs.Fmt.{decimal}
 use Rattle.form_urlencoded.specs.Form as form
@@ -17,7 +17,7 @@ use Rattle.feed_resolver_page.specs.CitationPage.{citation_part}
 use Rattle.feed_resolver_page.specs.Frames.{page_end, page_top}
 use Rattle.feed_resolver_page.specs.SearchForms.{isbn_in, issn_in, search_form}
 use Rattle.feed_site.specs.Texts.{text_of}
-use Rattle.feed_resolver_page.specs.declared.card.Fit.TheVariants.{Hit, Outside}
+use Rattle.feed_resolver_page.specs.declared.card.Fit.TheVariants.{Hit, Dated, Outside}
 use Rattle.feed_resolver_page.specs.declared.hits_page.TheConstants.{LIST, LIST_END}
 use Rattle.feed_page_texts.specs.declared.table.Text.{Text}
 use Rattle.feed_page_texts.specs.declared.table.Text.TheVariants as text
@@ -26,16 +26,19 @@ use Rattle.feed_page_texts.specs.declared.table.Text.TheVariants as text
 abbrev pub hit_card : site_file.SiteValue → List ℕ → ReleaseHitValue → List ℕ
 hit_card site cited found = card site cited (Hit found.hit.grade) found
 
--- the cards of hits, beside a cited title
-unfoldable pub cards : site_file.SiteValue → List ℕ → List ReleaseHitValue → List ℕ
-cards site cited hits = LIST.now ++ (flat_map (hit_card site cited) hits ++ LIST_END.now)
+-- the card of a title whose date is covered, and whose volume is not
+abbrev pub also_card : site_file.SiteValue → List ℕ → ReleaseHitValue → List ℕ
+also_card site cited found = card site cited Dated found
 
 -- the card of a title whose coverage does not match
 abbrev pub other_card : site_file.SiteValue → List ℕ → ReleaseHitValue → List ℕ
 other_card site cited found = card site cited Outside found
 
-unfoldable pub other_cards : site_file.SiteValue → List ℕ → List ReleaseHitValue → List ℕ
-other_cards site cited hits = LIST.now ++ (flat_map (other_card site cited) hits ++ LIST_END.now)
+-- the cards beside a cited title: those of hits, then those whose date is covered, then all others
+unfoldable pub cards : site_file.SiteValue → List ℕ → List ReleaseHitValue → List ReleaseHitValue → List ReleaseHitValue → List ℕ
+cards site cited hits also others =
+    LIST.now ++ (flat_map (hit_card site cited) hits
+    ++ (flat_map (also_card site cited) also ++ (flat_map (other_card site cited) others ++ LIST_END.now)))
 
 -- the words before a number of hits, which may be too small
 abbrev pub least : Bool → Text
@@ -56,25 +59,26 @@ more_part site tally = if left_out tally == 0 then [] else more_text site (left_
 unfoldable pub paragraph : site_file.SiteValue → Text → List ℕ
 paragraph site name = joined (codes "<p class=\"note\">" ∷ escaped (text_of site name) ∷ codes "</p>\n" ∷ [])
 
--- the hits
-abbrev pub hits_part : site_file.SiteValue → List ℕ → TallyValue → List ℕ
-hits_part site cited tally = cards site cited tally.top ++ more_part site tally
+-- that the library has the titles for another date or volume alone
+abbrev pub held_part : site_file.SiteValue → ℕ → List ℕ
+held_part site count = if count == 0 then paragraph site text.HeldOther else []
 
--- that the library has the titles for other dates or volumes alone, or not at all
-abbrev pub others_part : site_file.SiteValue → List ℕ → TallyValue → List ℕ
-others_part site cited others =
-    if others.count == 0
-    then paragraph site text.NoHoldings
-    else paragraph site text.HeldOther ++ other_cards site cited others.top
+unfoldable pub cards_part : site_file.SiteValue → List ℕ → TallyValue → TallyValue → TallyValue → List ℕ
+cards_part site cited tally also others =
+    held_part site tally.count ++ (cards site cited tally.top also.top others.top ++ more_part site tally)
 
--- the hits, or what there is if there are none
-abbrev pub found_part : site_file.SiteValue → List ℕ → TallyValue → TallyValue → List ℕ
-found_part site cited tally others =
-    if tally.count == 0 then others_part site cited others else hits_part site cited tally
+-- there is no card
+abbrev pub is_none : TallyValue → TallyValue → TallyValue → Bool
+is_none tally also others = (tally.count == 0) && ((also.count == 0) && (others.count == 0))
+
+-- the cards, or that there are none
+abbrev pub found_part : site_file.SiteValue → List ℕ → TallyValue → TallyValue → TallyValue → List ℕ
+found_part site cited tally also others =
+    if is_none tally also others then paragraph site text.NoHoldings else cards_part site cited tally also others
 
 -- the citation of the query, and what was found
-unfoldable pub answer_part : site_file.SiteValue → List (List ℕ × List ℕ) → AskValue → TallyValue → TallyValue → List ℕ
-answer_part site pairs ask tally others = citation_part site pairs ask ++ found_part site (text_at ask.citation part.Title) tally others
+unfoldable pub answer_part : site_file.SiteValue → List (List ℕ × List ℕ) → AskValue → TallyValue → TallyValue → TallyValue → List ℕ
+answer_part site pairs ask tally also others = citation_part site pairs ask ++ found_part site (text_at ask.citation part.Title) tally also others
 
 unfoldable pub link_to : List ℕ → List ℕ → List ℕ
 link_to label url = joined (codes "<p><a href=\"" ∷ escaped url ∷ codes "\">" ∷ escaped label ∷ codes "</a></p>\n" ∷ [])
@@ -123,11 +127,11 @@ page_bottom site pairs ask = request_part site ask pairs ++ (search_part site pa
 abbrev pub page_name : ℕ → Text
 page_name count = if count == 0 then text.NoFullText else text.FullText
 
--- the page of the hits of a query with these pairs; if there are none, it shows the other tally
-unfoldable pub page_of_hits : site_file.SiteValue → List (List ℕ × List ℕ) → AskValue → TallyValue → TallyValue → List ℕ
-page_of_hits site pairs ask tally others =
-    page_top site (page_name tally.count) ++ (answer_part site pairs ask tally others ++ page_bottom site pairs ask)
+-- the page of the hits of a query with these pairs, and of two other tallies
+unfoldable pub page_of_hits : site_file.SiteValue → List (List ℕ × List ℕ) → AskValue → TallyValue → TallyValue → TallyValue → List ℕ
+page_of_hits site pairs ask tally also others =
+    page_top site (page_name tally.count) ++ (answer_part site pairs ask tally also others ++ page_bottom site pairs ask)
 
 -- the same of a query as it is sent
-abbrev pub hits_page : site_file.SiteValue → List ℕ → AskValue → TallyValue → TallyValue → List ℕ
-hits_page site query ask tally others = page_of_hits site (form.parse query) ask tally others
+abbrev pub hits_page : site_file.SiteValue → List ℕ → AskValue → TallyValue → TallyValue → TallyValue → List ℕ
+hits_page site query ask tally also others = page_of_hits site (form.parse query) ask tally also others

@@ -55,7 +55,7 @@ unfoldable pub nothing_text : Refusal → List ℕ
 nothing_text why = joined (codes "nothing to look up: " ∷ reason_text why ∷ codes "\n" ∷ [])
 
 unfoldable pub nothing_json : AskValue → Refusal → List ℕ
-nothing_json ask why = answer_json ask (reason_text why) (tally_of [])
+nothing_json ask why = answer_json ask (reason_text why) (tally_of []) (tally_of [])
 
 -- the body for such a query, by whether its citation names a work
 unfoldable pub numberless_body : site_file.SiteValue → List ℕ → Bool → Representation → AskValue → Refusal → List ℕ

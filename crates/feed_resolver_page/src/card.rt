@@ -34,6 +34,8 @@ const CARD_END: &[u8] = b"</div>\n</li>\n";
 pub enum Fit {
     /// A hit of this grade.
     Hit(Grade),
+    /// A title that is asked for, whose date is covered and whose volume is not.
+    Dated,
     /// A title that is asked for, whose coverage does not match.
     Outside,
 }
@@ -55,6 +57,7 @@ fn fit_text(fit: Fit) -> Text
         Fit::Hit(Grade::Inside) => Text::Inside,
         Fit::Hit(Grade::Overlap) => Text::Overlap,
         Fit::Hit(Grade::Untested) => Text::Untested,
+        Fit::Dated => Text::VolumeOutside,
         Fit::Outside => Text::Outside,
     }
 }

@@ -2,10 +2,10 @@
 ghost use Rattle.std.specs.Prelude.{◌≡◌, ◌++◌, OnOk, option_copied};
 ghost use Rattle.std.specs.List.{flat_map};
 ghost use Rattle.feed_resolver_hits.specs.Tallying.{tally_from};
-ghost use Rattle.feed_resolver_page.specs.HitsPage.{answer_part, cards, cited_of, found_part, help_part, hit_card};
-ghost use Rattle.feed_resolver_page.specs.HitsPage.{hits_page, hits_part, least, link_part, link_to, more_part};
-ghost use Rattle.feed_resolver_page.specs.HitsPage.{more_text};
-ghost use Rattle.feed_resolver_page.specs.HitsPage.{other_card, other_cards, others_part, page_bottom, page_foot};
+ghost use Rattle.feed_resolver_page.specs.HitsPage.{also_card, answer_part, cards, cards_part, cited_of, found_part};
+ghost use Rattle.feed_resolver_page.specs.HitsPage.{held_part, help_part, hit_card, hits_page, is_none, least};
+ghost use Rattle.feed_resolver_page.specs.HitsPage.{link_part, link_to, more_part, more_text};
+ghost use Rattle.feed_resolver_page.specs.HitsPage.{other_card, page_bottom, page_foot};
 ghost use Rattle.feed_resolver_page.specs.HitsPage.{page_name, page_of_hits, paragraph, request_part, request_section};
 ghost use Rattle.feed_resolver_page.specs.HitsPage.{search_part, section_heading};
 
@@ -48,6 +48,31 @@ fn put_hits(
 {
     for found in hits {
         put_hit(out, site, cited, found)?;
+    }
+    Ok(())
+}
+
+fn put_also(
+    out: &mut Vec<u8>,
+    site: &SiteFile,
+    cited: &[u8],
+    found: &ReleaseHit<'_>,
+) -> Result<(), AllocError>
+    ensures { OnOk result (out.new.items ≡ out.old.items ++ also_card site.now cited.now found.now) }
+{
+    put_card(out, site, cited, Fit::Dated, found)
+}
+
+fn put_dated(
+    out: &mut Vec<u8>,
+    site: &SiteFile,
+    cited: &[u8],
+    hits: &[ReleaseHit<'_>],
+) -> Result<(), AllocError>
+    ensures { OnOk result (out.new.items ≡ out.old.items ++ flat_map (also_card site.now cited.now) hits.now) }
+{
+    for found in hits {
+        put_also(out, site, cited, found)?;
     }
     Ok(())
 }
@@ -139,63 +164,58 @@ pub(crate) fn put_paragraph(
     )
 }
 
-// Writes the cards of hits.
+// Writes the cards: those of hits, then those of titles whose date is covered, then those of other dates.
 #[tactic(auto, unfolding(crate::specs::HitsPage::cards))]
 fn put_cards(
     out: &mut Vec<u8>,
     site: &SiteFile,
     cited: &[u8],
     hits: &[ReleaseHit<'_>],
+    also: &[ReleaseHit<'_>],
+    others: &[ReleaseHit<'_>],
 ) -> Result<(), AllocError>
-    ensures { OnOk result (out.new.items ≡ out.old.items ++ cards site.now cited.now hits.now) }
+    ensures { OnOk result (out.new.items
+        ≡ out.old.items ++ cards site.now cited.now hits.now also.now others.now) }
 {
     put(out, LIST)?;
     put_hits(out, site, cited, hits)?;
+    put_dated(out, site, cited, also)?;
+    put_others(out, site, cited, others)?;
     put(out, LIST_END)
 }
 
-// Writes the cards of titles whose coverage does not match.
-#[tactic(auto, unfolding(crate::specs::HitsPage::other_cards))]
-fn put_other_cards(
-    out: &mut Vec<u8>,
-    site: &SiteFile,
-    cited: &[u8],
-    hits: &[ReleaseHit<'_>],
-) -> Result<(), AllocError>
-    ensures { OnOk result (out.new.items ≡ out.old.items ++ other_cards site.now cited.now hits.now) }
+// Writes that the library has the titles for another date or volume alone, if there is no hit.
+fn put_held(out: &mut Vec<u8>, site: &SiteFile, count: usize) -> Result<(), AllocError>
+    ensures { OnOk result (out.new.items ≡ out.old.items ++ held_part site.now count) }
 {
-    put(out, LIST)?;
-    put_others(out, site, cited, hits)?;
-    put(out, LIST_END)
-}
-
-fn put_others_part(
-    out: &mut Vec<u8>,
-    site: &SiteFile,
-    cited: &[u8],
-    others: &Tally<'_>,
-) -> Result<(), AllocError>
-    ensures { OnOk result (out.new.items
-        ≡ out.old.items ++ others_part site.now cited.now (tally_from others.now)) }
-{
-    if others.count() == 0 {
-        return put_paragraph(out, site, Text::NoHoldings);
+    if count > 0 {
+        return Ok(());
     }
-    put_paragraph(out, site, Text::HeldOther)?;
-    put_other_cards(out, site, cited, others.top())
+    put_paragraph(out, site, Text::HeldOther)
 }
 
-fn put_hits_part(
+#[tactic(auto, unfolding(crate::specs::HitsPage::cards_part))]
+fn put_cards_part(
     out: &mut Vec<u8>,
     site: &SiteFile,
     cited: &[u8],
     tally: &Tally<'_>,
+    also: &Tally<'_>,
+    others: &Tally<'_>,
 ) -> Result<(), AllocError>
     ensures { OnOk result (out.new.items
-        ≡ out.old.items ++ hits_part site.now cited.now (tally_from tally.now)) }
+        ≡ out.old.items
+        ++ cards_part site.now cited.now (tally_from tally.now) (tally_from also.now) (tally_from others.now)) }
 {
-    put_cards(out, site, cited, tally.top())?;
+    put_held(out, site, tally.count())?;
+    put_cards(out, site, cited, tally.top(), also.top(), others.top())?;
     put_more(out, site, tally)
+}
+
+fn is_none(tally: &Tally<'_>, also: &Tally<'_>, others: &Tally<'_>) -> bool
+    ensures { result ≡ is_none (tally_from tally.now) (tally_from also.now) (tally_from others.now) }
+{
+    tally.count() == 0 && (also.count() == 0 && others.count() == 0)
 }
 
 fn put_found(
@@ -203,15 +223,17 @@ fn put_found(
     site: &SiteFile,
     cited: &[u8],
     tally: &Tally<'_>,
+    also: &Tally<'_>,
     others: &Tally<'_>,
 ) -> Result<(), AllocError>
     ensures { OnOk result (out.new.items
-        ≡ out.old.items ++ found_part site.now cited.now (tally_from tally.now) (tally_from others.now)) }
+        ≡ out.old.items
+        ++ found_part site.now cited.now (tally_from tally.now) (tally_from also.now) (tally_from others.now)) }
 {
-    if tally.count() == 0 {
-        put_others_part(out, site, cited, others)
+    if is_none(tally, also, others) {
+        put_paragraph(out, site, Text::NoHoldings)
     } else {
-        put_hits_part(out, site, cited, tally)
+        put_cards_part(out, site, cited, tally, also, others)
     }
 }
 
@@ -222,20 +244,17 @@ fn put_answer(
     pairs: &[Pair<'_>],
     ask: &Ask,
     tally: &Tally<'_>,
+    also: &Tally<'_>,
     others: &Tally<'_>,
 ) -> Result<(), AllocError>
     ensures { OnOk result (out.new.items
         ≡ out.old.items
-        ++ answer_part site.now pairs.now ask.now (tally_from tally.now) (tally_from others.now)) }
+        ++ answer_part site.now pairs.now ask.now (tally_from tally.now) (tally_from also.now)
+        (tally_from others.now)) }
 {
     put_citation(out, site, pairs, ask)?;
-    put_found(
-        out,
-        site,
-        ask.citation.text(Part::Title).as_bytes(),
-        tally,
-        others,
-    )
+    let cited = ask.citation.text(Part::Title).as_bytes();
+    put_found(out, site, cited, tally, also, others)
 }
 
 /// Writes a link with its label.
@@ -387,20 +406,22 @@ fn put_page(
     pairs: &[Pair<'_>],
     ask: &Ask,
     tally: &Tally<'_>,
+    also: &Tally<'_>,
     others: &Tally<'_>,
 ) -> Result<(), AllocError>
     ensures { OnOk result (out.new.items
         ≡ out.old.items
-        ++ page_of_hits site.now pairs.now ask.now (tally_from tally.now) (tally_from others.now)) }
+        ++ page_of_hits site.now pairs.now ask.now (tally_from tally.now) (tally_from also.now)
+        (tally_from others.now)) }
 {
     put_page_top(out, site, page_name(tally.count()))?;
-    put_answer(out, site, pairs, ask, tally, others)?;
+    put_answer(out, site, pairs, ask, tally, also, others)?;
     put_bottom(alloc, out, site, pairs, ask)
 }
 
 /// Writes the page with the citation of a query, and the cards of the hits that a tally shows. If others are left out,
-/// it says how many. Without a hit, it shows the cards of another tally: the hits of the same titles for other dates
-/// and volumes.
+/// it says how many. Behind them are the cards of two other tallies of the same titles: those whose date is covered and
+/// whose volume is not, and those of other dates.
 pub fn put_hits_page(
     alloc: Global,
     out: &mut Vec<u8>,
@@ -408,12 +429,14 @@ pub fn put_hits_page(
     text: &[u8],
     ask: &Ask,
     tally: &Tally<'_>,
+    also: &Tally<'_>,
     others: &Tally<'_>,
 ) -> Result<(), AllocError>
     ensures { OnOk result (out.new.items
         ≡ out.old.items
-        ++ hits_page site.now text.now ask.now (tally_from tally.now) (tally_from others.now)) }
+        ++ hits_page site.now text.now ask.now (tally_from tally.now) (tally_from also.now)
+        (tally_from others.now)) }
 {
     let pairs = decode_pairs(alloc, text)?;
-    put_page(alloc, out, site, &pairs, ask, tally, others)
+    put_page(alloc, out, site, &pairs, ask, tally, also, others)
 }

@@ -103,8 +103,8 @@ fn put_text(out: &mut Vec<u8>, reason: Refusal) -> Result<(), AllocError>
 fn put_json(alloc: Global, out: &mut Vec<u8>, ask: &Ask, reason: Refusal) -> Result<(), AllocError>
     ensures { OnOk result (out.new.items ≡ out.old.items ++ nothing_json ask.now reason) }
 {
-    let tally = Tally::new(alloc);
-    put_answer_json(out, ask, reason_text(reason), &tally)
+    let none = Tally::new(alloc);
+    put_answer_json(out, ask, reason_text(reason), &none, &none)
 }
 
 #[tactic(auto, unfolding(crate::specs::QueryRefusals::numberless_body))]

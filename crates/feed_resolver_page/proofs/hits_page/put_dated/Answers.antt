@@ -1,0 +1,8 @@
+use Rattle.feed_resolver_hits.proofs.Loops.{flat_next}
+use Rattle.feed_resolver_page.specs.HitsPage.{also_card}
+use Rattle.feed_resolver_page.proofs.hits_page.put_dated.Goals as goal
+
+pub loop-found-preserved : goal.loop-found-preserved
+loop-found-preserved c =
+    flat_next (also_card c.args.site.now c.args.cited.now) c.args.hits.now c.loop-found.found-index c.found-item.result c.loop-found-test.true c.found-item.is
+    c.args.out.now.items c.loop-found.out.items c.put_also.new.out.items c.loop-found.invariant c.in_ok-put_also.ensures
