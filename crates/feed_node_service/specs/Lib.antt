@@ -2,8 +2,6 @@ pub mod NodeCounts
 pub mod FetchOutcomes
 pub mod Reports
 pub mod Wanted
-pub mod FileChecks
-pub mod FileTypes
 pub mod Responders
 pub mod Agreement
 pub mod Runs

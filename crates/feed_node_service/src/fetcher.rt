@@ -5,7 +5,6 @@ ghost use Rattle.feed_node_service.specs.Runs.{IsLaterNode};
 use crate::exchange::{Arrival, Exchange, WholePart};
 use crate::fetch_outcome::FetchOutcome;
 use crate::fetch_report::{FetchReport, reason_of};
-use crate::file_check::{FileCheck, Mismatch};
 use crate::node_state::NodeState;
 use crate::recorded_reply::RecordedReply;
 use crate::responder::FeedResponder;
@@ -16,6 +15,7 @@ use feed_dial::DialFault;
 use feed_fetch::{
     FetchEnd, Next, Printer, Request, RequestFault, Stop, is_reported, print_end, print_name_fault,
 };
+use feed_file_checks::{FileCheck, Mismatch};
 use feed_http::{Got, Method, is_host, read_reply, write_head_request, write_request};
 use feed_http_heads::HttpFault;
 use feed_keep::Keep;
@@ -564,7 +564,7 @@ fn take_part<K: Keep + Drop>(
         return Step::Wait;
     };
     let WholePart { first, length, .. } = part;
-    if let Some(mismatch) = running.check.mismatch_of_part(first, length, bytes) {
+    if let Some(mismatch) = running.check.part_mismatch(first, length, bytes) {
         return Step::Refuse(mismatch);
     }
     match node.take_part(first, length, bytes, lines) {

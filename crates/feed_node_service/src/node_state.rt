@@ -6,9 +6,9 @@ ghost use Rattle.feed_node_service.specs.Reports.{IsSomeReply};
 ghost use Rattle.feed_node_service.specs.Starting.{IsSomeStartingReply};
 
 use crate::counts::NodeCounts;
-use crate::expected_file::ExpectedFile;
 use crate::fetch_outcome::FetchOutcome;
 use crate::last_fetches::LastFetches;
+use feed_file_checks::ExpectedFile;
 use feed_keep::Keep;
 use feed_metrics::{Gauges, ReleaseTime};
 use feed_monitoring::{

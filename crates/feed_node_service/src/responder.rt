@@ -9,10 +9,10 @@ ghost use Rattle.feed_node_machine.specs.Occasions.{terms_of};
 ghost use Rattle.feed_node_service.specs.Reports.{HasReport, HasNoReport, IsReportIn};
 ghost use Rattle.feed_node_service.specs.Responders.{IsHeldBack, IsReplyBy, IsTurnReply, response_in};
 
-use crate::expected_file::ExpectedFile;
 use crate::node_state::NodeState;
 use crate::release_times::release_times;
 use crate::wanted::{WantedPackage, is_answerable, missing_text};
+use feed_file_checks::ExpectedFile;
 use feed_http_heads::Request;
 use feed_keep::Keep;
 use feed_monitoring::{ReportReply, gets_report};

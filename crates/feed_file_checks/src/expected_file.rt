@@ -1,6 +1,6 @@
 //! What a client says of the file that it has the node fetch.
 ghost use Rattle.std.specs.Prelude.{◌≡◌};
-ghost use Rattle.feed_node_service.specs.FileChecks.{has_size};
+ghost use Rattle.feed_file_checks.specs.FileChecks.{has_size};
 
 use feed_http_heads::{FIELD_LIMIT, origin_form};
 use feed_range::{read_number, strip_prefix};

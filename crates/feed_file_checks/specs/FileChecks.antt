@@ -2,7 +2,7 @@
 use Rattle.std.specs.Prelude.{◌≡◌, ◌==◌, ◌≤◌, ◌<◌, ◌+◌, ◌-◌, ◌⊎◌, ℕ, Bool, true, List, ◌++◌, length, drop, Option, Some, None}
 use Rattle.sha2.specs.Hashers.{Holds256}
 use Rattle.sha2.specs.Sha256.{sha256}
-use Rattle.feed_node_service.specs.declared.front_sum.FrontSum.{FrontSum}
+use Rattle.feed_file_checks.specs.declared.front_sum.FrontSum.{FrontSum}
 
 -- a file of this length may be the one that the client means: it says no length, or this one
 abbrev pub has_size : Option ℕ → ℕ → Bool

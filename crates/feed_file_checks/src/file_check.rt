@@ -1,6 +1,6 @@
 //! The checks of a file that a node fetches, before its feed gets any of it.
 ghost use Rattle.std.specs.Prelude.{◌≡◌, List, ℕ, true, Some, None};
-ghost use Rattle.feed_node_service.specs.FileChecks.{HasSeen, MayTake, has_size};
+ghost use Rattle.feed_file_checks.specs.FileChecks.{HasSeen, MayTake, has_size};
 
 use crate::expected_file::ExpectedFile;
 use crate::file_type::has_other_type;
@@ -38,6 +38,25 @@ pub struct FileCheck {
     /// Its length, by the reply to the HEAD.
     size: u64,
     front: FrontSum,
+}
+
+// Returns how a file differs from one with this sum, by its bytes from the place `first` on and its length.
+fn sum_mismatch(
+    front: &mut FrontSum,
+    sum: Option<[u8; 32]>,
+    first: u64,
+    size: u64,
+    bytes: &[u8],
+) -> Option<Mismatch>
+    ensures { (wanted seen : List ℕ) → sum ≡ Some wanted → HasSeen front.old seen → result ≡ None
+        → MayTake seen first bytes.now size wanted }
+{
+    let sum = sum?;
+    if front.may_take(first, bytes, size, &sum) {
+        None
+    } else {
+        Some(Mismatch::Sum)
+    }
 }
 
 impl FileCheck {
@@ -84,7 +103,7 @@ impl FileCheck {
         match got {
             Got::Size(size) => {
                 self.size = *size;
-                self.mismatch_of_size(*size)
+                self.size_mismatch(*size)
             }
             Got::Piece {
                 first,
@@ -95,16 +114,18 @@ impl FileCheck {
                 if self.expected.sum.is_some() && *first != self.front.count() {
                     return Some(Mismatch::Sum);
                 }
-                self.mismatch_of_part(*first, self.size, bytes.as_slice())
+                self.part_mismatch(*first, self.size, bytes.as_slice())
             }
             Got::Whole { bytes } => {
-                self.mismatch_of_part(0, bytes.as_slice().len() as u64, bytes.as_slice())
+                self.part_mismatch(0, bytes.as_slice().len() as u64, bytes.as_slice())
             }
             Got::Missing | Got::Unsatisfied { total: _ } => None,
         }
     }
 
-    fn mismatch_of_size(&self, size: u64) -> Option<Mismatch> {
+    fn size_mismatch(&self, size: u64) -> Option<Mismatch>
+        ensures { result ≡ None → has_size self.now.expected.size size ≡ true }
+    {
         if self.expected.has_size(size) {
             None
         } else {
@@ -113,19 +134,15 @@ impl FileCheck {
     }
 
     /// Returns how the file differs, by its bytes from the place `first` on and its length.
-    pub fn mismatch_of_part(&mut self, first: u64, size: u64, bytes: &[u8]) -> Option<Mismatch>
+    pub fn part_mismatch(&mut self, first: u64, size: u64, bytes: &[u8]) -> Option<Mismatch>
         ensures size { result ≡ None → has_size self.old.expected.size size ≡ true }
         ensures sum { (wanted seen : List ℕ) → self.old.expected.sum ≡ Some wanted → HasSeen self.old.front seen
             → result ≡ None → MayTake seen first bytes.now size wanted }
     {
-        if let Some(mismatch) = self.mismatch_of_size(size) {
+        if let Some(mismatch) = self.size_mismatch(size) {
             return Some(mismatch);
         }
-        let sum = self.expected.sum?;
-        if self.front.may_take(first, bytes, size, &sum) {
-            None
-        } else {
-            Some(Mismatch::Sum)
-        }
+        let sum = self.expected.sum;
+        sum_mismatch(&mut self.front, sum, first, size, bytes)
     }
 }

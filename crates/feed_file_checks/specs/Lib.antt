@@ -1,0 +1,2 @@
+pub mod FileTypes
+pub mod FileChecks
