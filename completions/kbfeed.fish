@@ -81,6 +81,7 @@ complete -c kbfeed -n '__kbfeed_at "node/*"' -r -F -l site -d 'The site file of 
 complete -c kbfeed -n '__kbfeed_at "node/*"' -r -F -l wanted -d 'The file with the packages that readers wait for'
 complete -c kbfeed -n '__kbfeed_at "node/*"' -x -l fetch-timeout -d 'Seconds that a fetch may take'
 complete -c kbfeed -n '__kbfeed_at "node/*"' -l any-type -d 'Fetch lists of any Content-Type'
+complete -c kbfeed -n '__kbfeed_at "node/*"' -x -l max-shrink -d 'The most rows that a new list may lack, in percent of the active one'
 complete -c kbfeed -n '__kbfeed_at "node/*"' -x -l clients -d 'The most connections at a time'
 complete -c kbfeed -n '__kbfeed_at "node/*" "fetch/*"' -x -l piece -d 'The most bytes in one request'
 complete -c kbfeed -n '__kbfeed_at "node/*"' -x -l idle -d 'Seconds that a connection may wait between two requests'

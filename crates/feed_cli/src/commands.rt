@@ -254,7 +254,7 @@ static SERVE: [Argument; 4] = [
     CLIENT_TIMEOUT,
 ];
 
-static NODE: [Argument; 17] = [
+static NODE: [Argument; 18] = [
     DATABASE,
     LISTENING_ADDRESS,
     Argument {
@@ -308,6 +308,11 @@ static NODE: [Argument; 17] = [
         id: "any-type",
         kind: Kind::Flag { excludes: &[] },
         help: "Fetches lists that the server calls HTML, XML, JSON, PDF or images, too",
+    },
+    Argument {
+        id: "max-shrink",
+        kind: Kind::Percent,
+        help: "Holds a list that lacks more of the active one's rows, 0 to 100 percent",
     },
     Argument {
         id: "clients",

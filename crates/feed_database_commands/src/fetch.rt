@@ -2,17 +2,22 @@
 use crate::database::{Database, close_keeper, open_feed};
 use crate::progress::Progress;
 use feed_command::{FAILED, Faults, MISUSED};
-use feed_fetch::{Printer, fetch_with};
+use feed_fetch::{Printer, fetch_with, is_reported};
+use feed_file_checks::{ListCounts, active_counts, rows_before};
 use feed_file_commands::{Advice, note_port, parse_meant_name};
 use feed_http::is_host;
+use feed_keep::Keep;
 use feed_limits::PIECE_LIMIT;
+use feed_names::ReleaseName;
+use feed_releases::Feed;
 use feed_tcp::{Cause, TcpDial};
 use std::io::{IsTerminal, Write};
 use std::time::Duration;
 
 /// Fetches the release of a name from a host and port, as `fetch_with` does, into a database. It prints each event to
-/// `out` at once; if standard error is a terminal, a line there shows how far it is. The first fault is reported: of
-/// the host (`Host`) and of the name, status 2, and then of the database and of the fetch.
+/// `out` at once; if standard error is a terminal, a line there shows how far it is. A note has the counts of a release
+/// that the feed switches to. The first fault is reported: of the host (`Host`) and of the name, status 2, and then of
+/// the database and of the fetch.
 pub fn fetch_release<D: Database, O: Write, F: Write + Drop>(
     rt: &HostRuntime,
     database: &D,
@@ -31,7 +36,8 @@ pub fn fetch_release<D: Database, O: Write, F: Write + Drop>(
             MISUSED,
         );
     }
-    let name = match parse_meant_name(rt.alloc(), name, MISUSED, Advice::Give, faults) {
+    let text = name;
+    let name = match parse_meant_name(rt.alloc(), text, MISUSED, Advice::Give, faults) {
         Ok(name) => name,
         Err(status) => return status,
     };
@@ -39,6 +45,8 @@ pub fn fetch_release<D: Database, O: Write, F: Write + Drop>(
         Ok(feed) => feed,
         Err(status) => return status,
     };
+    let was_reported = is_reported(&feed, &name);
+    let before = active_rows(&feed, &name);
     let cause = Cause::new();
     let mut dial = TcpDial::new(rt, addr, time, &cause);
     let screen = if rt.stderr().is_terminal() {
@@ -65,6 +73,36 @@ pub fn fetch_release<D: Database, O: Write, F: Write + Drop>(
         }
         _ => {}
     }
+    if !was_reported {
+        note_counts(&feed, &name, text, before, faults);
+    }
     close_keeper(database, feed.restart(), faults);
     status
+}
+
+// Returns the rows of the active release of the package of a name: none if there is no release.
+fn active_rows<K: Keep + Drop>(feed: &Feed<K>, name: &ReleaseName) -> usize {
+    match active_counts(feed, name.package()) {
+        Ok(counts) => rows_before(counts),
+        Err(_) => 0,
+    }
+}
+
+// Notes the counts of a release that the feed has switched to.
+fn note_counts<K: Keep + Drop, F: Write + Drop>(
+    feed: &Feed<K>,
+    name: &ReleaseName,
+    text: &str,
+    before: usize,
+    faults: &mut Faults<F>,
+) {
+    if !is_reported(feed, name) {
+        return;
+    }
+    if let Ok(Some(ListCounts { rows, aside })) = active_counts(feed, name.package()) {
+        faults.note(
+            text,
+            format_args!("rows {rows} aside {aside}, before {before}"),
+        );
+    }
 }

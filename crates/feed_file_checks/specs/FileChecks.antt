@@ -1,7 +1,8 @@
 -- What a client says of a file, and the bytes of it that have arrived from its front on.
-use Rattle.std.specs.Prelude.{◌≡◌, ◌==◌, ◌≤◌, ◌<◌, ◌+◌, ◌-◌, ◌⊎◌, ℕ, Bool, true, List, ◌++◌, length, drop, Option, Some, None}
+use Rattle.std.specs.Prelude.{◌≡◌, ◌==◌, ◌≤◌, ◌<◌, ◌+◌, ◌-◌, ◌⊎◌, ℕ, Bool, true, List, length, Option, Some, None}
 use Rattle.sha2.specs.Hashers.{Holds256}
 use Rattle.sha2.specs.Sha256.{sha256}
+use Rattle.feed_file_checks.specs.RowCounts.{seen_with}
 use Rattle.feed_file_checks.specs.declared.front_sum.FrontSum.{FrontSum}
 
 -- a file of this length may be the one that the client means: it says no length, or this one
@@ -13,10 +14,6 @@ has_size (Some expected) size = expected == size
 pub record HasSeen (sum : FrontSum) (seen : List ℕ) : Type 0 where
   pub digest : Holds256 sum.hasher seen
   pub count : sum.count ≡ length seen
-
--- the bytes from the front on, once those from this place on have arrived
-abbrev pub seen_with : List ℕ → ℕ → List ℕ → List ℕ
-seen_with seen first bytes = seen ++ drop (length seen - first) bytes
 
 -- the bytes from this place on may be submitted as a part of a file of this length and sum: none before them is missing, they
 -- are inside the file, and the file does not end with them or has the sum

@@ -1,2 +1,4 @@
 pub mod FileTypes
+pub mod RowCounts
 pub mod FileChecks
+pub mod ShrinkGates

@@ -1,5 +1,5 @@
 //! What a client says of the file that it has the node fetch.
-ghost use Rattle.std.specs.Prelude.{◌≡◌};
+ghost use Rattle.std.specs.Prelude.{◌≡◌, true, false, codes};
 ghost use Rattle.feed_file_checks.specs.FileChecks.{has_size};
 
 use feed_http_heads::{FIELD_LIMIT, origin_form};
@@ -8,20 +8,23 @@ use feed_resolver_request::{find_request, query_in};
 use hex::FromHex;
 use httparse::spans::EMPTY_HEADER_SPAN;
 
-/// What a client says of a file: its length in bytes, and its SHA-256 digest.
+/// What a client says of a file: its length in bytes, its SHA-256 digest, and whether it accepts any list.
 #[derive(Clone, Copy)]
 pub struct ExpectedFile {
     pub size: Option<u64>,
     pub sum: Option<[u8; 32]>,
+    /// Whether the list may have any number of rows.
+    pub is_accepted: bool,
 }
 
 impl ExpectedFile {
-    /// Parses the query of a request to fetch: `size=` and a number, and `sha256=` and 64 hexadecimal digits, each at
-    /// most once and in any order. Returns none for any other query.
+    /// Parses the query of a request to fetch: `size=` and a number, `sha256=` and 64 hexadecimal digits, and `accept`,
+    /// each at most once and in any order. Returns none for any other query.
     pub fn read(query: &[u8]) -> Option<ExpectedFile> {
         let mut expected = ExpectedFile {
             size: None,
             sum: None,
+            is_accepted: false,
         };
         if query.is_empty() {
             return Some(expected);
@@ -42,7 +45,9 @@ impl ExpectedFile {
     }
 
     // Adds what a field of a query says, and returns whether it is valid and the first of its name.
-    fn add(&mut self, field: &[u8]) -> bool {
+    fn add(&mut self, field: &[u8]) -> bool
+        ensures { self.new.is_accepted ≡ true → self.old.is_accepted ≡ false → field.now ≡ codes "accept" }
+    {
         if let Some(digits) = strip_prefix(field, b"size=") {
             let is_first = self.size.is_none();
             self.size = read_number(digits);
@@ -53,7 +58,9 @@ impl ExpectedFile {
             self.sum = <[u8; 32] as FromHex>::from_hex(digits).ok();
             return is_first && self.sum.is_some();
         }
-        false
+        let is_first = !self.is_accepted;
+        self.is_accepted = field == b"accept".as_slice();
+        is_first && self.is_accepted
     }
 
     /// Returns whether a file of this length may be the one that the client means.

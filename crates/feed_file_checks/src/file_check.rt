@@ -1,11 +1,21 @@
 //! The checks of a file that a node fetches, before its feed gets any of it.
-ghost use Rattle.std.specs.Prelude.{◌≡◌, List, ℕ, true, Some, None};
+ghost use Rattle.std.specs.Prelude.{◌≡◌, List, ℕ, true, IfSome, Ok, Option, Some, None};
+ghost use Rattle.feed_model.specs.History.{History};
+ghost use Rattle.feed_model.specs.Content.{IsContent};
+ghost use Rattle.feed_releases.specs.Feeds.{recorded};
 ghost use Rattle.feed_file_checks.specs.FileChecks.{HasSeen, MayTake, has_size};
+ghost use Rattle.feed_file_checks.specs.RowCounts.{HasCounted, seen_with};
+ghost use Rattle.feed_file_checks.specs.ShrinkGates.{IsChecked};
 
 use crate::expected_file::ExpectedFile;
 use crate::file_type::has_other_type;
 use crate::front_sum::FrontSum;
+use crate::shrink_gate::{HeldList, Hindrance, ShrinkGate};
 use feed_http::Got;
+use feed_keep::Keep;
+use feed_names::ReleaseName;
+use feed_releases::Feed;
+use std::alloc::Global;
 
 /// How a file differs from what a node or its client expects.
 #[derive(Clone, Copy)]
@@ -16,6 +26,12 @@ pub enum Mismatch {
     Size,
     /// It has another SHA-256 digest.
     Sum,
+    /// Its bytes do not arrive from its front on.
+    Range,
+    /// It has too few rows.
+    Rows(HeldList),
+    /// Memory ran out.
+    Memory,
 }
 
 impl Mismatch {
@@ -25,6 +41,9 @@ impl Mismatch {
             Mismatch::Type => "ContentType",
             Mismatch::Size => "OtherSize",
             Mismatch::Sum => "OtherSum",
+            Mismatch::Range => "OtherRange",
+            Mismatch::Rows(_) => "held",
+            Mismatch::Memory => "Memory",
         }
     }
 }
@@ -38,6 +57,8 @@ pub struct FileCheck {
     /// Its length, by the reply to the HEAD.
     size: u64,
     front: FrontSum,
+    /// The rows, if the list may be held for them.
+    gate: Option<ShrinkGate>,
 }
 
 // Returns how a file differs from one with this sum, by its bytes from the place `first` on and its length.
@@ -59,31 +80,67 @@ fn sum_mismatch(
     }
 }
 
+// Returns why a list does not pass the gate, by its bytes from the place `first` on and its length.
+fn gate_mismatch<K: Keep + Drop>(
+    gate: &mut Option<ShrinkGate>,
+    alloc: Global,
+    feed: &Feed<K>,
+    name: &ReleaseName,
+    first: u64,
+    size: u64,
+    bytes: &[u8],
+) -> Option<Mismatch>
+    ensures passed { (h : History) (before : ShrinkGate) (seen : List ℕ) → IsContent (recorded feed.now) h
+        → gate.old ≡ Some before → HasCounted before.rows seen → result ≡ None
+        → IsChecked h name.now.stem before.percent seen first bytes.now size (Ok tt) }
+    ensures counted { (before : ShrinkGate) (seen : List ℕ) → gate.old ≡ Some before → HasCounted before.rows seen
+        → result ≡ None → IfSome gate.new (λ after. HasCounted after.rows (seen_with seen first bytes.now)
+        × (after.percent ≡ before.percent)) }
+{
+    let gate = gate.as_mut()?;
+    match gate.check(alloc, feed, name, first, bytes, size) {
+        Ok(()) => None,
+        Err(Hindrance::Held(held)) => Some(Mismatch::Rows(held)),
+        Err(Hindrance::OtherRange) => Some(Mismatch::Range),
+        Err(Hindrance::Memory) => Some(Mismatch::Memory),
+    }
+}
+
 impl FileCheck {
-    pub fn new(expected: ExpectedFile, has_any_type: bool) -> FileCheck {
+    pub fn new(expected: ExpectedFile, has_any_type: bool, gate: Option<ShrinkGate>) -> FileCheck {
         FileCheck {
             expected,
             has_any_type,
             size: 0,
             front: FrontSum::new(),
+            gate,
         }
     }
 
-    /// Returns the length of the file, if its sum is to be compared. Its bytes are then requested from the front on,
-    /// also those that the feed has: it compares them.
-    pub fn summed_size(&self) -> Option<u64> {
-        match self.expected.sum {
-            Some(_) => Some(self.size),
-            None => None,
+    /// Returns the length of the file, if its bytes are requested from the front on, also those that the feed has: its
+    /// sum is to be compared, or its rows are counted. The feed compares the bytes.
+    pub fn read_size(&self) -> Option<u64> {
+        if self.expected.sum.is_some() || self.gate.is_some() {
+            Some(self.size)
+        } else {
+            None
+        }
+    }
+
+    // Returns the number of bytes from the front on that were read.
+    fn count(&self) -> u64 {
+        match &self.gate {
+            Some(gate) => gate.count(),
+            None => self.front.count(),
         }
     }
 
     /// Returns the first and the last place of the next request for at most `piece` places: the range that is missing,
-    /// or what follows the bytes whose sum is known.
+    /// or what follows the bytes that were read.
     pub fn next_range(&self, missing: (u64, u64), piece: u64) -> (u64, u64) {
-        match self.summed_size() {
-            Some(size) if self.front.count() < size => {
-                let first = self.front.count();
+        match self.read_size() {
+            Some(size) if self.count() < size => {
+                let first = self.count();
                 (
                     first,
                     first.saturating_add(piece).min(size).saturating_sub(1),
@@ -98,8 +155,29 @@ impl FileCheck {
         !self.has_any_type && has_other_type(reply)
     }
 
-    /// Returns how the file differs from what the client said, by the result of a request.
-    pub fn mismatch_of(&mut self, got: &Got) -> Option<Mismatch> {
+    /// Returns the fault of a file whose bytes do not arrive from its front on.
+    pub fn range_mismatch(&self) -> Mismatch {
+        if self.expected.sum.is_some() {
+            Mismatch::Sum
+        } else {
+            Mismatch::Range
+        }
+    }
+
+    /// Returns how the file differs from what the client and the node expect, by the result of a request for the
+    /// release.
+    pub fn mismatch_of<K: Keep + Drop>(
+        &mut self,
+        alloc: Global,
+        feed: &Feed<K>,
+        name: &ReleaseName,
+        got: &Got,
+    ) -> Option<Mismatch>
+        ensures rows { (h : History) (before : ShrinkGate) (seen bytes : List ℕ) (first : ℕ) (total : Option ℕ)
+            → IsContent (recorded feed.now) h → self.old.gate ≡ Some before → HasCounted before.rows seen
+            → got.now ≡ Got.Piece first total bytes → result ≡ None
+            → IsChecked h name.now.stem before.percent seen first bytes self.old.size (Ok tt) }
+    {
         match got {
             Got::Size(size) => {
                 self.size = *size;
@@ -110,14 +188,15 @@ impl FileCheck {
                 total: _,
                 bytes,
             } => {
-                // A part from another place than was requested does not advance the sum.
-                if self.expected.sum.is_some() && *first != self.front.count() {
-                    return Some(Mismatch::Sum);
+                // A part from another place than was requested does not advance the sum or the rows.
+                if self.read_size().is_some() && *first != self.count() {
+                    return Some(self.range_mismatch());
                 }
-                self.part_mismatch(*first, self.size, bytes.as_slice())
+                self.part_mismatch(alloc, feed, name, *first, self.size, bytes.as_slice())
             }
             Got::Whole { bytes } => {
-                self.part_mismatch(0, bytes.as_slice().len() as u64, bytes.as_slice())
+                let size = bytes.as_slice().len() as u64;
+                self.part_mismatch(alloc, feed, name, 0, size, bytes.as_slice())
             }
             Got::Missing | Got::Unsatisfied { total: _ } => None,
         }
@@ -133,16 +212,33 @@ impl FileCheck {
         }
     }
 
-    /// Returns how the file differs, by its bytes from the place `first` on and its length.
-    pub fn part_mismatch(&mut self, first: u64, size: u64, bytes: &[u8]) -> Option<Mismatch>
+    /// Returns how the file of a release differs, by its bytes from the place `first` on and its length.
+    pub fn part_mismatch<K: Keep + Drop>(
+        &mut self,
+        alloc: Global,
+        feed: &Feed<K>,
+        name: &ReleaseName,
+        first: u64,
+        size: u64,
+        bytes: &[u8],
+    ) -> Option<Mismatch>
         ensures size { result ≡ None → has_size self.old.expected.size size ≡ true }
         ensures sum { (wanted seen : List ℕ) → self.old.expected.sum ≡ Some wanted → HasSeen self.old.front seen
             → result ≡ None → MayTake seen first bytes.now size wanted }
+        ensures rows { (h : History) (before : ShrinkGate) (seen : List ℕ) → IsContent (recorded feed.now) h
+            → self.old.gate ≡ Some before → HasCounted before.rows seen → result ≡ None
+            → IsChecked h name.now.stem before.percent seen first bytes.now size (Ok tt) }
+        ensures counted { (before : ShrinkGate) (seen : List ℕ) → self.old.gate ≡ Some before
+            → HasCounted before.rows seen → result ≡ None → IfSome self.new.gate (λ after.
+            HasCounted after.rows (seen_with seen first bytes.now) × (after.percent ≡ before.percent)) }
     {
         if let Some(mismatch) = self.size_mismatch(size) {
             return Some(mismatch);
         }
         let sum = self.expected.sum;
-        sum_mismatch(&mut self.front, sum, first, size, bytes)
+        if let Some(mismatch) = sum_mismatch(&mut self.front, sum, first, size, bytes) {
+            return Some(mismatch);
+        }
+        gate_mismatch(&mut self.gate, alloc, feed, name, first, size, bytes)
     }
 }

@@ -1,7 +1,8 @@
 //! The sum of the bytes of a file, from its front on, as they arrive.
 ghost use Rattle.std.specs.Prelude.{◌≡◌, ◌↔◌, ◌≤◌, ◌+◌, ℕ, List, [], length, IsTrue};
 ghost use Rattle.sha2.specs.Sha256.{sha256};
-ghost use Rattle.feed_file_checks.specs.FileChecks.{HasSeen, MayTake, seen_with};
+ghost use Rattle.feed_file_checks.specs.RowCounts.{seen_with};
+ghost use Rattle.feed_file_checks.specs.FileChecks.{HasSeen, MayTake};
 
 use sha2::{Digest, Sha256};
 

@@ -1,5 +1,5 @@
 //! The checks of a file that a node fetches, before its feed gets it: the type that the server states, its length and
-//! its digest.
+//! its digest, and whether it has far fewer rows than the active list.
 //!
 //! `FileCheck` has all checks of one fetch.
 #![tactic(auto)]
@@ -8,8 +8,14 @@ mod expected_file;
 mod file_check;
 mod file_type;
 mod front_sum;
+mod list_counts;
+mod row_count;
+mod shrink_gate;
 
 pub use crate::expected_file::ExpectedFile;
 pub use crate::file_check::{FileCheck, Mismatch};
 pub use crate::file_type::has_other_type;
 pub use crate::front_sum::FrontSum;
+pub use crate::list_counts::{ListCounts, active_counts, rows_before};
+pub use crate::row_count::RowCount;
+pub use crate::shrink_gate::{HeldList, Hindrance, ShrinkGate, gate_by};

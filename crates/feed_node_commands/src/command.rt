@@ -32,7 +32,8 @@ pub enum Command<'a> {
 }
 
 /// The server that a node fetches releases from, the file with the token that a client needs to request a fetch, how
-/// many bytes the node asks for at a time, for how many seconds a fetch may take, and whether a list may have any type.
+/// many bytes the node asks for at a time, for how many seconds a fetch may take, whether a list may have any type, and
+/// how much of the rows of the active release it may lack, in percent.
 #[derive(Clone, Copy)]
 pub struct Upstream<'a> {
     pub addr: &'a str,
@@ -40,6 +41,7 @@ pub struct Upstream<'a> {
     pub piece: u64,
     pub fetch_limit: u64,
     pub has_any_type: bool,
+    pub max_shrink: Option<u64>,
 }
 
 /// Runs a command on a database, prints its output to `out`, and returns the exit status. A program calls this function

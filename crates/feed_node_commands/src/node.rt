@@ -80,6 +80,7 @@ pub fn run_node<D: Database, O: Write, F: Write + Drop>(
         limit: hosting.limit,
         fetch_limit: upstream.fetch_limit,
         has_any_type: upstream.has_any_type,
+        max_shrink: upstream.max_shrink,
     };
     if let Err(error) = addrs.resolve(rt, upstream.addr) {
         let _ = faults.report_with("Resolve", upstream.addr, error, DONE);

@@ -17,6 +17,10 @@ pub struct FetchReport {
     pub begun: Option<Instant>,
     /// Whether the node answered from the release then.
     pub was_reported: bool,
+    /// The rows of the active release of its package then.
+    pub before: usize,
+    /// Whether the counts of the release were sent.
+    pub has_counts: bool,
     /// The bytes of the list that have arrived.
     pub bytes: u64,
     /// The system's error, if the last connection failed.
@@ -25,10 +29,12 @@ pub struct FetchReport {
 
 impl FetchReport {
     /// Begins now.
-    pub fn new(rt: &HostRuntime, was_reported: bool) -> FetchReport {
+    pub fn new(rt: &HostRuntime, was_reported: bool, before: usize) -> FetchReport {
         FetchReport {
             begun: Instant::now(rt).ok(),
             was_reported,
+            before,
+            has_counts: was_reported,
             bytes: 0,
             fault: None,
         }

@@ -1,5 +1,6 @@
 //! Fetches releases for a node, one request at a time, between the turns of its loop.
-ghost use Rattle.std.specs.Prelude.{◌≡◌};
+ghost use Rattle.std.specs.Prelude.{◌≡◌, ◌≤◌};
+ghost use Rattle.feed_limits.specs.Limits.{piece_limit};
 ghost use Rattle.feed_node_service.specs.Runs.{IsLaterNode};
 
 use crate::exchange::{Arrival, Exchange, WholePart};
@@ -15,7 +16,9 @@ use feed_dial::DialFault;
 use feed_fetch::{
     FetchEnd, Next, Printer, Request, RequestFault, Stop, is_reported, print_end, print_name_fault,
 };
-use feed_file_checks::{FileCheck, Mismatch};
+use feed_file_checks::{
+    FileCheck, HeldList, ListCounts, Mismatch, active_counts, gate_by, rows_before,
+};
 use feed_http::{Got, Method, is_host, read_reply, write_head_request, write_request};
 use feed_http_heads::HttpFault;
 use feed_keep::Keep;
@@ -23,7 +26,7 @@ use feed_limits::PIECE_LIMIT;
 use feed_node_machine::Fetching;
 use feed_node_server::{Destination, OutgoingRequest, ServedNode, Server};
 use feed_releases::Feed;
-use std::alloc::AllocError;
+use std::alloc::{AllocError, Global};
 use std::io;
 use std::io::{ErrorKind, Write};
 use std::time::Instant;
@@ -42,10 +45,15 @@ pub struct Source<'a> {
     pub fetch_limit: u64,
     /// Whether a file may have any type.
     pub has_any_type: bool,
+    /// How much of the rows of the active release a new one may lack, in percent.
+    pub max_shrink: Option<u64>,
 }
 
 // The most parts of a whole file that are taken in one turn, which is all that are kept at a time.
 const PARTS: usize = 4;
+
+// The most bytes of a request if the rows of a list are counted as it arrives, so that this takes about a millisecond.
+const COUNTED_PIECE: u64 = 131_072;
 
 /// A node that replies from its feed.
 pub type FeedNode<'a, K> = ServedNode<'a, K, FeedResponder<'a>>;
@@ -118,7 +126,7 @@ impl<'a> Fetcher<'a> {
             file,
             state,
             running: None,
-            report: FetchReport::new(rt, false),
+            report: FetchReport::new(rt, false, 0),
             notes: Vec::new(rt.alloc()),
         }
     }
@@ -130,26 +138,26 @@ impl<'a> Fetcher<'a> {
         let Some(source) = self.source else {
             return;
         };
-        let piece = source.piece.max(1).min(PIECE_LIMIT as u64);
-        match node.begin_fetch(piece) {
+        match node.begin_fetch(piece_of(source)) {
             None => {}
             Some(Ok(())) => {
-                self.report = FetchReport::new(self.rt, is_answered(node));
+                self.report = FetchReport::new(self.rt, is_answered(node), rows_of_active(node));
                 self.addrs.renew(self.rt, source.addr);
                 let Some(expected) = self.state.expected() else {
                     return self.end_by(server, node, "Query", 2);
                 };
+                let gate = gate_by(self.rt.alloc(), source.max_shrink, expected.is_accepted);
                 let running = RunningExchange {
                     at: 0,
-                    exchange: Exchange::new(Method::Head, piece),
-                    check: FileCheck::new(expected, source.has_any_type),
+                    exchange: Exchange::new(Method::Head, piece_of(source)),
+                    check: FileCheck::new(expected, source.has_any_type, gate),
                 };
                 self.send_next(server, node, running);
             }
             Some(Err(fault)) => {
                 let mut lines = self.lines();
                 let _ = print_name_fault(fault, &mut lines);
-                self.report = FetchReport::new(self.rt, false);
+                self.report = FetchReport::new(self.rt, false, 0);
                 let mut reason = Vec::new(self.rt.alloc());
                 let _ = write!(&mut reason, " {fault}");
                 self.note(b"-", FetchOutcome::Refused, &reason);
@@ -239,6 +247,21 @@ impl<'a> Fetcher<'a> {
         }
     }
 
+    // Ends a fetch with an outcome for a reason, and reports both.
+    fn end_with<K: Keep + Drop>(
+        &mut self,
+        node: &mut FeedNode<'_, K>,
+        outcome: FetchOutcome,
+        reason: &[u8],
+    )
+        ensures { IsLaterNode node.old node.new }
+    {
+        if let Some(name) = node.end_fetch() {
+            self.note(name.text(), outcome, reason);
+            self.state.end_fetch(name, outcome, unix_seconds(self.rt));
+        }
+    }
+
     // Ends a fetch by a fault that no other fetch has, with an exit status.
     fn end_by<K: Keep + Drop>(
         &mut self,
@@ -249,17 +272,53 @@ impl<'a> Fetcher<'a> {
     )
         ensures { IsLaterNode node.old node.new }
     {
+        let mut reason = Vec::new(self.rt.alloc());
+        let _ = write!(&mut reason, " {fault}");
+        self.end_with(node, FetchOutcome::Refused, &reason);
         let mut lines = self.lines();
-        if let Some(name) = node.end_fetch() {
-            let mut reason = Vec::new(self.rt.alloc());
-            let _ = write!(&mut reason, " {fault}");
-            self.note(name.text(), FetchOutcome::Refused, &reason);
-            self.state
-                .end_fetch(name, FetchOutcome::Refused, unix_seconds(self.rt));
-        }
         let _ = lines.print(format_args!("kbfeed: {fault}"));
         let _ = lines.print(format_args!("status {status}"));
         finish(server, lines);
+    }
+
+    // Ends a fetch whose list is held.
+    fn hold<K: Keep + Drop>(
+        &mut self,
+        server: &mut Server,
+        node: &mut FeedNode<'_, K>,
+        held: HeldList,
+    )
+        ensures { IsLaterNode node.old node.new }
+    {
+        let HeldList { counts, before } = held;
+        let rows = counts.rows;
+        let mut reason = Vec::new(self.rt.alloc());
+        let _ = write!(&mut reason, " rows {rows} before {before}");
+        self.end_with(node, FetchOutcome::Held, &reason);
+        let mut lines = self.lines();
+        print_counts(&mut lines, counts, before);
+        let _ = lines.print(format_args!("held rows {rows} before {before}"));
+        let _ = lines.print("status 1");
+        finish(server, lines);
+    }
+
+    // Ends a fetch whose file is not the expected one.
+    fn refuse<K: Keep + Drop>(
+        &mut self,
+        server: &mut Server,
+        node: &mut FeedNode<'_, K>,
+        mismatch: Mismatch,
+    )
+        ensures { IsLaterNode node.old node.new }
+    {
+        match mismatch {
+            Mismatch::Rows(held) => self.hold(server, node, held),
+            Mismatch::Memory => {
+                let stop = Stop::Request(RequestFault::Dial(DialFault::Memory));
+                self.end(server, node, FetchEnd::Stopped(stop));
+            }
+            _ => self.end_by(server, node, mismatch.fault(), 1),
+        }
     }
 
     // Sends the next request of a fetch. If there is none, the fetch is over.
@@ -337,9 +396,8 @@ impl<'a> Fetcher<'a> {
         let Some(mut running) = self.running.take() else {
             return true;
         };
-        let mut lines = self.lines();
+        let mut lines = Vec::new(self.rt.alloc());
         let step = self.take_arrived(server, node, &mut running, &mut lines);
-        let lines = lines.into_writer();
         if !lines.is_empty() && !self.file.is_there() {
             return false;
         }
@@ -371,7 +429,7 @@ impl<'a> Fetcher<'a> {
             }
             Step::Refuse(mismatch) => {
                 let _ = server.take_request();
-                self.end_by(server, node, mismatch.fault(), 1);
+                self.refuse(server, node, mismatch);
             }
         }
     }
@@ -383,7 +441,7 @@ impl<'a> Fetcher<'a> {
         server: &mut Server,
         node: &mut FeedNode<'_, K>,
         running: &mut RunningExchange,
-        lines: &mut Printer<Vec<u8>>,
+        lines: &mut Vec<u8>,
     ) -> Step
         ensures { IsLaterNode node.old node.new }
     {
@@ -399,7 +457,25 @@ impl<'a> Fetcher<'a> {
         Step::Again
     }
 
+    // Takes the next part of the reply that has arrived, or the reply, and appends the answers of the feed. The counts
+    // of a release that it switches to are ahead of its last answer.
     fn take_next<K: Keep + Drop>(
+        &mut self,
+        node: &mut FeedNode<'_, K>,
+        running: &mut RunningExchange,
+        outgoing: &mut OutgoingRequest,
+        lines: &mut Vec<u8>,
+    ) -> Step
+        ensures later { IsLaterNode node.old node.new }
+        ensures refused { (mismatch : Mismatch) → result ≡ Step.Refuse mismatch → node.new ≡ node.old }
+    {
+        let mut answers = self.lines();
+        let step = self.take(node, running, outgoing, &mut answers);
+        let _ = self.put_answers(node, &answers.into_writer(), lines);
+        step
+    }
+
+    fn take<K: Keep + Drop>(
         &mut self,
         node: &mut FeedNode<'_, K>,
         running: &mut RunningExchange,
@@ -414,11 +490,11 @@ impl<'a> Fetcher<'a> {
             Arrived::Step(step) => step,
             Arrived::Part(part) => {
                 self.report.add(part.to.saturating_sub(part.from));
-                take_part(node, running, outgoing, part, lines)
+                take_part(self.rt, node, running, outgoing, part, lines)
             }
             Arrived::Reply(reply) => {
                 self.report.add_reply(&reply);
-                take_reply(node, &mut running.check, &reply, lines)
+                take_reply(self.rt, node, &mut running.check, &reply, lines)
             }
             Arrived::NoRanges => {
                 let fault = RequestFault::Http(HttpFault::BodyTooLong);
@@ -426,6 +502,27 @@ impl<'a> Fetcher<'a> {
                 Step::End(FetchEnd::NoRanges)
             }
         }
+    }
+
+    // Appends answers of the feed, with the counts of the release ahead of the last one if the feed switched to it.
+    fn put_answers<K: Keep + Drop>(
+        &mut self,
+        node: &FeedNode<'_, K>,
+        answers: &[u8],
+        lines: &mut Vec<u8>,
+    ) -> Result<(), AllocError> {
+        if self.report.has_counts || answers.is_empty() || !is_answered(node) {
+            return Ok(lines.extend_from_slice(answers)?);
+        }
+        self.report.has_counts = true;
+        let (front, last) = answers.split_at(last_line_at(answers));
+        lines.extend_from_slice(front)?;
+        if let Some(counts) = counts_of_active(node) {
+            let mut printer = self.lines();
+            print_counts(&mut printer, counts, self.report.before);
+            lines.extend_from_slice(&printer.into_writer())?;
+        }
+        Ok(lines.extend_from_slice(last)?)
     }
 
     // Returns what has arrived of the reply to the last request.
@@ -475,6 +572,7 @@ fn cut_fault(outgoing: &OutgoingRequest) -> HttpFault {
 
 // Takes the reply, or why there is none. A file that is not the expected one is not submitted.
 fn take_reply<K: Keep + Drop>(
+    rt: &HostRuntime,
     node: &mut FeedNode<'_, K>,
     check: &mut FileCheck,
     reply: &Result<Got, RequestFault>,
@@ -483,7 +581,7 @@ fn take_reply<K: Keep + Drop>(
     ensures later { IsLaterNode node.old node.new }
     ensures refused { (mismatch : Mismatch) → result ≡ Step.Refuse mismatch → node.new ≡ node.old }
 {
-    if let Some(mismatch) = mismatch_of(node, check, reply) {
+    if let Some(mismatch) = mismatch_of(rt.alloc(), node, check, reply) {
         return Step::Refuse(mismatch);
     }
     match submit(node, check, reply, lines) {
@@ -492,7 +590,7 @@ fn take_reply<K: Keep + Drop>(
     }
 }
 
-// Submits the reply to the feed. If the sum is to be compared, the feed may have its bytes already.
+// Submits the reply to the feed. If the file is read from its front on, the feed may have its bytes already.
 fn submit<K: Keep + Drop>(
     node: &mut FeedNode<'_, K>,
     check: &FileCheck,
@@ -501,7 +599,7 @@ fn submit<K: Keep + Drop>(
 ) -> Result<(), Stop>
     ensures { IsLaterNode node.old node.new }
 {
-    match (reply, check.summed_size()) {
+    match (reply, check.read_size()) {
         (
             Ok(
                 Got::Piece {
@@ -521,26 +619,43 @@ fn submit<K: Keep + Drop>(
     }
 }
 
-// Returns how the file of a reply differs from the expected one, if it does or if its sum could not be compared in
-// time.
+// Returns how the file of a reply differs from the expected one, if it does, or if its sum or its rows could not be
+// known in time.
 fn mismatch_of<K: Keep + Drop>(
+    alloc: Global,
     node: &FeedNode<'_, K>,
     check: &mut FileCheck,
     reply: &Result<Got, RequestFault>,
 ) -> Option<Mismatch> {
-    let Ok(got) = reply else {
+    let (Ok(got), Some(fetching)) = (reply, node.fetching()) else {
         return None;
     };
-    match check.mismatch_of(got) {
-        None if !lacks_end(node, check) => Some(Mismatch::Sum),
+    match check.mismatch_of(alloc, node.feed(), &fetching.name, got) {
+        None if !lacks_end(node, check) => Some(check.range_mismatch()),
         mismatch => mismatch,
     }
 }
 
-// Returns whether the sum of the file, if it is to be compared, is known before its last missing byte is submitted: the
-// first range that the feed lacks goes to its end, or it lacks none.
+// Returns how the file of a part differs from the expected one, in the same way.
+fn part_mismatch<K: Keep + Drop>(
+    alloc: Global,
+    node: &FeedNode<'_, K>,
+    check: &mut FileCheck,
+    part: WholePart,
+    bytes: &[u8],
+) -> Option<Mismatch> {
+    let fetching = node.fetching()?;
+    let WholePart { first, length, .. } = part;
+    match check.part_mismatch(alloc, node.feed(), &fetching.name, first, length, bytes) {
+        None if !lacks_end(node, check) => Some(check.range_mismatch()),
+        mismatch => mismatch,
+    }
+}
+
+// Returns whether the whole file, if it is read from its front on, is known before its last missing byte is submitted:
+// the first range that the feed lacks goes to its end, or it lacks none.
 fn lacks_end<K: Keep + Drop>(node: &FeedNode<'_, K>, check: &FileCheck) -> bool {
-    let (Some(size), Some(fetching)) = (check.summed_size(), node.fetching()) else {
+    let (Some(size), Some(fetching)) = (check.read_size(), node.fetching()) else {
         return true;
     };
     match node.feed().next_range(&fetching.name, u64::MAX) {
@@ -551,6 +666,7 @@ fn lacks_end<K: Keep + Drop>(node: &FeedNode<'_, K>, check: &FileCheck) -> bool 
 
 // Takes a part of a whole file, and discards its bytes. No more parts are taken once nothing is missing.
 fn take_part<K: Keep + Drop>(
+    rt: &HostRuntime,
     node: &mut FeedNode<'_, K>,
     running: &mut RunningExchange,
     outgoing: &mut OutgoingRequest,
@@ -563,10 +679,10 @@ fn take_part<K: Keep + Drop>(
     let Some(bytes) = outgoing.reply().get(part.from..part.to) else {
         return Step::Wait;
     };
-    let WholePart { first, length, .. } = part;
-    if let Some(mismatch) = running.check.part_mismatch(first, length, bytes) {
+    if let Some(mismatch) = part_mismatch(rt.alloc(), node, &mut running.check, part, bytes) {
         return Step::Refuse(mismatch);
     }
+    let WholePart { first, length, .. } = part;
     match node.take_part(first, length, bytes, lines) {
         Ok(is_new) => {
             outgoing.discard(part.to);
@@ -587,6 +703,49 @@ fn is_answered<K: Keep + Drop>(node: &FeedNode<'_, K>) -> bool {
         Some(fetching) => is_reported(node.feed(), &fetching.name),
         None => false,
     }
+}
+
+// Returns the counts of the active release of the package that is fetched, if there is one and memory lasts.
+fn counts_of_active<K: Keep + Drop>(node: &FeedNode<'_, K>) -> Option<ListCounts> {
+    let fetching = node.fetching()?;
+    match active_counts(node.feed(), fetching.name.package()) {
+        Ok(counts) => counts,
+        Err(_) => None,
+    }
+}
+
+// Returns the rows of this release.
+fn rows_of_active<K: Keep + Drop>(node: &FeedNode<'_, K>) -> usize {
+    rows_before(counts_of_active(node))
+}
+
+// Prints the counts of a list, and the rows of the release that was active before.
+fn print_counts(lines: &mut Printer<Vec<u8>>, counts: ListCounts, before: usize) {
+    let ListCounts { rows, aside } = counts;
+    let _ = lines.print(format_args!("rows {rows} aside {aside}, before {before}"));
+}
+
+// Returns the place of the last line of a text.
+fn last_line_at(text: &[u8]) -> usize {
+    let Some((_, before)) = text.split_last() else {
+        return 0;
+    };
+    match before.iter().rposition(|byte| *byte == b'\n') {
+        Some(place) => place.saturating_add(1).min(text.len()),
+        None => 0,
+    }
+}
+
+// Returns the most bytes of a request, 1 to 1,048,576.
+fn piece_of(source: Source<'_>) -> u64
+    ensures least { 1 ≤ result }
+    ensures most { result ≤ piece_limit }
+{
+    let most = match source.max_shrink {
+        Some(_) => COUNTED_PIECE,
+        None => PIECE_LIMIT as u64,
+    };
+    source.piece.max(1).min(most)
 }
 
 // Returns whether nothing is missing of the release that is fetched.

@@ -1,11 +1,12 @@
 //! The replies of a node to its requests.
-ghost use Rattle.std.specs.Prelude.{◌≡◌, Err, IfNone, IfOk, IfSome, MatchBool};
+ghost use Rattle.std.specs.Prelude.{◌≡◌, is_some, Err, IfNone, IfOk, IfSome, MatchBool};
 ghost use Rattle.feed_model.specs.History.{History};
 ghost use Rattle.feed_model.specs.Content.{IsContent};
 ghost use Rattle.feed_releases.specs.Feeds.{recorded};
 ghost use Rattle.feed_resolver.specs.NodeReplies.{SaysOfConnection};
 ghost use Rattle.feed_http_heads.specs.Options.{SaysWhetherItKeeps};
 ghost use Rattle.feed_node_machine.specs.Occasions.{terms_of};
+ghost use Rattle.feed_resolver_request.specs.FetchRequests.{IsWhetherToBegin};
 ghost use Rattle.feed_node_service.specs.Reports.{HasReport, HasNoReport, IsReportIn};
 ghost use Rattle.feed_node_service.specs.Responders.{IsHeldBack, IsReplyBy, IsTurnReply, response_in};
 
@@ -53,6 +54,21 @@ fn into_reply(response: Response, is_streamed: bool) -> Reply
     Reply {
         bytes: response.into_bytes(),
         summary,
+    }
+}
+
+// Returns what a request says of the file that the node begins to fetch for it, or none if it does not begin to. So
+// only a client that has the token says anything, such as that it accepts any list.
+fn expected_by(
+    alloc: Global,
+    bytes: &[u8],
+    policy: &FetchPolicy<'_>,
+) -> Option<Option<ExpectedFile>>
+    ensures { IsWhetherToBegin policy.now bytes.now (is_some result) }
+{
+    match fetch_to_begin(alloc, bytes, policy) {
+        Some(_) => Some(ExpectedFile::of_request(bytes)),
+        None => None,
     }
 }
 
@@ -148,11 +164,11 @@ impl<'a> FeedResponder<'a> {
         ensures held { result ≡ Err RespondFault.Busy → (h : History) → IsContent (recorded occasion.now.feed.now) h
             → IsHeldBack self.now occasion.now.policy h request.now.head.now request.now.persists }
     {
-        let is_streamed = fetch_to_begin(alloc, request.head, &occasion.policy).is_some();
+        let expected = expected_by(alloc, request.head, &occasion.policy);
         match self.response(alloc, occasion, request) {
             Ok(Some(response)) => {
-                self.note(request.head, &occasion.policy, is_streamed);
-                Ok(into_reply(response, is_streamed))
+                self.note(request.head, &occasion.policy, expected);
+                Ok(into_reply(response, expected.is_some()))
             }
             Ok(None) => Err(RespondFault::Busy),
             Err(_) => Err(RespondFault::Memory),
@@ -161,10 +177,10 @@ impl<'a> FeedResponder<'a> {
 
     // Notes what a request says of the file that the node begins to fetch for it, or that the fetch under way ends by
     // it.
-    fn note(&self, bytes: &[u8], policy: &FetchPolicy<'_>, is_streamed: bool) {
+    fn note(&self, bytes: &[u8], policy: &FetchPolicy<'_>, expected: Option<Option<ExpectedFile>>) {
         self.note_end(bytes, policy);
-        if is_streamed {
-            self.state.expect(ExpectedFile::of_request(bytes));
+        if let Some(expected) = expected {
+            self.state.expect(expected);
         }
     }
 

@@ -174,6 +174,7 @@ fn upstream_of(source: Option<Source<'_>>) -> Option<Upstream<'_>> {
         piece,
         fetch_limit,
         has_any_type,
+        max_shrink,
     } = source?;
     Some(Upstream {
         addr,
@@ -181,5 +182,6 @@ fn upstream_of(source: Option<Source<'_>>) -> Option<Upstream<'_>> {
         piece,
         fetch_limit,
         has_any_type,
+        max_shrink,
     })
 }
