@@ -1,5 +1,5 @@
 //! Fetches releases for a node, one request at a time, between the turns of its loop.
-ghost use Rattle.std.specs.Prelude.{◌≡◌, ◌≤◌};
+ghost use Rattle.std.specs.Prelude.{◌≡◌, ◌≤◌, length};
 ghost use Rattle.feed_limits.specs.Limits.{piece_limit};
 ghost use Rattle.feed_node_service.specs.Runs.{IsLaterNode};
 
@@ -726,7 +726,9 @@ fn print_counts(lines: &mut Printer<Vec<u8>>, counts: ListCounts, before: usize)
 }
 
 // Returns the place of the last line of a text.
-fn last_line_at(text: &[u8]) -> usize {
+fn last_line_at(text: &[u8]) -> usize
+    ensures { result ≤ length text.now }
+{
     let Some((_, before)) = text.split_last() else {
         return 0;
     };
