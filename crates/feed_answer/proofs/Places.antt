@@ -223,3 +223,32 @@ unfolding answer_of
 answered_at query holdings places ascending has =
     over_all (hit_by query) holdings.rows places ascending
     (λ i d within. elim (place_among query holdings.rows i d within) [ inl none ↦ inl none | inr among ↦ inr (has i among) ])
+
+-- numbers that ascend, the first of them not below this one
+abbrev Rises : ℕ → List ℕ → Type 0
+Rises low [] = Unit {0}
+Rises low (x ∷ xs) = (low ≤ x) × Rises (x + 1) xs
+
+rises_from : (low lower : ℕ) (xs : List ℕ) → lower ≤ low → Rises low xs → Rises lower xs
+rises_from low lower [] h up = tt
+rises_from low lower (x ∷ xs) h up = (omega (arith, h, up.0), up.1)
+
+places_rise : (test : RowValue → Bool) (base : ℕ) (rows : List RowValue) → Rises base (filter_map (place_by test) (enumerate_from base rows))
+places_rise test base [] = tt
+places_rise test base (row ∷ rows) = elim (test row) as (λ b. test row ≡ b → Rises base (filter_map (place_by test) (enumerate_from base (row ∷ rows)))) [
+  | true ↦ λ e. rw e (omega arith, places_rise test (base + 1) rows)
+  | false ↦ λ e. rw e (rises_from (base + 1) base _ (omega arith) (places_rise test (base + 1) rows))
+] refl
+
+increasing : (low : ℕ) (xs : List ℕ) → Rises low xs → IsStrictlyIncreasing xs
+increasing low [] up k within = absurd (omega (arith, within))
+increasing low (x ∷ []) up k within = absurd (omega (arith, within))
+increasing low (x ∷ y ∷ xs) up zero within = omega (arith, up.1.0)
+increasing low (x ∷ y ∷ xs) up (suc k) within =
+    let next : suc k + 1 ≡ suc (k + 1) = omega arith in
+    rw next (increasing (x + 1) (y ∷ xs) up.1 k (omega (arith, within)))
+
+-- the places of the rows that pass a test ascend
+pub places_ascend : (test : RowValue → Bool) (rows : List RowValue) → IsStrictlyIncreasing (places_by test rows)
+unfolding places_by
+places_ascend test rows = increasing 0 _ (places_rise test 0 rows)

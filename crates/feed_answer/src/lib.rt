@@ -12,6 +12,7 @@ mod laws;
 mod matching;
 mod pair;
 mod query;
+mod row_places;
 
 pub use crate::decode::{decode_pairs, decode_text};
 pub use crate::fault::{QueryFault, WriteFault};
@@ -20,8 +21,9 @@ pub use crate::hits::{Answer, Hit, write_head, write_hit};
 pub use crate::laws::{
     grades_follow_days, serial_answers_are_unchanged, set_has_exactly_its_identifiers, sets_ascend,
 };
-pub use crate::matching::{answer, hit_at, places_of};
+pub use crate::matching::{answer, hit_at};
 pub use crate::pair::{BOOK, JOURNAL, Pair};
 pub use crate::query::{
     QUERY_LIMIT, Query, has_format, has_other_format, has_other_version, query_isbns, query_issns,
 };
+pub use crate::row_places::{RowPlaces, places_of};

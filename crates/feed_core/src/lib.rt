@@ -14,7 +14,7 @@ pub use feed_answer::WriteFault;
 pub use feed_kbart::BadFile;
 pub use feed_keep::{Change, Keep, ListKeep, Record, bad_of};
 pub use feed_model::{KeepFault, Refusal, Reply, State};
-pub use feed_parts::Part;
+pub use feed_parts::{Part, SegmentReader, Segments};
 pub use feed_releases::{AnswerFault, Event, Feed, OpenFault, Point};
 pub use feed_world::{Line, Sent, Why, WorldEvent};
 pub use transcript::Transcript;

@@ -47,7 +47,7 @@ impl Database for DatabaseFile<'_> {
             }
             Err(_) => {}
         }
-        match SqlKeep::open_file(self.rt, self.path, self.cache_pages()) {
+        match SqlKeep::open_file_with_cache(self.rt, self.path, self.cache_pages()) {
             Ok(keeper) => Ok(keeper),
             Err(StoreFault::NotOurs) if self.has_other_name() => Err(DatabaseFault::Linked),
             Err(fault) => Err(fault_of(fault)),

@@ -1,7 +1,8 @@
 pub mod Places
 pub mod Steps
 pub mod Readings
-pub mod Runs
+pub mod Columns
+pub mod Merging
 pub mod Ordered
 pub mod Listed
 pub mod Stored

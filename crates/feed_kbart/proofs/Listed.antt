@@ -1,15 +1,16 @@
 -- The entries of an identifier are those of the rows that have it.
 use Rattle.std.proofs.Common.{◌≡◌, ◌<◌, ◌≤◌, ◌+◌, ℕ, zero, suc, Bool, true, false, ◌||◌, eqb, List, [], ◌∷◌, ◌++◌, map}
-use Rattle.std.proofs.Common.{length, Option, Some, None, IfSome, option_map, if◌then◌else◌, refl, sym, ap, ◌∙◌, append_assoc, arith}
+use Rattle.std.proofs.Common.{length, Option, Some, None, IfSome, option_map, if◌then◌else◌, refl, sym, ap, ◌∙◌, append_assoc, arith, sum_by}
 use Rattle.std.specs.List.{All, cons_option, enumerate_from, filter_map}
 use Rattle.std.specs.Str.{bytes_eq}
 use Rattle.std.specs.Cmp.Lexicographic.{bytes_decides}
 use Rattle.std.proofs.lemmas.Bool.Decides.{nat_tests}
-use Rattle.std.proofs.lemmas.Grind.{flat_map-append}
-use Rattle.std.proofs.lemmas.List.{append-nil, length-append, map-append}
+use Rattle.std.proofs.lemmas.List.{append-nil, length-append, length-map, map-append}
 use Rattle.std.proofs.lemmas.List.Elements.{All-append, filter-append}
-use Rattle.feed_limits.specs.Limits.{file_limit}
-use Rattle.feed_kbart.specs.Index.{AreIndexed, Ascends, HasIdentifiers, IsIndexOf, IsRunOf, each_once, entries_from, entries_of, places_beside, places_in}
+use Rattle.std.proofs.lemmas.List.Sums.{sum_by-append}
+use Rattle.feed_kbart.specs.Entries.{AreSorted}
+use Rattle.feed_kbart.specs.Index.{AreIndexed, HasIdentifiers, IsIndexOf, each_once, entries_from, entries_of}
+use Rattle.feed_kbart.specs.Runs.{HasEntries, weight_of}
 use Rattle.feed_identifiers.specs.Issn.{IsIssn, number_of}
 use Rattle.feed_identifiers.specs.Isbn as isbn
 use Rattle.feed_identifiers.specs.Isbn.{IsIsbn}
@@ -19,14 +20,14 @@ use Rattle.feed_kbart.specs.Places.{has_isbn, has_issn, is_same_identifier, plac
 use Rattle.feed_kbart.specs.declared.identifiers.Identifiers.{Identifiers}
 use Rattle.feed_kbart.specs.declared.identifiers.Identifiers.TheVariants.{Serial, Book}
 use Rattle.feed_kbart.specs.RowValue.{RowValue}
-use Rattle.feed_kbart.specs.declared.index.Entry.{Entry}
+use Rattle.feed_kbart.specs.declared.entry.Entry.{Entry}
 use Rattle.feed_kbart.specs.declared.index.Index.{Index}
-use Rattle.feed_kbart.specs.declared.index.Run.{Run}
 use Rattle.feed_kbart.specs.declared.index_builder.IndexBuilder.{IndexBuilder}
-use Rattle.feed_kbart.proofs.Ordered.{numbered}
+use Rattle.feed_kbart.proofs.Columns.{beside_entries, column_ascends}
+use Rattle.feed_kbart.proofs.Ordered.{in_file_order, numbered, numbers_ascend, placed}
 
-one : (n place m : ℕ) (xs : List ℕ) → places_beside n (numbered place (m ∷ [])) ++ xs ≡ cons_option (if eqb m n then Some place else None) xs
-one n place m xs = elim (eqb m n) as (λ b. eqb m n ≡ b → places_beside n (numbered place (m ∷ [])) ++ xs ≡ cons_option (if b then Some place else None) xs) [
+one : (n place m : ℕ) (xs : List ℕ) → placed n (numbered place (m ∷ [])) ++ xs ≡ cons_option (if eqb m n then Some place else None) xs
+one n place m xs = elim (eqb m n) as (λ b. eqb m n ≡ b → placed n (numbered place (m ∷ [])) ++ xs ≡ cons_option (if b then Some place else None) xs) [
   | true ↦ λ e. rw e refl
   | false ↦ λ e. rw e refl
 ] refl
@@ -41,11 +42,11 @@ or_itself : (b : Bool) → (b || b) ≡ b
 or_itself true = refl
 or_itself false = refl
 
-two : (n place k m : ℕ) (xs : List ℕ) → places_beside n (numbered place (each_once (Some k) (Some m))) ++ xs ≡ cons_option (if eqb k n || eqb m n then Some place else None) xs
+two : (n place k m : ℕ) (xs : List ℕ) → placed n (numbered place (each_once (Some k) (Some m))) ++ xs ≡ cons_option (if eqb k n || eqb m n then Some place else None) xs
 two n place k m xs = go (eqb k m) (eqb k n) (eqb m n) refl refl refl
   where
     go : (s a b : Bool) → eqb k m ≡ s → eqb k n ≡ a → eqb m n ≡ b
-        → places_beside n (numbered place (each_once (Some k) (Some m))) ++ xs ≡ cons_option (if eqb k n || eqb m n then Some place else None) xs
+        → placed n (numbered place (each_once (Some k) (Some m))) ++ xs ≡ cons_option (if eqb k n || eqb m n then Some place else None) xs
     go true a b s e f = rw (s, same_at k m n s, or_itself (eqb k n)) (one n place k xs)
     go false true true s e f = absurd (cc (both_at k m n s e))
     go false true false s e f = rw (s, e, f) refl
@@ -78,7 +79,7 @@ or_false false = refl
 own_placed : (number : List ℕ → ℕ) (Is : List ℕ → Type 0) (identifier : List ℕ)
     → ((own : List ℕ) → Is own → bytes_eq identifier own ≡ eqb (number own) (number identifier))
     → (place : ℕ) (print online : Option (List ℕ)) (xs : List ℕ) → IfSome print Is → IfSome online Is
-    → places_beside (number identifier) (numbered place (each_once (option_map number print) (option_map number online))) ++ xs
+    → placed (number identifier) (numbered place (each_once (option_map number print) (option_map number online))) ++ xs
     ≡ cons_option (if is_same_identifier identifier print || is_same_identifier identifier online then Some place else None) xs
 own_placed number Is identifier tests place None None xs p o = refl
 own_placed number Is identifier tests place None (Some online) xs p o = rw (tests online o) (one (number identifier) place (number online) xs)
@@ -90,13 +91,13 @@ own_placed number Is identifier tests place (Some print) (Some online) xs p o =
 -- identifiers of the other kind have no place there
 other_placed : (number : List ℕ → ℕ) (Is : List ℕ → Type 0) (n : ℕ) → ((own : List ℕ) → Is own → eqb (number own) n ≡ false)
     → (place : ℕ) (print online : Option (List ℕ)) (xs : List ℕ) → IfSome print Is → IfSome online Is
-    → places_beside n (numbered place (each_once (option_map number print) (option_map number online))) ++ xs ≡ xs
+    → placed n (numbered place (each_once (option_map number print) (option_map number online))) ++ xs ≡ xs
 other_placed number Is n apart place None None xs p o = refl
 other_placed number Is n apart place None (Some online) xs p o = rw (apart online o) refl
 other_placed number Is n apart place (Some print) None xs p o = rw (apart print p) refl
 other_placed number Is n apart place (Some print) (Some online) xs p o =
     elim (eqb (number print) (number online))
-    as (λ b. eqb (number print) (number online) ≡ b → places_beside n (numbered place (each_once (Some (number print)) (Some (number online)))) ++ xs ≡ xs) [
+    as (λ b. eqb (number print) (number online) ≡ b → placed n (numbered place (each_once (Some (number print)) (Some (number online)))) ++ xs ≡ xs) [
       | true ↦ λ e. rw (e, apart print p) refl
       | false ↦ λ e. rw (e, apart print p, apart online o) refl
     ] refl
@@ -117,7 +118,7 @@ one_more : (tell : NumbersTell) (s t : List ℕ) → IsIsbn s → IsIsbn t → i
 one_more tell s t i j e = tell.isbns s t i j (omega arith)
 
 issn_placed : NumbersTell → (issn : List ℕ) → IsIssn issn → (place : ℕ) (own : Identifiers) (xs : List ℕ) → AreIdentifiers own
-    → places_beside (number_of issn) (numbered place (each_once (numbers own).0 (numbers own).1)) ++ xs
+    → placed (number_of issn) (numbered place (each_once (numbers own).0 (numbers own).1)) ++ xs
     ≡ cons_option (if is_same_identifier issn (print_issn own) || is_same_identifier issn (online_issn own) then Some place else None) xs
 issn_placed tell issn i place (Serial print online) xs are =
     own_placed number_of IsIssn issn (λ own o. same_test number_of IsIssn tell.issns issn own i o) place print online xs are.0 are.1
@@ -125,28 +126,28 @@ issn_placed tell issn i place (Book print online) xs are =
     other_placed isbn_number IsIsbn (number_of issn) (λ own o. above (isbn.number_of own) (number_of issn) (tell.small issn i)) place print online xs are.0 are.1
 
 isbn_placed : NumbersTell → (isbn : List ℕ) → IsIsbn isbn → (place : ℕ) (own : Identifiers) (xs : List ℕ) → AreIdentifiers own
-    → places_beside (isbn_number isbn) (numbered place (each_once (numbers own).0 (numbers own).1)) ++ xs
+    → placed (isbn_number isbn) (numbered place (each_once (numbers own).0 (numbers own).1)) ++ xs
     ≡ cons_option (if is_same_identifier isbn (print_isbn own) || is_same_identifier isbn (online_isbn own) then Some place else None) xs
 isbn_placed tell digits i place (Book print online) xs are =
     own_placed isbn_number IsIsbn digits (λ own o. same_test isbn_number IsIsbn (one_more tell) digits own i o) place print online xs are.0 are.1
 isbn_placed tell digits i place (Serial print online) xs are =
     other_placed number_of IsIssn (isbn_number digits) (λ own o. below (number_of own) (isbn.number_of digits) (tell.small own o)) place print online xs are.0 are.1
 
-placed_append : (n : ℕ) (es fs : List Entry) → places_beside n (es ++ fs) ≡ places_beside n es ++ places_beside n fs
+placed_append : (n : ℕ) (es fs : List Entry) → placed n (es ++ fs) ≡ placed n es ++ placed n fs
 placed_append n es fs = ap (map (λ e. e.place)) (filter-append (λ (e : Entry). eqb e.number n) es fs) ∙ map-append (λ (e : Entry). e.place) _ _
 
 -- a row's place is among the entries with a number exactly if it passes the test
 abbrev IsTold : ℕ → (RowValue → Bool) → Type 0
 IsTold n test = (place : ℕ) (row : RowValue) (xs : List ℕ) → HasIdentifiers row
-    → places_beside n (entries_of place row.identifiers) ++ xs ≡ cons_option (if test row then Some place else None) xs
+    → placed n (entries_of place row.identifiers) ++ xs ≡ cons_option (if test row then Some place else None) xs
 
 rows_placed : (n : ℕ) (test : RowValue → Bool) (place : ℕ) (rows : List RowValue) → IsTold n test → All HasIdentifiers rows
-    → places_beside n (entries_from place rows) ≡ filter_map (place_by test) (enumerate_from place rows)
+    → placed n (entries_from place rows) ≡ filter_map (place_by test) (enumerate_from place rows)
 rows_placed n test place [] told all = refl
 rows_placed n test place (row ∷ rows) told all =
     let has : HasIdentifiers row = all 0 row (omega arith) in
     placed_append n (entries_of place row.identifiers) (entries_from (place + 1) rows)
-    ∙ ap (λ xs. places_beside n (entries_of place row.identifiers) ++ xs) (rows_placed n test (place + 1) rows told (λ k d within. all (suc k) d (omega (arith, within))))
+    ∙ ap (λ xs. placed n (entries_of place row.identifiers) ++ xs) (rows_placed n test (place + 1) rows told (λ k d within. all (suc k) d (omega (arith, within))))
     ∙ told place row (filter_map (place_by test) (enumerate_from (place + 1) rows)) has
 
 pub entries_from-append : (place : ℕ) (front back : List RowValue) → entries_from place (front ++ back) ≡ entries_from place front ++ entries_from (place + length front) back
@@ -158,81 +159,54 @@ entries_from-append place (row ∷ front) back =
     rw (same, entries_from-append (place + 1) front back)
     (sym (append_assoc (entries_of place row.identifiers) (entries_from (place + 1) front) (entries_from ((place + 1) + length front) back)))
 
--- a row is added to those that are in no run
+-- a row is added
 pub row_indexed : (rows : List RowValue) (row : RowValue) (old new : IndexBuilder) → new.runs ≡ old.runs
     → new.recent.items ≡ old.recent.items ++ entries_of old.next row.identifiers → new.next ≡ old.next + 1 → HasIdentifiers row
     → AreIndexed rows old → AreIndexed (rows ++ row ∷ []) new
-row_indexed rows row old new runs recent next has is =
-    let place : old.next ≡ length is.front + length is.back = is.next ∙ ap length is.whole ∙ length-append is.front is.back in
-    record {
-      front = is.front;
-      back = is.back ++ row ∷ [];
-      whole = ap (λ l. l ++ row ∷ []) is.whole ∙ append_assoc is.front is.back (row ∷ []);
-      next = omega (arith, next, is.next, length-append rows (row ∷ []));
-      recent = recent ∙ rw (place, is.recent, entries_from-append (length is.front) is.back (row ∷ []))
-          (ap (λ l. entries_from (length is.front) is.back ++ l) (sym (append-nil (entries_of (length is.front + length is.back) row.identifiers))));
-      ascending = rw runs is.ascending;
-      sealed = rw runs is.sealed;
-      printed = All-append HasIdentifiers rows (row ∷ []) is.printed (All-one row has);
-    }
+row_indexed rows row old new runs recent next has is = record {
+  next = omega (arith, next, is.next, length-append rows (row ∷ []));
+  same = λ weight. omega (
+    arith,
+    ap (weight_of weight) runs,
+    ap (sum_by weight) recent,
+    is.same weight,
+    ap (λ place. sum_by weight (entries_of place row.identifiers)) is.next,
+    sum_by-append weight old.recent.items (entries_of old.next row.identifiers),
+    ap (sum_by weight) (entries_from-append 0 rows (row ∷ [])),
+    sum_by-append weight (entries_from 0 rows) (entries_from (0 + length rows) (row ∷ [])),
+    last weight,
+  );
+  printed = All-append HasIdentifiers rows (row ∷ []) is.printed (All-one row has);
+}
   where
     All-one : (row : RowValue) → HasIdentifiers row → All HasIdentifiers (row ∷ [])
     All-one row has zero d h = has
     All-one row has (suc k) d h = absurd (omega (arith, h))
 
-entries_of_both : (front back : List RowValue) → entries_from 0 (front ++ back) ≡ entries_from 0 front ++ entries_from (length front) back
-entries_of_both front back =
-    let same : 0 + length front ≡ length front = omega arith in
-    rw same at (entries_from-append 0 front back)
+    last : (weight : Entry → ℕ) → sum_by weight (entries_from (0 + length rows) (row ∷ [])) ≡ sum_by weight (entries_of (length rows) row.identifiers)
+    last weight =
+        let same : 0 + length rows ≡ length rows = omega arith in
+        rw same (ap (sum_by weight) (append-nil (entries_of (length rows) row.identifiers)))
 
-places_more : (n : ℕ) (runs : List Run) (run : Run) → places_in n (runs ++ run ∷ []) ≡ places_in n runs ++ places_beside n run.entries.items
-places_more n runs run =
-    flat_map-append (λ (run : Run). places_beside n run.entries.items) runs (run ∷ [])
-    ∙ ap (λ l. places_in n runs ++ l) (append-nil (places_beside n run.entries.items))
-
--- the entries that are in no run become one
-pub run_sealed : (rows : List RowValue) (old new : IndexBuilder) (run : Run) → length rows ≤ file_limit → new.runs.items ≡ old.runs.items ++ run ∷ []
-    → new.recent.items ≡ [] → new.next ≡ old.next
-    → ((first : ℕ) (some : List RowValue) → first + length some ≤ 4294967296 → old.recent.items ≡ entries_from first some → IsRunOf old.recent.items run)
-    → AreIndexed rows old → AreIndexed rows new
-run_sealed rows old new run few runs recent next made is = record {
-  front = rows;
-  back = [];
-  whole = sym (append-nil rows);
-  next = next ∙ is.next;
-  recent = recent;
-  ascending = rw runs (All-append Ascends old.runs.items (run ∷ []) is.ascending (All-one own.ascending));
-  sealed = λ n. rw runs (places_more n old.runs.items run ∙ all n);
-  printed = is.printed;
-}
-  where
-    own : IsRunOf old.recent.items run
-    own = made (length is.front) is.back (omega (arith, few, ap length is.whole, length-append is.front is.back)) is.recent
-
-    All-one : Ascends run → All Ascends (run ∷ [])
-    All-one up zero d h = up
-    All-one up (suc k) d h = absurd (omega (arith, h))
-
-    all : (n : ℕ) → places_in n old.runs.items ++ places_beside n run.entries.items ≡ places_beside n (entries_from 0 rows)
-    all n =
-        ap (λ l. l ++ places_beside n run.entries.items) (is.sealed n)
-        ∙ ap (λ l. places_beside n (entries_from 0 is.front) ++ l) (own.same n ∙ ap (places_beside n) is.recent)
-        ∙ sym (placed_append n (entries_from 0 is.front) (entries_from (length is.front) is.back))
-        ∙ ap (places_beside n) (sym (entries_of_both is.front is.back) ∙ ap (entries_from 0) (sym is.whole))
-
--- the runs of all rows are their index
-pub indexed : NumbersTell → (rows : List RowValue) (builder : IndexBuilder) (index : Index) → index.runs ≡ builder.runs → builder.recent.items ≡ []
-    → AreIndexed rows builder → IsIndexOf rows index
+-- sorted entries that are those of rows have the places of the rows that pass a test
+sorted_placed : (n : ℕ) (test : RowValue → Bool) (rows : List RowValue) (sorted : List Entry) → IsTold n test → All HasIdentifiers rows
+    → ((weight : Entry → ℕ) → sum_by weight sorted ≡ sum_by weight (entries_from 0 rows)) → AreSorted sorted → placed n sorted ≡ places_by test rows
 unfolding places_by
-indexed tell rows builder index runs none is = record {
-  ascending = rw runs is.ascending;
-  issns = λ issn i. rw runs (all_sealed (number_of issn)
-      ∙ rows_placed (number_of issn) (has_issn issn) 0 rows (λ place row xs has. issn_placed tell issn i place row.identifiers xs has) is.printed);
-  isbns = λ digits i. rw runs (all_sealed (isbn_number digits)
-      ∙ rows_placed (isbn_number digits) (has_isbn digits) 0 rows (λ place row xs has. isbn_placed tell digits i place row.identifiers xs has) is.printed);
+sorted_placed n test rows sorted told all same up = in_file_order n rows sorted same up ∙ rows_placed n test 0 rows told all
+
+-- their columns are an index
+pub indexed : NumbersTell → (rows : List RowValue) (index : Index) (total : (Entry → ℕ) → ℕ) → length rows ≤ 4294967296 → All HasIdentifiers rows
+    → HasEntries total index → ((weight : Entry → ℕ) → total weight ≡ sum_by weight (entries_from 0 rows)) → IsIndexOf rows index
+indexed tell rows index total few all has whole = record {
+  table = record {
+    even = rw (has.numbers, has.places) (length-map has.entries (λ (e : Entry). e.place) ∙ sym (length-map has.entries (λ (e : Entry). e.number)));
+    ascending = rw has.numbers (column_ascends has.entries (numbers_ascend rows has.entries few same has.sorted));
+  };
+  issns = λ issn i. rw (has.numbers, has.places) (beside_entries (number_of issn) has.entries
+      ∙ sorted_placed (number_of issn) (has_issn issn) rows has.entries (λ place row xs has. issn_placed tell issn i place row.identifiers xs has) all same has.sorted);
+  isbns = λ digits i. rw (has.numbers, has.places) (beside_entries (isbn_number digits) has.entries
+      ∙ sorted_placed (isbn_number digits) (has_isbn digits) rows has.entries (λ place row xs has. isbn_placed tell digits i place row.identifiers xs has) all same has.sorted);
 }
   where
-    all_sealed : (n : ℕ) → places_in n builder.runs.items ≡ places_beside n (entries_from 0 rows)
-    all_sealed n =
-        is.sealed n ∙ ap (places_beside n) (sym (append-nil (entries_from 0 is.front)) ∙ ap (λ l. entries_from 0 is.front ++ l) (sym none ∙ is.recent)
-        ∙ sym (entries_of_both is.front is.back) ∙ ap (entries_from 0) (sym is.whole))
+    same : (weight : Entry → ℕ) → sum_by weight has.entries ≡ sum_by weight (entries_from 0 rows)
+    same weight = has.same weight ∙ whole weight

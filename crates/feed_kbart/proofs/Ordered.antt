@@ -1,17 +1,19 @@
 -- Entries in the order of their keys have the places of each number in file order.
 use Rattle.std.proofs.Common.{◌≡◌, ◌<◌, ◌≤◌, ◌+◌, ◌*◌, ◌-◌, ◌∙◌, ℕ, suc, true, false, eqb, ltb, if◌then◌else◌, List, [], ◌∷◌, ◌++◌}
 use Rattle.std.proofs.Common.{map, length, get_or, refl, sym, ap, arith}
-use Rattle.std.specs.List.{All, sum_by}
-use Rattle.std.specs.List.Sorted.{IsNonDecreasingBy, IsPermutation}
+use Rattle.std.specs.List.{filter, sum_by}
+use Rattle.std.specs.List.Sorted.{IsNonDecreasingBy}
 use Rattle.std.proofs.lemmas.Bool.Decides.{nat_tests}
-use Rattle.std.proofs.lemmas.List.Elements.{All-append, All-map}
-use Rattle.std.proofs.lemmas.List.Sorted.{All-permutation, sum_by-IsPermutation}
-use Rattle.std.proofs.lemmas.List.Sums.{sum_by-cons}
+use Rattle.std.proofs.lemmas.List.Sums.{get_or-le-sum_by, sum_by-append, sum_by-cons}
+use Rattle.feed_kbart.specs.Entries.{AreSorted, key_of}
 use Rattle.feed_kbart.specs.Identifiers.{numbers}
-use Rattle.feed_kbart.specs.Index.{IsRunOf, each_once, entries_from, entries_of, key_of, places_beside}
+use Rattle.feed_kbart.specs.Index.{each_once, entries_from, entries_of}
 use Rattle.feed_kbart.specs.RowValue.{RowValue}
-use Rattle.feed_kbart.specs.declared.index.Entry.{Entry}
-use Rattle.feed_kbart.specs.declared.index.Run.{Run}
+use Rattle.feed_kbart.specs.declared.entry.Entry.{Entry}
+
+-- the places of the entries with a number
+abbrev pub placed : ℕ → List Entry → List ℕ
+placed n entries = map (λ e. e.place) (filter (λ e. eqb e.number n) entries)
 
 abbrev pub numbered : ℕ → List ℕ → List Entry
 numbered place numbers = map (λ number. record { number = number; place = place }) numbers
@@ -73,9 +75,9 @@ same_rising low (x ∷ xs) (y ∷ ys) p q same =
 abbrev hit : ℕ → ℕ → Entry → ℕ
 hit n v e = if eqb e.number n then (if eqb e.place v then 1 else 0) else 0
 
-times_placed : (n v : ℕ) (es : List Entry) → times v (places_beside n es) ≡ sum_by (hit n v) es
+times_placed : (n v : ℕ) (es : List Entry) → times v (placed n es) ≡ sum_by (hit n v) es
 times_placed n v [] = refl
-times_placed n v (e ∷ es) = elim (eqb e.number n) as (λ b. eqb e.number n ≡ b → times v (places_beside n (e ∷ es)) ≡ sum_by (hit n v) (e ∷ es)) [
+times_placed n v (e ∷ es) = elim (eqb e.number n) as (λ b. eqb e.number n ≡ b → times v (placed n (e ∷ es)) ≡ sum_by (hit n v) (e ∷ es)) [
   | true ↦ λ h. rw (sum_by-cons (hit n v) e es, h) (ap (λ k. (if eqb e.place v then 1 else 0) + k) (times_placed n v es))
   | false ↦ λ h. rw (sum_by-cons (hit n v) e es, h) (omega (arith, times_placed n v es))
 ] refl
@@ -92,9 +94,9 @@ ascends low (e ∷ es) up first = (
   ascends (key_of e) es (λ i j d h g. up (suc i) (suc j) d (omega (arith, h)) (omega (arith, g))) (λ d h. up 0 1 d (omega arith) (omega (arith, h))),
 )
 
-placed_rise : (n low k : ℕ) (es : List Entry) → Ascends k es → low ≤ k - n * 4294967296 → Rises low (places_beside n es)
+placed_rise : (n low k : ℕ) (es : List Entry) → Ascends k es → low ≤ k - n * 4294967296 → Rises low (placed n es)
 placed_rise n low k [] up h = tt
-placed_rise n low k (e ∷ es) up h = elim (eqb e.number n) as (λ b. eqb e.number n ≡ b → Rises low (places_beside n (e ∷ es))) [
+placed_rise n low k (e ∷ es) up h = elim (eqb e.number n) as (λ b. eqb e.number n ≡ b → Rises low (placed n (e ∷ es))) [
   | true ↦ λ t.
       let same : e.number ≡ n = grind (arith, nat_tests) in
       rw t (omega (arith, same, up.0, h), placed_rise n e.place (key_of e) es up.1 (omega (arith, same)))
@@ -106,54 +108,64 @@ rise_from : (low lower : ℕ) (xs : List ℕ) → lower ≤ low → Rises low xs
 rise_from low lower [] h up = tt
 rise_from low lower (x ∷ xs) h up = (omega (arith, h, up.0), up.1)
 
-numbered_rise : (n place : ℕ) (own : List ℕ) (more : List Entry) → Rises place (places_beside n more) → Rises place (places_beside n (numbered place own ++ more))
+numbered_rise : (n place : ℕ) (own : List ℕ) (more : List Entry) → Rises place (placed n more) → Rises place (placed n (numbered place own ++ more))
 numbered_rise n place [] more up = up
-numbered_rise n place (m ∷ own) more up = elim (eqb m n) as (λ b. eqb m n ≡ b → Rises place (places_beside n (numbered place (m ∷ own) ++ more))) [
+numbered_rise n place (m ∷ own) more up = elim (eqb m n) as (λ b. eqb m n ≡ b → Rises place (placed n (numbered place (m ∷ own) ++ more))) [
   | true ↦ λ t. rw t (omega arith, numbered_rise n place own more up)
   | false ↦ λ t. rw t (numbered_rise n place own more up)
 ] refl
 
-entries_rise : (n place : ℕ) (rows : List RowValue) → Rises place (places_beside n (entries_from place rows))
+entries_rise : (n place : ℕ) (rows : List RowValue) → Rises place (placed n (entries_from place rows))
 entries_rise n place [] = tt
 entries_rise n place (row ∷ rows) =
     let own = numbers row.identifiers in
     numbered_rise n place (each_once own.0 own.1) (entries_from (place + 1) rows) (rise_from (place + 1) place _ (omega arith) (entries_rise n (place + 1) rows))
 
 -- so do the same entries in the order of their keys
-in_file_order : (n first : ℕ) (rows : List RowValue) (entries sorted : List Entry) → entries ≡ entries_from first rows → IsPermutation entries sorted
-    → IsNonDecreasingBy key_of sorted → places_beside n sorted ≡ places_beside n entries
-in_file_order n first rows entries sorted are moved up =
-    same_rising 0 (places_beside n sorted) (places_beside n entries) (placed_rise n 0 0 sorted (ascends 0 sorted up (λ d h. omega arith)) (omega arith))
-    (rw are (rise_from first 0 _ (omega arith) (entries_rise n first rows)))
-    (λ v. times_placed n v sorted ∙ sum_by-IsPermutation (hit n v) entries sorted moved ∙ sym (times_placed n v entries))
+pub in_file_order : (n : ℕ) (rows : List RowValue) (sorted : List Entry) → ((weight : Entry → ℕ) → sum_by weight sorted ≡ sum_by weight (entries_from 0 rows))
+    → AreSorted sorted → placed n sorted ≡ placed n (entries_from 0 rows)
+in_file_order n rows sorted same up =
+    let entries = entries_from 0 rows in
+    same_rising 0 (placed n sorted) (placed n entries) (placed_rise n 0 0 sorted (ascends 0 sorted up (λ d h. omega arith)) (omega arith)) (entries_rise n 0 rows)
+    (λ v. times_placed n v sorted ∙ same (hit n v) ∙ sym (times_placed n v entries))
 
 -- a place has 32 bits, so the numbers ascend as the keys do
-abbrev IsPlaced : Entry → Type 0
-IsPlaced e = e.place < 4294967296
+abbrev far : Entry → ℕ
+far e = if ltb e.place 4294967296 then 0 else 1
 
-entries_placed : (place : ℕ) (rows : List RowValue) → place + length rows ≤ 4294967296 → All IsPlaced (entries_from place rows)
-entries_placed place [] h = λ k d within. absurd (omega (arith, within))
-entries_placed place (row ∷ rows) h =
+near : (place : ℕ) → place < 4294967296 → ltb place 4294967296 ≡ true
+near place h = grind (arith, nat_tests)
+
+numbered_near : (place : ℕ) (own : List ℕ) → place < 4294967296 → sum_by far (numbered place own) ≡ 0
+numbered_near place [] h = refl
+numbered_near place (m ∷ own) h =
+    let e : Entry = record { number = m; place = place } in
+    sum_by-cons far e (numbered place own) ∙ rw (near place h) (omega (arith, numbered_near place own h))
+
+entries_near : (place : ℕ) (rows : List RowValue) → place + length rows ≤ 4294967296 → sum_by far (entries_from place rows) ≡ 0
+entries_near place [] h = refl
+entries_near place (row ∷ rows) h =
     let own = numbers row.identifiers in
-    All-append IsPlaced (entries_of place row.identifiers) (entries_from (place + 1) rows)
-    (All-map IsPlaced (λ number. record { number = number; place = place }) (each_once own.0 own.1) (λ k d within. omega (arith, h)))
-    (entries_placed (place + 1) rows (omega (arith, h)))
+    omega (
+      arith,
+      sum_by-append far (entries_of place row.identifiers) (entries_from (place + 1) rows),
+      numbered_near place (each_once own.0 own.1) (omega (arith, h)),
+      entries_near (place + 1) rows (omega (arith, h)),
+    )
+
+not_far : (e : Entry) → far e ≤ 0 → e.place < 4294967296
+not_far e h = elim (ltb e.place 4294967296) as (λ b. ltb e.place 4294967296 ≡ b → e.place < 4294967296) [
+  | true ↦ λ t. grind (arith, nat_tests)
+  | false ↦ λ t. absurd (omega (arith, rw t at h))
+] refl
 
 number_first : (m n p q : ℕ) → m * 4294967296 + p ≤ n * 4294967296 + q → q < 4294967296 → m ≤ n
 number_first m n p q h g = omega (arith, h, g)
 
-numbers_ascend : (first : ℕ) (rows : List RowValue) (entries sorted : List Entry) → first + length rows ≤ 4294967296 → entries ≡ entries_from first rows
-    → IsPermutation entries sorted → IsNonDecreasingBy key_of sorted → IsNonDecreasingBy (λ e. e.number) sorted
-numbers_ascend first rows entries sorted few are moved up i j d h g =
-    let all : All IsPlaced entries = rw are (entries_placed first rows (omega (arith, few))) in
+pub numbers_ascend : (rows : List RowValue) (sorted : List Entry) → length rows ≤ 4294967296
+    → ((weight : Entry → ℕ) → sum_by weight sorted ≡ sum_by weight (entries_from 0 rows)) → AreSorted sorted → IsNonDecreasingBy (λ e. e.number) sorted
+numbers_ascend rows sorted few same up i j d h g =
     let one = get_or sorted i d in
     let other = get_or sorted j d in
-    number_first one.number other.number one.place other.place (up i j d h g) (All-permutation IsPlaced entries sorted moved all j d g)
-
--- the entries of consecutive rows in the order of their keys are a run of them
-pub run_of_sorted : (first : ℕ) (rows : List RowValue) (entries : List Entry) (run : Run) → first + length rows ≤ 4294967296 → entries ≡ entries_from first rows
-    → IsPermutation entries run.entries.items → IsNonDecreasingBy key_of run.entries.items → IsRunOf entries run
-run_of_sorted first rows entries run few are moved up = record {
-  ascending = numbers_ascend first rows entries run.entries.items few are moved up;
-  same = λ number. in_file_order number first rows entries run.entries.items are moved up;
-}
+    number_first one.number other.number one.place other.place (up i j d h g)
+    (not_far other (omega (arith, get_or-le-sum_by far sorted j d g, same far, entries_near 0 rows (omega (arith, few)))))

@@ -7,6 +7,8 @@ pub mod Texts
 pub mod Identifiers
 pub mod RowValue
 pub mod Places
+pub mod Entries
+pub mod Runs
 pub mod Index
 pub mod Rows
 pub mod Stored

@@ -135,18 +135,18 @@ impl Holdings {
         &self.rows
     }
 
-    /// Appends the places in `rows` of the rows that have an ISSN, in print or online. They ascend, each once.
-    pub fn append_with_issn(&self, places: &mut Vec<u32>, issn: &Issn) -> Result<(), AllocError>
-        ensures { OnOk result (places.new.items ≡ places.old.items ++ places_with issn.now self.now.rows) }
+    /// Returns the places in `rows` of the rows that have an ISSN, in print or online. They ascend, each once.
+    pub fn with_issn(&self, issn: &Issn) -> &[u32]
+        ensures { result.now ≡ places_with issn.now self.now.rows }
     {
-        self.index.append_places(places, issn.number())
+        self.index.places_beside(issn.number())
     }
 
-    /// Appends the places in `rows` of the rows that have an ISBN, in print or online. They ascend, each once.
-    pub fn append_with_isbn(&self, places: &mut Vec<u32>, isbn: &Isbn) -> Result<(), AllocError>
-        ensures { OnOk result (places.new.items ≡ places.old.items ++ places_with_isbn isbn.now self.now.rows) }
+    /// Returns the places in `rows` of the rows that have an ISBN, in print or online. They ascend, each once.
+    pub fn with_isbn(&self, isbn: &Isbn) -> &[u32]
+        ensures { result.now ≡ places_with_isbn isbn.now self.now.rows }
     {
-        self.index.append_places(places, isbn_number(isbn))
+        self.index.places_beside(isbn_number(isbn))
     }
 
     /// Returns the skipped records, in file order.

@@ -1,84 +1,44 @@
-//! The index of rows by identifier. Its entries are in sorted runs of a bounded size, each of consecutive rows.
-ghost use Rattle.std.specs.Prelude.{◌≡◌, ◌≤◌, ◌+◌, ◌^◌, ◌++◌, ℕ, List, OnOk, length};
-ghost use Rattle.std.specs.List.{All};
-ghost use Rattle.feed_kbart.specs.Index.{Ascends, IsRunOf, entries_from, entries_with, key_of, places_beside};
-ghost use Rattle.feed_kbart.specs.Index.{places_in};
-ghost use Rattle.feed_kbart.specs.RowValue.{RowValue};
+//! The index of rows by identifier: two columns, sorted by the identifiers' numbers.
+ghost use Rattle.std.specs.Prelude.{◌≡◌, ◌+◌, IfOk};
+ghost use Rattle.feed_kbart.specs.Index.{IsTable, places_beside};
+ghost use Rattle.feed_kbart.specs.Runs.{HasEntries, run_weight};
 
-use std::alloc::AllocError;
+use crate::merge::next_entry;
+use crate::run::Run;
+use std::alloc::{AllocError, Global};
 
-/// The place of a row, and the number of an identifier that it has. In this order the bytes of an entry are those of
-/// its key.
-#[derive(Clone, Copy, Debug)]
-pub(crate) struct Entry {
-    pub(crate) place: u32,
-    pub(crate) number: u32,
-}
-
-/// The entries of consecutive rows in the order of their numbers. Those of one number are in file order.
-#[derive(Debug, Drop)]
-pub(crate) struct Run {
-    entries: Vec<Entry>,
-}
-
-/// The places of rows by identifier. The runs are in file order.
+/// The places of rows by identifier. Each number is paired with the place of a row that has the identifier.
 #[derive(Debug, Drop)]
 pub(crate) struct Index {
-    pub(crate) runs: Vec<Run>,
-}
-
-impl Entry {
-    // Returns the key by which entries are sorted: those of a smaller number come first, and those of one number in the
-    // order of their places.
-    fn key(&self) -> u64
-        ensures { result ≡ key_of self.now }
-    {
-        self.number as u64 * 0x1_0000_0000 + self.place as u64
-    }
-}
-
-impl Run {
-    /// Sorts the entries of consecutive rows. It takes no memory.
-    pub(crate) fn of(mut entries: Vec<Entry>) -> Run
-        ensures { (first : ℕ) (rows : List RowValue) → first + length rows ≤ 2 ^ 32
-            → entries.items ≡ entries_from first rows → IsRunOf entries.items result }
-    {
-        entries.sort_unstable_by_key(|entry| entry.key());
-        Run { entries }
-    }
-
-    // Returns the entries with a number.
-    fn entries_with(&self, number: u32) -> &[Entry]
-        requires { Ascends self.now }
-        ensures { result.now ≡ entries_with number self.now.entries.items }
-    {
-        let first = self.entries.partition_point(|entry| entry.number < number);
-        let end = self.entries.partition_point(|entry| entry.number <= number);
-        &self.entries[first..end]
-    }
-
-    // Appends the places of the entries with a number.
-    fn append_places(&self, places: &mut Vec<u32>, number: u32) -> Result<(), AllocError>
-        requires { Ascends self.now }
-        ensures { OnOk result (places.new.items ≡ places.old.items ++ places_beside number self.now.entries.items) }
-    {
-        let found = self.entries_with(number);
-        for entry in found {
-            places.push(entry.place)?;
-        }
-        Ok(())
-    }
+    pub(crate) numbers: Vec<u32>,
+    pub(crate) places: Vec<u32>,
 }
 
 impl Index {
-    /// Appends the places of the rows with a number, in file order.
-    pub(crate) fn append_places(&self, places: &mut Vec<u32>, number: u32) -> Result<(), AllocError>
-        requires { All Ascends self.now.runs.items }
-        ensures { OnOk result (places.new.items ≡ places.old.items ++ places_in number self.now.runs.items) }
+    /// Merges two runs into the columns of an index.
+    pub(crate) fn of(alloc: Global, left: &Run, right: &Run) -> Result<Index, AllocError>
+        ensures { IfOk result (HasEntries (λ weight. run_weight weight left.now + run_weight weight right.now)) }
     {
-        for run in &self.runs {
-            run.append_places(places, number)?;
+        let count = left.len() + right.len();
+        let mut numbers = Vec::with_capacity(alloc, count)?;
+        let mut places = Vec::with_capacity(alloc, count)?;
+        let mut at = (0, 0);
+        for _ in 0..count {
+            let (entry, next) = next_entry(&left.entries, &right.entries, at);
+            numbers.push(entry.number)?;
+            places.push(entry.place)?;
+            at = next;
         }
-        Ok(())
+        Ok(Index { numbers, places })
+    }
+
+    /// Returns the places that are paired with a number.
+    pub(crate) fn places_beside(&self, number: u32) -> &[u32]
+        requires { IsTable self.now }
+        ensures { result.now ≡ places_beside number self.now.numbers.items self.now.places.items }
+    {
+        let first = self.numbers.partition_point(|one| *one < number);
+        let end = self.numbers.partition_point(|one| *one <= number);
+        &self.places[first..end]
     }
 }

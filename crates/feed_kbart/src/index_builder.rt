@@ -1,13 +1,18 @@
 //! The index of rows while they are read. The entries of the rows read last are collected, and sorted into a run when
-//! they are many.
-ghost use Rattle.std.specs.Prelude.{◌≡◌, ◌≤◌, ◌<◌, ◌++◌, List, [], ◌∷◌, IfOk, OnOk, length};
+//! they are many. The runs are merged meanwhile.
+ghost use Rattle.std.specs.Prelude.{◌≡◌, ◌≤◌, ◌<◌, ◌+◌, ◌++◌, ℕ, List, [], ◌∷◌, IfOk, OnOk, length, sum_by};
 ghost use Rattle.feed_kbart.specs.Identifiers.{AreIdentifiers};
 ghost use Rattle.feed_kbart.specs.Index.{AreIndexed, IsIndexOf, entries_of};
 ghost use Rattle.feed_kbart.specs.RowValue.{RowValue};
+ghost use Rattle.feed_kbart.specs.Runs.{weight_of};
+ghost use Rattle.feed_kbart.specs.declared.entry.Entry.{Entry};
 ghost use Rattle.feed_limits.specs.Limits.{file_limit};
 
+use crate::entry::Entry;
 use crate::identifiers::Identifiers;
-use crate::index::{Entry, Index, Run};
+use crate::index::Index;
+use crate::run::Run;
+use crate::runs::Runs;
 use feed_identifiers::{issn_numbers_are_small, one_isbn_for_number, one_issn_for_number};
 use std::alloc::{AllocError, Global};
 use std::mem::replace;
@@ -15,10 +20,17 @@ use std::mem::replace;
 // The most entries of a run. They take 512 KiB, and are sorted in 2 ms.
 const RUN_SIZE: usize = 65_536;
 
+// After so many rows some entries of the runs are merged.
+const ROW_COUNT: u32 = 64;
+
+// The most entries that are merged then: 16 for each of these rows, which takes some microseconds. So the runs are
+// merged as fast as rows are read, and no row waits for long.
+const MERGE_COUNT: usize = 1_024;
+
 /// The entries of the rows so far. Those of the rows read last are in no run yet.
 #[derive(Drop)]
 pub(crate) struct IndexBuilder {
-    runs: Vec<Run>,
+    runs: Runs,
     recent: Vec<Entry>,
     // The place of the next row.
     next: u32,
@@ -55,7 +67,7 @@ impl IndexBuilder {
         ensures { AreIndexed [] result }
     {
         IndexBuilder {
-            runs: Vec::new(alloc),
+            runs: Runs::new(alloc),
             recent: Vec::new(alloc),
             next: 0,
         }
@@ -63,19 +75,18 @@ impl IndexBuilder {
 
     // Makes a run of the entries that are in none.
     fn seal(&mut self, alloc: Global) -> Result<(), AllocError>
-        ensures same { OnOk result ((rows : List RowValue) → length rows ≤ file_limit → AreIndexed rows self.old
-            → AreIndexed rows self.new) }
+        ensures next { OnOk result (self.new.next ≡ self.old.next) }
+        ensures same { OnOk result ((weight : Entry → ℕ) → weight_of weight self.new.runs
+            ≡ weight_of weight self.old.runs + sum_by weight self.old.recent.items) }
         ensures sealed { OnOk result (self.new.recent.items ≡ []) }
     {
         let recent = replace(&mut self.recent, Vec::new(alloc));
-        self.runs.push(Run::of(recent))?;
-        Ok(())
+        self.runs.add(Run::of(recent))
     }
 
     // Makes a run if there is no room for the entries of another row, which are two at most.
     fn make_room(&mut self, alloc: Global) -> Result<(), AllocError>
-        ensures { OnOk result ((rows : List RowValue) → length rows ≤ file_limit → AreIndexed rows self.old
-            → AreIndexed rows self.new) }
+        ensures { OnOk result ((rows : List RowValue) → AreIndexed rows self.old → AreIndexed rows self.new) }
     {
         if self.recent.len() < RUN_SIZE - 1 {
             return Ok(());
@@ -83,6 +94,16 @@ impl IndexBuilder {
         self.seal(alloc)?;
         self.recent.reserve_exact(RUN_SIZE)?;
         Ok(())
+    }
+
+    // Merges some entries of the runs if it is time for that.
+    fn merge_some(&mut self, alloc: Global) -> Result<(), AllocError>
+        ensures { OnOk result ((rows : List RowValue) → AreIndexed rows self.old → AreIndexed rows self.new) }
+    {
+        if self.next % ROW_COUNT != 0 {
+            return Ok(());
+        }
+        self.runs.merge_some(alloc, MERGE_COUNT)
     }
 
     /// Adds the next row, which has these identifiers.
@@ -93,7 +114,7 @@ impl IndexBuilder {
         self.make_room(alloc)?;
         add_entries(&mut self.recent, self.next, identifiers)?;
         self.next = self.next.saturating_add(1);
-        Ok(())
+        self.merge_some(alloc)
     }
 
     /// Returns the index of the rows.
@@ -104,9 +125,8 @@ impl IndexBuilder {
         one_issn_for_number();
         one_isbn_for_number();
         issn_numbers_are_small();
-        self.recent.shrink_to_fit();
         self.seal(alloc)?;
         let IndexBuilder { runs, .. } = self;
-        Ok(Index { runs })
+        runs.finish(alloc)
     }
 }

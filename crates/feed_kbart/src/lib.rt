@@ -1,12 +1,13 @@
 //! Holdings lists of serials and books: the tab-separated files of NISO RP-9-2014 (KBART).
 //!
 //! `read_file` returns the rows of a file and the records that it skipped, or the first reason why the file is bad.
-//! `Holdings::append_with_issn` and `append_with_isbn` find the rows of an identifier by an index. Queries parse
-//! identifiers, dates and volumes with the same functions.
+//! `Holdings::with_issn` and `with_isbn` find the rows of an identifier by an index. Queries parse identifiers, dates and
+//! volumes with the same functions.
 #![tactic(auto)]
 
 mod count;
 mod coverage;
+mod entry;
 mod fault;
 mod file;
 mod file_rows;
@@ -19,10 +20,13 @@ mod indexed_store;
 mod label;
 mod law;
 mod list_records;
+mod merge;
 mod records;
 mod retired;
 mod row;
 mod row_store;
+mod run;
+mod runs;
 mod stored_record;
 mod stored_text;
 mod volume;

@@ -2,36 +2,52 @@
 ghost use Rattle.std.specs.Prelude.{◌≡◌, ◌≤◌, ◌-◌, length, nat_lt};
 ghost use Rattle.feed_kbart.specs.Retired.{portion};
 
-use crate::index::{Index, Run};
+use crate::index::Index;
 use crate::row::Row;
 use std::marker::Model;
 
-// The number of rows that are freed at a time, in about a millisecond.
+// The number of rows, or of numbers or places of the index, that are freed at a time. That takes a millisecond at most.
 const PORTION: usize = 16_384;
 
-/// Holdings that are no longer used, whose memory is freed in portions. In contracts it is the size of what is left:
-/// the number of rows, and a portion for each run of the index.
+/// Holdings that are no longer used, whose memory is freed in portions. In contracts it is the size of what is left: the
+/// number of rows, and of numbers and places in the index.
 #[derive(Drop)]
 pub struct RetiredHoldings {
+    numbers: Vec<u32>,
+    places: Vec<u32>,
     rows: Vec<Row>,
-    runs: Vec<Run>,
 }
 
 impl Model for RetiredHoldings {
-    ghost use Rattle.std.specs.Prelude.{ℕ, ◌+◌, ◌*◌, length};
-    ghost use Rattle.feed_kbart.specs.Retired.{portion};
+    ghost use Rattle.std.specs.Prelude.{ℕ, ◌+◌, length};
 
     ghost Value = { ℕ };
 
-    ghost view = { λ r. length r.rows.items + portion * length r.runs.items };
+    ghost view = { λ r. length r.numbers.items + length r.places.items + length r.rows.items };
+}
+
+// Frees at most so many values. Returns how many more may be freed.
+fn free_some<T: Drop>(values: &mut Vec<T>, count: usize) -> usize
+    ensures freed { length values.new.items ≡ length values.old.items - count }
+    ensures left { result ≡ count - length values.old.items }
+{
+    let rest = count.saturating_sub(values.len());
+    let left = values.len().saturating_sub(count);
+    values.truncate(left);
+    values.shrink_to_fit();
+    rest
 }
 
 impl RetiredHoldings {
     pub(crate) fn of(rows: Vec<Row>, index: Index) -> RetiredHoldings
         ensures { length rows.items ≤ result }
     {
-        let Index { runs } = index;
-        RetiredHoldings { rows, runs }
+        let Index { numbers, places } = index;
+        RetiredHoldings {
+            numbers,
+            places,
+            rows,
+        }
     }
 
     /// Frees the next portion. Returns whether any is left.
@@ -39,11 +55,9 @@ impl RetiredHoldings {
         ensures freed { self.new ≡ self.old - portion }
         ensures left { result ≡ nat_lt 0 self.new }
     {
-        if self.runs.pop().is_none() {
-            let left = self.rows.len().saturating_sub(PORTION);
-            self.rows.truncate(left);
-            self.rows.shrink_to_fit();
-        }
-        !(self.rows.is_empty() && self.runs.is_empty())
+        let rest = free_some(&mut self.numbers, PORTION);
+        let rest = free_some(&mut self.places, rest);
+        free_some(&mut self.rows, rest);
+        !(self.numbers.is_empty() && self.places.is_empty() && self.rows.is_empty())
     }
 }

@@ -68,7 +68,7 @@ impl ListCheck {
     }
 
     /// Returns what `feed_kbart::read_file` returns for all bytes received. Takes time in proportion to the line that
-    /// has not ended, and at most a few milliseconds to complete the index, whatever the size of the list.
+    /// has not ended, and to the entries of the index, whose last runs are merged: mostly one pass and a quarter.
     ///
     /// # Errors
     ///

@@ -210,8 +210,8 @@ impl<'a> Tally<'a> {
             (answer_of holdings.now (compared search.now)))) }
     {
         let site_place = package_place(site, name.package());
-        let places = places_of(alloc, holdings, search.query())?;
-        let rows = holdings.rows();
-        self.add_hits_at(alloc, site, today, name, site_place, rows, &places, search)
+        let found = places_of(alloc, holdings, search.query())?;
+        let (rows, places) = (holdings.rows(), found.as_slice());
+        self.add_hits_at(alloc, site, today, name, site_place, rows, places, search)
     }
 }

@@ -15,19 +15,29 @@ use std::alloc::Global;
 use std::hash::{BuildHasher, RandomState};
 use std::io::ErrorKind;
 
-/// The pages of a database file that are kept in memory, unless a caller asks for more.
+/// The pages of a database file that are kept in memory, unless a caller asks for another number.
 pub const CACHE_PAGES: usize = 2_000;
 
 impl SqlKeep<FileStore<File>> {
     /// Opens the keeper of a database file, or creates the file if it does not exist. The log is beside it, at the same
-    /// path with `-wal`. The file is locked until the keeper is closed or dropped. This many of its pages are kept in
-    /// memory. An open reads each page that is kept twice, and any other one up to six times.
+    /// path with `-wal`. The file is locked until the keeper is closed or dropped. `CACHE_PAGES` of its pages are kept in
+    /// memory.
     ///
     /// # Errors
     ///
     /// Returns `NotOurs` if SQLite rejects the file or its tables are not those of a keeper, and `Device` if another
     /// process has it open.
-    pub fn open_file(
+    pub fn open_file(rt: &HostRuntime, path: &str) -> Result<SqlKeep<FileStore<File>>, StoreFault>
+        ensures opened { IfOk result (λ keep.
+            IsOpenedAs (image_at ⟦<Unknown as Start>⟧) keep.0 keep.1.1) }
+        ensures fresh { IfOk result (λ keep. (keep.1.0 ≡ 0) × (keep.1.2 ≡ 0)) }
+    {
+        SqlKeep::open_file_with_cache(rt, path, CACHE_PAGES)
+    }
+
+    /// Opens the keeper of a database file, as `open_file` does, and keeps this many of its pages in memory. An open reads
+    /// each page that is kept twice, and any other one up to six times.
+    pub fn open_file_with_cache(
         rt: &HostRuntime,
         path: &str,
         cache_pages: usize,

@@ -191,20 +191,30 @@ pub fn rows(out: &mut Out<'_>, mut words: Words<'_>) -> Result<(), Fault> {
     let (path, text) = (words.word(), words.word());
     words.check()?;
     let holdings = holdings_of(out.rt, path)?;
-    let mut places = Vec::new(out.rt.alloc());
-    append_places(&mut places, &holdings, text.as_bytes())?;
-    print_places(out, &places);
+    print_places(out, places_with(&holdings, text.as_bytes())?);
     Ok(())
 }
 
-// Appends the places of the rows that have an identifier.
-fn append_places(places: &mut Vec<u32>, holdings: &Holdings, text: &[u8]) -> Result<(), Fault> {
-    match (Issn::parse(text), Isbn::parse(text)) {
-        (Some(issn), _) => holdings.append_with_issn(places, &issn)?,
-        (None, Some(isbn)) => holdings.append_with_isbn(places, &isbn)?,
-        (None, None) => return Err(Fault("not an identifier")),
+pub fn places(out: &mut Out<'_>, mut words: Words<'_>) -> Result<(), Fault> {
+    let (size, path) = (words.number(), words.word());
+    words.check()?;
+    let bytes = file_of(out.rt, path)?;
+    let Ok(holdings) = list_in_windows(out.rt.alloc(), &bytes, size) else {
+        return Err(Fault("not a holdings list"));
+    };
+    for text in words.rest.split(' ') {
+        print_places(out, places_with(&holdings, text.as_bytes())?);
     }
     Ok(())
+}
+
+// The places of the rows that have an identifier.
+fn places_with<'a>(holdings: &'a Holdings, text: &[u8]) -> Result<&'a [u32], Fault> {
+    match (Issn::parse(text), Isbn::parse(text)) {
+        (Some(issn), _) => Ok(holdings.with_issn(&issn)),
+        (None, Some(isbn)) => Ok(holdings.with_isbn(&isbn)),
+        (None, None) => Err(Fault("not an identifier")),
+    }
 }
 
 fn print_places(out: &mut Out<'_>, places: &[u32]) {

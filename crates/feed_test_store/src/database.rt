@@ -1,6 +1,6 @@
 //! Databases that are opened as keepers: in files, and in memory.
 use feed_keep::Keep;
-use feed_store::{CACHE_PAGES, SqlKeep};
+use feed_store::SqlKeep;
 use sqlite::MemStore;
 use sqlite_std_file::File;
 use sqlite_store::FileStore;
@@ -26,7 +26,7 @@ impl Database for DatabaseFile<'_> {
     type Keeper = SqlKeep<FileStore<File>>;
 
     fn open(&self) -> Result<SqlKeep<FileStore<File>>, Fail> {
-        match SqlKeep::open_file(self.rt, self.path, CACHE_PAGES) {
+        match SqlKeep::open_file(self.rt, self.path) {
             Ok(keeper) => Ok(keeper),
             Err(fault) => Err(Fail::new(fault)),
         }

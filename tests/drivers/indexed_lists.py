@@ -1,0 +1,69 @@
+#!/usr/bin/env python3
+"""Compares the places that `Holdings::with_issn` and `with_isbn` return with those of a plain search.
+
+indexed_lists.py
+
+Each list is written to the file `list` in the current folder. feed_test_lists reads it at once and in windows of some
+sizes, and prints the places of some identifiers: of the first and the last row, of rows between them, and of none.
+Prints a line for each list, and each line of feed_test_lists that is not the one wanted. Fails if there is one."""
+import subprocess
+import sys
+
+from many_rows import LABELS, issn
+
+# A run of the index has at most so many entries.
+RUN = 65_536
+
+
+def isbn(number):
+    digits = f"978{number:09}"
+    return digits + str(-sum(int(digit) * (3 if at % 2 else 1) for at, digit in enumerate(digits)) % 10)
+
+
+# The identifiers of a row of each list, by its place and the number of rows.
+LISTS = {
+    "ascending": lambda row, rows: (issn(row), ""),
+    "descending": lambda row, rows: ("", issn(rows - row)),
+    "of one ISSN": lambda row, rows: (issn(7), ""),
+    "with equal ISSNs": lambda row, rows: (issn(row % 1_000), issn(row % 1_000)),
+    "with two ISSNs": lambda row, rows: (issn(row * 7_919 % 5_003), issn(5_000_000 + row % 3)),
+    "with books": lambda row, rows: (isbn(row % 401), isbn(401 - row % 401)) if row % 2 else (issn(row % 401), ""),
+}
+
+
+def write_list(identifiers):
+    with open("list", "w", encoding="ascii") as out:
+        print("\t".join(LABELS), "publication_type", sep="\t", file=out)
+        for first, second in identifiers:
+            kind = "monograph" if len(first) == 13 else ""
+            print("T", first, second, "", "", "", "", "", kind, sep="\t", file=out)
+
+
+def places_of(wanted, identifiers):
+    found = [str(place) for place, row in enumerate(identifiers) if wanted in row]
+    return " ".join(["places", *found])
+
+
+def check_list(name, rows, steps):
+    identifiers = [LISTS[name](row, rows) for row in range(rows)]
+    write_list(identifiers)
+    asked = [row[0] or row[1] for row in identifiers[::rows // 5 + 1] + identifiers[-1:]]
+    asked += [row[1] for row in identifiers[-1:] if row[1]] + [issn(9_999_999), isbn(999_999_999)]
+    lines = [f"places {step} list {' '.join(asked)}" for step in steps]
+    printed = subprocess.run(["feed_test_lists"], input="\n".join(lines), capture_output=True, text=True, check=True)
+    expected = [places_of(wanted, identifiers) for wanted in asked] * len(steps)
+    wrong = [line for line, got, want in zip(lines, printed.stdout.splitlines(), expected, strict=True) if got != want]
+    print(f"{rows} rows {name}" if not wrong else "\n".join(f"{rows} rows {name}: {line}" for line in wrong))
+    return not wrong
+
+
+def main():
+    whole = 1 << 30
+    good = [check_list(name, rows, [1, 100, whole]) for name in LISTS for rows in (1, 64, 130)]
+    good += [check_list(name, rows, [131_072, whole]) for name in LISTS for rows in (RUN - 1, RUN, RUN + 1)]
+    good += [check_list(name, rows, [131_072]) for name in LISTS for rows in (5 * RUN + 77,)]
+    sys.exit(0 if all(good) else 1)
+
+
+if __name__ == "__main__":
+    main()
