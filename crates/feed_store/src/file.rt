@@ -20,8 +20,8 @@ pub const CACHE_PAGES: usize = 2_000;
 
 impl SqlKeep<FileStore<File>> {
     /// Opens the keeper of a database file, or creates the file if it does not exist. The log is beside it, at the same
-    /// path with `-wal`. The file is locked until the keeper is closed or dropped. `CACHE_PAGES` of its pages are kept in
-    /// memory.
+    /// path with `-wal`. The file is locked until the keeper is closed or dropped. `CACHE_PAGES` of its pages are kept
+    /// in memory.
     ///
     /// # Errors
     ///
@@ -35,8 +35,8 @@ impl SqlKeep<FileStore<File>> {
         SqlKeep::open_file_with_cache(rt, path, CACHE_PAGES)
     }
 
-    /// Opens the keeper of a database file, as `open_file` does, and keeps this many of its pages in memory. An open reads
-    /// each page that is kept twice, and any other one up to six times.
+    /// Opens the keeper of a database file, as `open_file` does, and keeps this many of its pages in memory. An open
+    /// reads each page that is kept twice, and any other one up to six times.
     pub fn open_file_with_cache(
         rt: &HostRuntime,
         path: &str,
