@@ -9,8 +9,8 @@ use feed_openurl::{Citation, Part};
 use std::alloc::{AllocError, Global};
 use std::marker::Model;
 
-/// What is looked up for a query: its identifiers, its date and its volume, and whether a book that it names comes before
-/// a serial.
+/// What is looked up for a query: its identifiers, its date and its volume, and whether a book that it names comes
+/// before a serial.
 #[derive(Drop)]
 pub struct Lookup {
     query: Query,
@@ -55,7 +55,8 @@ impl Lookup {
 
     /// Returns what is looked up for a query that is read of a text.
     pub(crate) fn of(alloc: Global, text: &[u8], query: Query) -> Result<Lookup, AllocError>
-        ensures { IfOk result (λ lookup. lookup ≡ record { query = query; scope = scope.Hits; is_book_first = is_book_first text.now query }) }
+        ensures { IfOk result (λ lookup. lookup
+            ≡ record { query = query; scope = scope.Hits; is_book_first = is_book_first text.now query }) }
     {
         let is_book_first = is_book_first(alloc, text, &query)?;
         Ok(Lookup {
