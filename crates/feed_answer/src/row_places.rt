@@ -64,8 +64,8 @@ impl<'a> RowPlaces<'a> {
     }
 }
 
-/// Returns the places of the rows that have one of the identifiers of a query. Those of one identifier are a part of the
-/// index, and take no memory.
+/// Returns the places of the rows that have one of the identifiers of a query. Those of one identifier are a part of
+/// the index, and take no memory.
 pub fn places_of<'a>(
     alloc: Global,
     holdings: &'a Holdings,

@@ -1,8 +1,8 @@
 //! Holdings lists of serials and books: the tab-separated files of NISO RP-9-2014 (KBART).
 //!
 //! `read_file` returns the rows of a file and the records that it skipped, or the first reason why the file is bad.
-//! `Holdings::with_issn` and `with_isbn` find the rows of an identifier by an index. Queries parse identifiers, dates and
-//! volumes with the same functions.
+//! `Holdings::with_issn` and `with_isbn` find the rows of an identifier by an index. Queries parse identifiers, dates
+//! and volumes with the same functions.
 #![tactic(auto)]
 
 mod count;

@@ -9,8 +9,8 @@ use std::marker::Model;
 // The number of rows, or of numbers or places of the index, that are freed at a time. That takes a millisecond at most.
 const PORTION: usize = 16_384;
 
-/// Holdings that are no longer used, whose memory is freed in portions. In contracts it is the size of what is left: the
-/// number of rows, and of numbers and places in the index.
+/// Holdings that are no longer used, whose memory is freed in portions. In contracts it is the size of what is left:
+/// the number of rows, and of numbers and places in the index.
 #[derive(Drop)]
 pub struct RetiredHoldings {
     numbers: Vec<u32>,
