@@ -49,11 +49,15 @@ def check_list(name, rows, steps):
     write_list(identifiers)
     asked = [row[0] or row[1] for row in identifiers[::rows // 5 + 1] + identifiers[-1:]]
     asked += [row[1] for row in identifiers[-1:] if row[1]] + [issn(9_999_999), isbn(999_999_999)]
-    lines = [f"places {step} list {' '.join(asked)}" for step in steps]
-    printed = subprocess.run(["feed_test_lists"], input="\n".join(lines), capture_output=True, text=True, check=True)
-    expected = [places_of(wanted, identifiers) for wanted in asked] * len(steps)
-    wrong = [line for line, got, want in zip(lines, printed.stdout.splitlines(), expected, strict=True) if got != want]
-    print(f"{rows} rows {name}" if not wrong else "\n".join(f"{rows} rows {name}: {line}" for line in wrong))
+    lines = [f"places {step} list {' '.join(asked)}\n" for step in steps]
+    printed = subprocess.run(["feed_test_lists"], input="".join(lines), capture_output=True, text=True, check=True)
+    expected = [(step, it, places_of(it, identifiers)) for step in steps for it in asked]
+    wrong = [(step, it) for (step, it, want), got in zip(expected, printed.stdout.splitlines(), strict=True)
+             if got != want]
+    for step, it in wrong:
+        print(f"{rows} rows {name}: places {step} list {it}")
+    if not wrong:
+        print(f"{rows} rows {name}")
     return not wrong
 
 
