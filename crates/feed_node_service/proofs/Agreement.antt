@@ -53,7 +53,7 @@ read_by : (responder : FeedResponder) (terms : Terms) (h : History) (bytes body 
 read_by responder terms h bytes body keeps text reader (inl (reply, is, same)) = no_report responder terms.is_local h bytes keeps reply reader.no_report is
 read_by responder terms h bytes body keeps text reader (inr (none, (response, streamed, (inl feed, begins), same))) =
     no_feed terms.policy bytes keeps response reader.no_feed feed
-read_by responder terms h bytes body keeps text reader (inr (none, (response, streamed, (inr (other, (free, is)), begins), same))) =
+read_by responder terms h bytes body keeps text reader (inr (none, (response, streamed, (inr (other, free, is), begins), same))) =
     record { response = response; is = is; same = same }
 
 pub agree : FilesArePublished → SameReleasesSameNodeBytes → NodesAgree

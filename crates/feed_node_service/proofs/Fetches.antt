@@ -4,7 +4,7 @@ use Rattle.std.specs.Prelude.{◌&&◌, not, is_some, MatchBool}
 use Rattle.httparse.specs.Grammar.{RequestHead}
 use Rattle.httparse.proofs.GrammarLemmas.{request_unique}
 use Rattle.feed_http_heads.specs.Requests.{lacks_host}
-use Rattle.feed_resolver_request.specs.FoundRequests.{BeginsWith}
+use Rattle.feed_resolver_request.specs.FoundRequests.{BeginsWith, HasNoHead}
 use Rattle.feed_resolver_request.specs.FetchRequests.{name_to_fetch}
 use Rattle.feed_resolver.specs.NodeReplies.{AsksForFetch, AsksForNoFetch}
 
@@ -26,3 +26,7 @@ pub asked_or_not : (bytes : List ℕ) (head : RequestHead) (asks : Bool) → Beg
 asked_or_not bytes head asks begins is =
     subst (λ (b : Bool). MatchBool b (AsksForFetch bytes) (AsksForNoFetch bytes)) (sym is)
     (asked_by bytes head begins (lacks_host head) (name_to_fetch head) refl refl)
+
+-- bytes without a head
+pub asks_for_none_without : (bytes : List ℕ) → HasNoHead bytes → AsksForNoFetch bytes
+asks_for_none_without bytes none = λ head begins. absurd (none head begins)

@@ -2,3 +2,4 @@ pub mod Turns
 pub mod Reported
 pub mod Agreement
 pub mod Fetches
+pub mod WantedPackages

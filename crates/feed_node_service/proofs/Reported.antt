@@ -28,6 +28,17 @@ report_in responder is_local h bytes keeps actives releases missing (Some reply)
   is = subst (λ (text : List ℕ). IsReportAnswer metrics gauges text bytes keeps reply) lines is;
 }
 
+-- the same from slices of what was made
+pub report_of_slices : (responder : FeedResponder) (is_local : Bool) (h : History) (bytes : List ℕ) (keeps : Bool) (actives timed listed : List ActiveValue)
+    (releases times : List ReleaseTime) (missing lines : List ℕ) (found : Option ReportReply) → HasReport responder is_local bytes → AreReported h actives
+    → timed ≡ actives → map time_of releases ≡ map active_time timed → times ≡ releases
+    → listed ≡ actives → missing ≡ missing_text listed responder.wanted.now → lines ≡ missing
+    → IsSomeReply bytes keeps times lines found → IsReportIn responder is_local h bytes keeps found
+report_of_slices responder is_local h bytes keeps actives timed listed releases times missing lines found allowed reported as_timed same as_times as_listed text as_lines is =
+    report_in responder is_local h bytes keeps actives times lines found allowed reported
+    (ap (map time_of) as_times ∙ same ∙ ap (map active_time) as_timed)
+    (as_lines ∙ text ∙ ap (λ (active : List ActiveValue). missing_text active responder.wanted.now) as_listed) is
+
 pub next_times : (actives : List ActiveValue) (i : ℕ) (d : ActiveValue) (old new : List (List ℕ × ℕ)) → i < length actives
     → old ≡ map active_time (take i actives) → new ≡ old ++ active_time (get_or actives i d) ∷ [] → new ≡ map active_time (take (i + 1) actives)
 next_times actives i d old new below was is =

@@ -30,7 +30,7 @@ use Rattle.feed_node_service.specs.declared.responder.FeedResponder.{FeedRespond
 pub as_node : (responder : FeedResponder) (policy : FetchPolicyValue) (today : TodayValue) (bytes body : List ℕ) (keeps : Bool) (h : History) (response : ResponseValue)
     → IsFeedResponse policy bytes keeps None → IsAnswerable responder.wanted.now h bytes
     → IsNodeReplyAt responder.site policy today h bytes body keeps response → IsReplyBy responder policy today h bytes body keeps response
-as_node responder policy today bytes body keeps h response other free is = inr (other, (free, is))
+as_node responder policy today bytes body keeps h response other free is = inr (other, free, is)
 
 -- a request is answered by the second of two tests, or by neither
 pub answered_by : (wanted : List (List ℕ)) (h : History) (bytes : List ℕ) (asks : Bool) → LacksOne h wanted
