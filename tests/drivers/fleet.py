@@ -243,7 +243,7 @@ def main():
         time.sleep(0.5)
         fleet.begin_node(1)
         fed = fleet.feed(NAMES[1])
-        if fed.returncode or fed.stdout.count(" activated\n") != 3:
+        if fed.returncode or fed.stdout.count(" activated (rows 3000 ") != 3:
             print(f"the second release does not arrive: {fed.stdout}")
         # nginx asks a node that was stopped again after fail_timeout.
         time.sleep(6)
