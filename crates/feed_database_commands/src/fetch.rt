@@ -80,7 +80,7 @@ pub fn fetch_release<D: Database, O: Write, F: Write + Drop>(
     status
 }
 
-// Returns the rows of the active release of the package of a name: none if there is no release.
+// Returns the rows of the active release of the package of a name, or 0 if the package has no release.
 fn active_rows<K: Keep + Drop>(feed: &Feed<K>, name: &ReleaseName) -> usize {
     match active_counts(feed, name.package()) {
         Ok(counts) => rows_before(counts),

@@ -1,4 +1,4 @@
--- What a client says of a file, and the bytes of it that have arrived from its front on.
+-- A description of a file by a client, and the bytes of the file that have arrived from its front on.
 use Rattle.std.specs.Prelude.{◌≡◌, ◌==◌, ◌≤◌, ◌<◌, ◌+◌, ◌-◌, ◌⊎◌, ℕ, Bool, true, List, length, Option, Some, None}
 use Rattle.sha2.specs.Hashers.{Holds256}
 use Rattle.sha2.specs.Sha256.{sha256}

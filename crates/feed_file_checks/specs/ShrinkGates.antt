@@ -30,7 +30,7 @@ pub record IsHeld (h : History) (stem : List ℕ) (percent : ℕ) (text : List �
   pub before : held.before ≡ rows_before active
   pub few : is_held percent held.before held.counts.rows ≡ true
 
--- the result of the check of a whole file, of which memory may run out
+-- the result of the check of a whole file, which may run out of memory
 abbrev pub IsWholeChecked : History → List ℕ → ℕ → List ℕ → Result (Unit {0}) Hindrance → Type 0
 IsWholeChecked h stem percent text (Ok done) = (counts : Option ListCounts) × AreCountsOf text counts × MayReplace h stem percent counts
 IsWholeChecked h stem percent text (Err (Held held)) = IsHeld h stem percent text held

@@ -1,4 +1,4 @@
-//! What a client says of the file that it has the node fetch.
+//! A description of the file that a client has the node fetch.
 ghost use Rattle.std.specs.Prelude.{◌≡◌, true, false, codes};
 ghost use Rattle.feed_file_checks.specs.FileChecks.{has_size};
 
@@ -8,7 +8,7 @@ use feed_resolver_request::{find_request, query_in};
 use hex::FromHex;
 use httparse::spans::EMPTY_HEADER_SPAN;
 
-/// What a client says of a file: its length in bytes, its SHA-256 digest, and whether it accepts any list.
+/// A description of a file by a client: its length in bytes, its SHA-256 digest, and whether any list is accepted.
 #[derive(Clone, Copy)]
 pub struct ExpectedFile {
     pub size: Option<u64>,

@@ -53,7 +53,7 @@ pub fn active_counts<K: Keep + Drop>(
     Err(AllocError)
 }
 
-/// Returns the rows of a release that may be replaced: none if there is no release.
+/// Returns the rows of a release that may be replaced, or 0 without a release.
 pub fn rows_before(counts: Option<ListCounts>) -> usize
     ensures { result ≡ rows_before counts }
 {

@@ -23,7 +23,7 @@ pub record IsBehindChunks (IsRest : List ℕ → Type 0) (text : List ℕ) : Typ
   pub text_is : text ≡ print_chunks chunks ++ rest
   pub is : IsRest rest
 
--- a chunked body of which more has to arrive: a part of a line, of the bytes of a chunk, or of the trailer section
+-- an unfinished chunked body: it ends in a line, in the bytes of a chunk, or in the trailer section
 abbrev pub IsUnfinishedChunked : List ℕ → Type 0
 IsUnfinishedChunked text = IsBehindChunks (λ rest. IsUnfinishedLine rest ⊎ BeginsWithLine IsUnfinishedBehind rest) text
 

@@ -19,7 +19,7 @@ pub struct Request<'b> {
 }
 
 impl<'b> Request<'b> {
-    /// Returns the request whose head `find_head` found at the front of these bytes.
+    /// Returns the request whose head `find_head` found at the front of the bytes.
     pub fn new(bytes: &'b [u8], headers: &'b [HeaderSpan], spans: RequestSpans) -> Request<'b>
         requires { IsRequestWithin (take head_limit bytes.now) headers.now spans }
         ensures within { IsInBuffer result }

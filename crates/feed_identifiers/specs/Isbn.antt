@@ -33,7 +33,7 @@ is_isbn_13 characters =
 abbrev pub is_isbn_10 : List ℕ → Bool
 is_isbn_10 characters = (length characters == 10) && is_check_of weights_of_ten (take 9 characters) (slice_index characters 9)
 
--- the thirteen digits of nine digits of the older form: 978, the nine digits, and the check digit of these twelve
+-- the thirteen digits of nine digits of the older form: 978, the nine digits, and a check digit of all twelve
 abbrev pub isbn_13_of : List ℕ → List ℕ
 isbn_13_of nine = codes "978" ++ nine ++ check_digit (codes "978" ++ nine) ∷ []
 

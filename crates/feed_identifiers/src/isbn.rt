@@ -134,7 +134,7 @@ fn is_isbn_10(characters: &[u8]) -> bool
     characters.len() == 10 && is_check_of(&WEIGHTS_OF_TEN, &characters[..9], characters[9])
 }
 
-// Converts nine digits of the older form: 978, the nine digits, and the check digit of these twelve.
+// Converts nine digits of the older form: 978, the nine digits, and a check digit of all twelve.
 fn isbn_13_of(nine: &[u8]) -> [u8; 13]
     requires { length nine.now ≡ 9 }
     ensures { result ≡ isbn_13_of nine.now }

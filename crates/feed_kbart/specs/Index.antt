@@ -51,7 +51,7 @@ abbrev pub entries_from : ℕ → List RowValue → List Entry
 entries_from place [] = []
 entries_from place (row ∷ rows) = entries_of place row.identifiers ++ entries_from (place + 1) rows
 
--- an index that is built has the entries of these rows, in runs or in none
+-- an index that is being built has the entries of the rows, some in runs and the others in none
 pub record AreIndexed (rows : List RowValue) (builder : IndexBuilder) : Type 0 where
   pub next : builder.next ≡ length rows
   pub same : (weight : Entry → ℕ)

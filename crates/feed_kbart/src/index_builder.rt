@@ -23,8 +23,8 @@ const RUN_SIZE: usize = 65_536;
 // After so many rows some entries of the runs are merged.
 const ROW_COUNT: u32 = 64;
 
-// The most entries that are merged then: 16 for each of these rows, which takes some microseconds. So the runs are
-// merged as fast as rows are read, and no row waits for long.
+// The most entries that are merged then: 16 for each row since, which takes some microseconds. So the runs are merged
+// as fast as rows are read, and no row waits for long.
 const MERGE_COUNT: usize = 1_024;
 
 /// The entries of the rows so far. Those of the rows read last are in no run yet.
@@ -84,7 +84,7 @@ impl IndexBuilder {
         self.runs.add(Run::of(recent))
     }
 
-    // Makes a run if there is no room for the entries of another row, which are two at most.
+    // Makes a run if the entries of another row, which are two at most, do not fit.
     fn make_room(&mut self, alloc: Global) -> Result<(), AllocError>
         ensures { OnOk result ((rows : List RowValue) → AreIndexed rows self.old → AreIndexed rows self.new) }
     {

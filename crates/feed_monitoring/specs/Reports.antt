@@ -29,7 +29,7 @@ report_at path =
 abbrev pub report_of : RequestHead → Option Report
 report_of head = if lacks_host head then None else report_at (path_in (origin_form head.target))
 
--- the bytes are no request for a report
+-- the bytes do not ask for a report
 abbrev pub AsksForNoReport : List ℕ → Type 0
 AsksForNoReport bytes = HasNoHead bytes ⊎ ((head : RequestHead) × BeginsWith bytes head × (report_of head ≡ None))
 
@@ -70,7 +70,7 @@ kind_of true ready report.Live = kind.Well
 abbrev pub kind_to : RequestHead → Bool → Report → ReportKind
 kind_to head ready asked = kind_of (is_get head || is_head head) ready asked
 
--- the lines about what is missing, or the one that there is no active release
+-- the lines about what is missing, or the one that says that no release is active
 abbrev pub unready_body : List ℕ → List ℕ
 unready_body missing = if nat_lt 0 (length missing) then missing else UNREADY.now
 

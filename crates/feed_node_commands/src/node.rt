@@ -53,7 +53,7 @@ pub struct Hosting<'a> {
 /// start with fewer than 16.
 ///
 /// A check answers no reader, and prints `ok` if all is well. It also reports a prefix of a proxy behind which a list
-/// can add parameters (`Prefix`), which is no fault.
+/// can add parameters (`Prefix`), which is not a fault.
 pub fn run_node<D: Database, O: Write, F: Write + Drop>(
     rt: &HostRuntime,
     database: &D,

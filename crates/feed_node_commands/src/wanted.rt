@@ -13,7 +13,7 @@ const BYTE_LIMIT: usize = 65_536;
 
 const PACKAGE_LIMIT: usize = 256;
 
-// What makes the name of a release of a package.
+// The end that makes a release name of the name of a package.
 const SOME_DAY: &[u8] = b"_2000-01-01.txt";
 
 // Why a line names no package.

@@ -126,8 +126,8 @@ replies_of [] = []
 replies_of (exchange ∷ exchanges) = exchange.interim ++ (exchange.reply ++ replies_of exchanges)
 
 -- the promise: the bytes received begin with requests, and the bytes sent are the beginning of the replies to them, one
--- after the other in the order of the requests, and nothing else; an interim reply may follow to a request of which only
--- the head was received
+-- after the other in the order of the requests, and nothing else; an interim reply may follow to a request whose head
+-- alone was received
 pub record IsServed (replies : Replies) (received sent : List ℕ) : Type 0 where
   pub exchanges : List Exchange
   pub rest : List ℕ

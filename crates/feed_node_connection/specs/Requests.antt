@@ -64,7 +64,7 @@ text_of (Persistent head body) = print_request head ++ body
 text_of (Last head body) = print_request head ++ body
 text_of (Invalid text) = text
 
--- the last of these requests has these bytes
+-- the last one of a list of requests has these bytes
 abbrev pub IsLastOf : List Request → List ℕ → Type 0
 IsLastOf requests bytes = (earlier : List Request) × (last : Request) × (requests ≡ earlier ++ last ∷ []) × (text_of last ≡ bytes)
 

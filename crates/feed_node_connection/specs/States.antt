@@ -29,7 +29,7 @@ AreInterims (Continued ∷ earlier) = AreInterims earlier
 AreInterims (Resumed idle ∷ earlier) = AreInterims earlier
 AreInterims (Elapsed millis ∷ earlier) = AreInterims earlier
 
--- and so is the one to the request at the front of these bytes
+-- and so is the one to the request at the front of the bytes
 abbrev pub AreExpected : List Event → List ℕ → Type 0
 AreExpected history rest = AreInterims history × IsPending rest (interim history)
 
@@ -242,11 +242,11 @@ abbrev pub HasBegunWait : Bool → Connection → Connection → Type 0
 HasBegunWait true old new = HasBegunInterim old new ⊎ HasAborted old new
 HasBegunWait false old new = (new.phase ≡ Receiving) × IsSameButPhase old new
 
--- the first bytes of those, and the bytes of a body after them
+-- the bytes of a body behind a head
 abbrev pub body_after : ℕ → ℕ → List ℕ → List ℕ
 body_after head_len body_len bytes = take body_len (drop head_len bytes)
 
--- the reply to a head and a body of these lengths begins, or the responder made none
+-- the reply to a head and a body with such lengths begins, or the responder made none
 abbrev pub HasResponded : Replies → ℕ → ℕ → Bool → Connection → Connection → Type 0
 HasResponded replies head_len body_len persists old new =
     ((reply : List ℕ)

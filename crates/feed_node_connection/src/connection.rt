@@ -45,7 +45,7 @@ pub enum Wants {
     Close,
 }
 
-/// What a connection is closed for.
+/// The cause for which a connection is closed.
 #[derive(Clone, Copy, Debug, PartialEq, Eq)]
 pub enum Shortage {
     /// Another connection needs its place.

@@ -5,8 +5,8 @@ ghost use Rattle.feed_node_connection.specs.Streams.{AllIsServed};
 
 use crate::respond::Respond;
 
-/// The first requests received have replies, and the bytes sent are the beginning of these replies, or all of them if
-/// the last one was sent whole. A connection that waits for a request has answered each one that was received whole.
+/// The first requests received have replies, and the bytes sent are the beginning of the replies, or all of them if the
+/// last one was sent whole. A connection that waits for a request has answered each one that was received whole.
 /// Past its time limit it waits for nothing.
 pub fn state_is_right()
     ensures { StateIsRight }

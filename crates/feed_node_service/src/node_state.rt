@@ -40,7 +40,7 @@ pub struct NodeState {
     /// Whether a client has asked that the fetch under way end.
     is_canceled: Cell<bool>,
     fetches: RefCell<LastFetches>,
-    /// What the last client that made the node fetch says of the file, or none if its query is invalid.
+    /// The description of the file by the last client that made the node fetch, or none if its query is invalid.
     expected: Cell<Option<ExpectedFile>>,
 }
 

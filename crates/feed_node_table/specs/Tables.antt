@@ -76,7 +76,7 @@ module _ {T : Type 0} where
   IsElapsedAt now key old new =
       (peer : Peer T) → peer_at new key ≡ Some peer → (was : Peer T) × (peer_at old key ≡ Some was) × HasElapsed now was peer
 
-  -- no connection was added, and the clocks of those that remain were advanced
+  -- no connection was added, and the clocks of the remaining ones were advanced
   abbrev pub AreElapsed : ℕ → Table T → Table T → Type 0
   AreElapsed now old new = (key : ℕ) → IsElapsedAt now key old new
 

@@ -1,7 +1,7 @@
 //! Understands the OpenURLs that real sources send: the citation of a query, and the query of the core that means the
 //! same (ANSI/NISO Z39.88-2004, and OpenURL 0.1 before it).
 //!
-//! `Citation::read` and `Understanding::read` read a query in any of these forms, and `Understanding::write` writes the
+//! `Citation::read` and `Understanding::read` read a query in any such form, and `Understanding::write` writes the
 //! OpenURL 1.0 query that `feed_answer` reads.
 #![tactic(auto)]
 

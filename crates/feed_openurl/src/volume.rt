@@ -124,7 +124,7 @@ pub(crate) fn leading_volume(alloc: Global, value: &[u8]) -> Result<Option<Volum
     number_at_front(alloc, without_fillers(rest))
 }
 
-// What follows a number in brackets at the front of a text.
+// Returns the text behind a number in brackets at the front, if there is one.
 fn after_brackets(text: &[u8]) -> Option<&[u8]>
     ensures { option_copied result ≡ after_brackets text.now }
 {

@@ -1,4 +1,4 @@
--- What is left of the releases that a switch removed.
+-- The remains of the releases that a switch removed.
 use Rattle.std.specs.Prelude.{◌≤◌, ◌+◌, ℕ, List, Option, Some, None, length, sum_by}
 use Rattle.feed_kbart.specs.HoldingsValue.{HoldingsValue}
 use Rattle.feed_releases.specs.declared.leftovers.Leftover.{Leftover}
@@ -20,7 +20,7 @@ left_of leftover = length leftover.parts.items + rows_left leftover.holdings
 abbrev pub left_of_all : List Leftover → ℕ
 left_of_all leftovers = sum_by (λ leftover. left_of leftover + 1) leftovers
 
--- the holdings that are left have all rows of these
+-- the holdings that are left have all the rows
 abbrev pub HasRows : Option HoldingsValue → Option ℕ → Type 0
 HasRows None left = Unit {0}
 HasRows (Some holdings) None = ⊥

@@ -60,7 +60,7 @@ pub struct Feed<K: Keep + Drop> {
     releases: Vec<Release>,
     // The release whose file is read ahead. It changes nothing that a feed answers.
     ahead: Option<Ahead>,
-    // What is left of the releases that the last switch removed. They are freed in portions.
+    // The remains of the releases that the last switch removed. They are freed in portions.
     leftovers: Vec<Leftover>,
     ghost mirrors: { K.clean keeper → K.content keeper ≡ content_of releases.items },
     ghost listed: { K.clean keeper → ∥ K.listed keeper ∥₁ },

@@ -1,4 +1,4 @@
-//! What is left of the releases that a switch removed. It is freed in portions, so that no step takes long.
+//! The remains of the releases that a switch removed. They are freed in portions, so that no step takes long.
 ghost use Rattle.std.specs.Prelude.{◌<◌, ◌≤◌, ◌+◌, IsTrue, length};
 ghost use Rattle.feed_releases.specs.Leftovers.{left_of, left_of_all, portion};
 
@@ -9,7 +9,7 @@ use feed_parts::Part;
 // The most parts that are freed at once. A part has at most 1 MiB, so this takes about a millisecond.
 const PORTION: usize = 16;
 
-/// What is left of a release: parts of its file, and its holdings.
+/// The remains of a release: parts of its file, and its holdings.
 #[derive(Drop)]
 pub(crate) struct Leftover {
     pub(crate) parts: Vec<Part>,

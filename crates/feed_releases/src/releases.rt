@@ -70,7 +70,7 @@ pub(crate) fn place_for(releases: &[Release], name: &ReleaseName) -> usize
 }
 
 /// Removes the releases of the name's package that are of earlier days. What is left of them is added to the leftovers,
-/// or freed at once if there is no memory for that.
+/// or freed at once if memory runs out.
 pub(crate) fn drop_earlier(
     releases: &mut Vec<Release>,
     leftovers: &mut Vec<Leftover>,

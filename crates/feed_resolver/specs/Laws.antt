@@ -49,8 +49,8 @@ SameReleasesSameNodeBytes =
 abbrev pub StatusIsJson : Type 0
 StatusIsJson = (site : site_file.SiteValue) (actives : List ActiveValue) → document (status_body site Json actives) ≡ Some (array (items_of (map active_value actives)))
 
--- a hit of the core in an active release, for the query that rows are compared with, that is one of those that are searched
--- for and that the library has
+-- a hit of the core in an active release, for the query that rows are compared with, that is searched for and that the
+-- library has
 pub record IsHeldHit (search : SearchValue) (actives : Sited) (found : ReleaseHitValue) : Type 0 where
   pub active : ActiveValue
   pub is_active : Contains actives.actives active

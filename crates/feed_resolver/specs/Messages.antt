@@ -69,7 +69,7 @@ GoesTo None response = response.status ≡ 404
 GoesTo (Some url) response =
     (response.status ≡ 302) × ((head : ResponseHead) × IsMessage response head [] × (values_named (codes "location") head.fields ≡ url ∷ []))
 
--- `/go` redirects to a hit above which no hit ranks, of those that are counted, that may be linked to
+-- `/go` redirects to a counted hit that may be linked to, and no other such hit ranks above it
 abbrev pub GoesToBest : Type 0
 GoesToBest =
     (site : SiteValue) (keeps : Bool) (actives : Dated) (bytes body : List ℕ) (head : RequestHead) (search : SearchValue) (response : ResponseValue)

@@ -88,8 +88,8 @@ fn also_beside<'a>(
     }
 }
 
-// Returns the tally of the other rows of the same titles, whatever the date and the volume are, if the query names one
-// of these and has no hits itself.
+// Returns the tally of the other rows of the same titles, whatever the date and the volume are, if the query names a
+// date or a volume and has no hits itself.
 fn others_beside<'a>(
     alloc: Global,
     context: &Context<'a>,

@@ -25,7 +25,7 @@ use httparse::spans::EMPTY_HEADER_SPAN;
 use std::alloc::{AllocError, Global};
 use std::io::Write;
 
-/// What a request asks of the feed of a node.
+/// The subject of a request about the feed of a node.
 #[derive(Clone, Copy, Debug, PartialEq, Eq)]
 pub enum FeedTarget {
     /// A GET or a HEAD of `/feed`: the recorded releases.

@@ -86,7 +86,7 @@ is_held site query name hit =
 abbrev pub is_held_dated : site_file.SiteValue → QueryValue → Name → HitValue → Bool
 is_held_dated site query name hit = is_held site query name hit && is_dated query hit.row
 
--- the hit is one of those that are searched for, and the library has it
+-- the hit is searched for, and the library has it
 abbrev pub is_found_as : Scope → site_file.SiteValue → QueryValue → Name → HitValue → Bool
 is_found_as Hits site query name hit = is_held site query name hit
 is_found_as Dated site query name hit = is_held_dated site query name hit

@@ -45,7 +45,7 @@ volumes_members row = joined (
     ∷ codes ",\"last_volume\":" ∷ json_string (volume_text row.last_volume)
     ∷ codes ",\"volumes_words\":" ∷ json_string (volumes_words row) ∷ [])
 
--- all of these
+-- all members of a row
 unfoldable pub row_members : RowValue → List ℕ → List ℕ
 row_members row link = title_members row link ++ (target_members row ++ (days_members row ++ volumes_members row))
 
@@ -95,7 +95,7 @@ more_items tally =
 unfoldable pub list_json : List ℕ → TallyValue → List ℕ
 list_json end tally = codes "[" ++ (items_from (hit_object end) 0 tally.top ++ (more_items tally ++ codes "\n]\n"))
 
--- the list of hits, and that of titles whose date is covered, each of which says why it is not a hit
+-- the list of hits, and that of titles whose date is covered, each with the reason why it is not a hit
 abbrev pub hits_json : TallyValue → List ℕ
 hits_json tally = list_json (codes "}") tally
 

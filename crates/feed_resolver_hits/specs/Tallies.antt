@@ -42,8 +42,8 @@ pub record TallyValue : Type 0 where
   pub top : List ReleaseHitValue
   pub best : Option (List ℕ)
 
--- the tally of these hits: how many are counted, whether these are all, the first ones, those of the highest ranks, and
--- the best link among those counted
+-- the tally of hits: how many are counted, whether all are, the first ones, those of the highest ranks, and the best link
+-- among those counted
 abbrev pub tally_of : List ReleaseHitValue → TallyValue
 tally_of hits = record {
   count = length (counted hits);

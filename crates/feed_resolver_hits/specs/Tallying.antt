@@ -33,7 +33,7 @@ kept_above rank hits = reverse (skip_below rank (reverse hits))
 abbrev pub with_top : List ReleaseHitValue → ReleaseHitValue → List ReleaseHitValue
 with_top top found = take shown_limit (insert top (length (kept_above (rank_of found) top)) found)
 
--- a tally that is being made: how many more hits are counted, and what is known of those so far
+-- a tally that is being made: how many more hits are counted, and what is known of the hits so far
 pub record RunningValue : Type 0 where
   pub left : ℕ
   pub is_whole : Bool

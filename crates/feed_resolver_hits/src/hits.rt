@@ -232,7 +232,7 @@ fn is_held_dated(site: &SiteFile, query: &Query, name: &ReleaseName, hit: &Hit<'
     is_held(site, query, name, hit) && is_dated(hit.row, query)
 }
 
-/// Returns whether a hit of a release is one of those that are searched for, and the library has it.
+/// Returns whether a hit of a release is searched for, and the library has it.
 pub(crate) fn is_found(
     site: &SiteFile,
     search: &Search<'_>,

@@ -1,4 +1,4 @@
-//! What is looked up for a query: its identifiers, its date and its volume, and whether a book comes before a serial.
+//! The look-up of a query: its identifiers, its date and its volume, and whether a book comes before a serial.
 ghost use Rattle.std.specs.Prelude.{◌≡◌, IfOk};
 ghost use Rattle.feed_resolver_hits.specs.Asked.{is_book_first, is_of_serials, names_both};
 

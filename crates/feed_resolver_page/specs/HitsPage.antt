@@ -67,7 +67,7 @@ unfoldable pub cards_part : site_file.SiteValue → List ℕ → TallyValue → 
 cards_part site cited tally also others =
     held_part site tally.count ++ (cards site cited tally.top also.top others.top ++ more_part site tally)
 
--- there is no card
+-- no card is shown
 abbrev pub is_none : TallyValue → TallyValue → TallyValue → Bool
 is_none tally also others = (tally.count == 0) && ((also.count == 0) && (others.count == 0))
 

@@ -184,7 +184,7 @@ fn put_cards(
     put(out, LIST_END)
 }
 
-// Writes that the library has the titles for another date or volume alone, if there is no hit.
+// Writes that the library has the titles for another date or volume alone, if nothing was hit.
 fn put_held(out: &mut Vec<u8>, site: &SiteFile, count: usize) -> Result<(), AllocError>
     ensures { OnOk result (out.new.items ≡ out.old.items ++ held_part site.now count) }
 {

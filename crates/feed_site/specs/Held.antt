@@ -44,7 +44,7 @@ abbrev pub has_asked : HoldingValue → Option DayRange → Bool
 has_asked holding None = true
 has_asked holding (Some days) = shares_day holding.first holding.last (Some days.first) (Some days.last)
 
--- the library has a title, a day of its coverage, and a day of those that are asked for
+-- the library has a title, a day of its coverage, and a day that is asked for
 abbrev pub has_days : HoldingValue → Option ℤ → Option ℤ → Option DayRange → Bool
 has_days holding first last asked = holding.is_held && (shares_day holding.first holding.last first last && has_asked holding asked)
 

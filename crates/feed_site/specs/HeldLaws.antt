@@ -24,7 +24,7 @@ pub record IsHeldDay (holding : HoldingValue) (first last : Option ℤ) (days : 
   pub covered : IsWithin first last day
   pub asked : IsWithin (Some days.first) (Some days.last) day
 
--- days in order, of which a query asks for some that are covered
+-- days in order: a query asks for some of the covered ones
 pub record AreDays (holding : HoldingValue) (first last : Option ℤ) (days : DayRange) : Type 0 where
   pub held : is_holding holding ≡ true
   pub covered : is_forward first last ≡ true

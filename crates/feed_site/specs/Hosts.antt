@@ -46,7 +46,7 @@ abbrev pub ends_named : Bool → List ℕ → Bool
 ends_named is_named [] = is_named
 ends_named is_named (b ∷ rest) = if b == 46 then ends_named (begins_with_letter rest) rest else ends_named is_named rest
 
--- a name that is no number: its last label begins with a letter
+-- a name that is not a number: its last label begins with a letter
 abbrev pub is_name : List ℕ → Bool
 is_name host = ends_named (begins_with_letter host) host
 

@@ -38,7 +38,7 @@ key_text (Some key) = codes "." ++ key
 abbrev pub path_text : MisfitValue → List ℕ
 path_text misfit = ((misfit.place.section ++ number_text misfit.place.row) ++ key_text misfit.key) ++ number_text misfit.item
 
--- the bytes are a document, of which this is the first fault
+-- the bytes are a document whose first fault is this
 pub record IsKeyFault (bytes : List ℕ) (fault : KeyFaultValue) : Type 0 where
   pub doc : Members
   pub is_document : IsDocument bytes doc

@@ -10,7 +10,7 @@ use Rattle.feed_site.specs.Site.{SiteValue}
 use Rattle.feed_site.specs.declared.field.Field.{Field}
 use Rattle.feed_site.specs.declared.field.Field.TheVariants.{Issn, Isbn, Cited}
 
--- a citation and the identifiers of a query, the parts of which a request form may take; one that is absent is empty
+-- a citation and the identifiers of a query, for the parts of a request form; an absent one is empty
 pub record CitedValue : Type 0 where
   pub citation : CitationValue
   pub issn : List ℕ

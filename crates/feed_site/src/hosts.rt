@@ -180,7 +180,7 @@ fn written_host(alloc: Global, host: &[u8]) -> Result<Vec<u8>, AllocError>
     }
 }
 
-/// Returns the host of an address as the URL Standard writes it, or nothing if the text is no address.
+/// Returns the host of an address as the URL Standard writes it, or nothing if the text is not an address.
 ///
 /// # Errors
 ///

@@ -97,7 +97,7 @@ pub fn link_to<'a>(
     }
 }
 
-/// Returns how many of these bytes are left beside the link to a target behind a prefix, with room for each escape.
+/// Returns how many of so many bytes are left beside the link to a target behind a prefix, with room for each escape.
 pub fn left_beside(bytes: usize, prefix: Option<&str>, target: &[u8]) -> usize
     ensures { result ≡ bytes - room_of (option_copied prefix.entry) target.now }
 {

@@ -10,7 +10,7 @@ use feed_openurl::Citation;
 use std::alloc::{AllocError, Global};
 use std::marker::Model;
 
-/// A citation and the identifiers of a query, the parts of which a request form may take. One that is absent is empty.
+/// A citation and the identifiers of a query, for the parts of a request form. An absent one is empty.
 #[derive(Drop)]
 pub struct Cited<'a> {
     pub citation: &'a Citation,

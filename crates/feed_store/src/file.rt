@@ -92,7 +92,7 @@ fn open_pair<S: Start>(
     }
 }
 
-// Returns the options of a database of which so many pages are kept in memory.
+// Returns the options of a database that keeps so many pages in memory.
 fn options_of(rt: &HostRuntime, cache_pages: usize) -> Result<Options, StoreFault> {
     match RandomState::new(rt) {
         Ok(state) => Ok(Options {

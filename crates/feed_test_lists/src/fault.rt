@@ -2,7 +2,7 @@
 use std::alloc::AllocError;
 use std::{fs, io};
 
-/// What is wrong, as the sentence that the program prints.
+/// A fault, as the sentence that the program prints.
 #[derive(Clone, Copy)]
 pub struct Fault(pub &'static str);
 

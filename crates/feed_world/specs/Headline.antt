@@ -56,7 +56,7 @@ pub record IsGoodRelease (events : List WorldEvent) (place : ℕ) (stem : List �
   pub published : file_of (take place events) name ≡ Some its_file
   pub good : fault_of its_file ≡ None
 
--- a line of text is the answer of such a release, which is no older than any earlier report of the node, and no newer than any later one
+-- a line of text is the answer of such a release: no earlier report of the node names a newer one, and no later report an older one
 pub record IsFrom (events : List WorldEvent) (lines : List Line) (place : ℕ) (q : Question) (text : List ℕ) (name : Name) : Type 0 where
   pub release : IsGoodRelease events place q.stem name
   pub whole : Text text ≡ file_says name release.its_file (query_of q.query)
