@@ -1,11 +1,12 @@
 #!/usr/bin/env python3
 """Compares the places that `Holdings::with_issn` and `with_isbn` return with those of a plain search.
 
-indexed_lists.py
+indexed_lists.py [NAME ROWS]
 
 Each list is written to the file `list` in the current folder. feed_test_lists reads it at once and in windows of some
 sizes, and prints the places of some identifiers: of the first and the last row, of rows between them, and of none.
-Prints a line for each list, and each line of feed_test_lists that is not the one wanted. Fails if there is one."""
+Prints a line for each list, and each line of feed_test_lists that is not the one wanted. Fails if there is one. With
+NAME and ROWS it only writes a list of so many rows, such as `ascending`, and prints the first and the last ISSN."""
 import subprocess
 import sys
 
@@ -61,7 +62,16 @@ def check_list(name, rows, steps):
     return not wrong
 
 
+def write_one(name, rows):
+    identifiers = [LISTS[name](row, rows) for row in range(rows)]
+    write_list(identifiers)
+    print(*[row[0] or row[1] for row in (identifiers[0], identifiers[-1])])
+
+
 def main():
+    if len(sys.argv) == 3:
+        write_one(sys.argv[1], int(sys.argv[2]))
+        return
     whole = 1 << 30
     good = [check_list(name, rows, [1, 100, whole]) for name in LISTS for rows in (1, 64, 130)]
     good += [check_list(name, rows, [131_072, whole]) for name in LISTS for rows in (RUN - 1, RUN, RUN + 1)]

@@ -2,8 +2,8 @@
 """Runs a command once for each of its requests for memory, and refuses this request in the run: the first, the second,
 and so on, to the last. Prints how the runs ended, and with --count how many requests were refused.
 
-refused_allocations.py [--count] [--every N] [--copy FILE] [--then LINE] [--or FILE] [--steps] [--again]
-                       [--server ADDR] INPUT COMMAND ..
+refused_allocations.py [--count] [--every N] [--least N] [--copy FILE] [--then LINE] [--or FILE] [--steps]
+                       [--again] [--server ADDR] INPUT COMMAND ..
 
 Standard input is the file INPUT. In COMMAND and LINE, `{}` is a folder that is empty before each run, but for links to
 the files of the current folder; COMMAND then runs there. The C compiler cc compiles refusing.c, which refuses the
@@ -32,6 +32,7 @@ run without a refusal, or one of these:
 A run that ends otherwise is printed with the number of the request.
 
 --every N      refuses only every N-th request
+--least N      refuses only requests of at least N bytes
 --copy FILE    copies FILE, a database, into the folder before each run, with its write-ahead log if there is one
 --then LINE    runs LINE in the shell, with all memory, after each run; it has to print the same as after the run
                without a refusal. It runs once for all runs that leave the same files in the folder
@@ -136,7 +137,8 @@ def begin(given, path, words, folder, out, err, *passed):
     with open(os.devnull if given.steps else path, "rb") as text:
         process = subprocess.Popen(command, stdin=text, stdout=out, stderr=err, pass_fds=[writer, *passed],
                                    cwd=folder if has_folder(given) else None,
-                                   env={**os.environ, **words, "REFUSED_COUNT": str(writer)})
+                                   env={**os.environ, **words, "REFUSED_COUNT": str(writer),
+                                        "REFUSED_LEAST": given.least})
     os.close(writer)
     return process, reader
 
@@ -328,6 +330,7 @@ def main():
     asked.add_argument("--count", action="store_true")
     asked.add_argument("--or", dest="other")
     asked.add_argument("--every", type=int, default=1)
+    asked.add_argument("--least", default="0")
     asked.add_argument("--copy")
     asked.add_argument("--then")
     asked.add_argument("--steps", action="store_true")

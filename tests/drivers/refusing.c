@@ -1,7 +1,8 @@
 /* Loaded into a program by LD_PRELOAD: refuses requests for memory, one in a run, and counts them. At the end the
    count goes to the descriptor REFUSED_COUNT. The C library's own functions serve all other requests.
 
-   REFUSED=K refuses the K-th request, and 0 none.
+   REFUSED=K refuses the K-th request, and 0 none. Requests of fewer than REFUSED_LEAST bytes are neither counted nor
+   refused.
 
    REFUSED_EVERY=N refuses the first of each N requests, each in a copy of the process, which begins at that request
    and so repeats nothing before it. The copy works in the folder REFUSED_COPIES/K, a copy of the process's folder
@@ -34,7 +35,7 @@ struct copy {
     unsigned long request;
 };
 
-static unsigned long asked, refused, every, jobs, running;
+static unsigned long asked, least, refused, every, jobs, running;
 static struct copy copies[MOST_JOBS];
 /* Whether requests are this library's own, and whether this process is a copy. */
 static int is_busy, is_copy;
@@ -46,6 +47,7 @@ static unsigned long number_of(const char *name) {
 
 /* Earlier requests are the loader's, and are not counted. */
 __attribute__((constructor)) static void begin(void) {
+    least = number_of("REFUSED_LEAST");
     refused = number_of("REFUSED");
     every = number_of("REFUSED_EVERY");
     jobs = number_of("REFUSED_JOBS");
@@ -185,8 +187,8 @@ static int is_copied(unsigned long request) {
     return 0;
 }
 
-static int is_refused(void) {
-    if (is_busy)
+static int is_refused(size_t size) {
+    if (is_busy || size < least)
         return 0;
     asked++;
     int refuses = asked == refused;
@@ -201,19 +203,19 @@ static int is_refused(void) {
 }
 
 void *malloc(size_t size) {
-    return is_refused() ? NULL : __libc_malloc(size);
+    return is_refused(size) ? NULL : __libc_malloc(size);
 }
 
 void *calloc(size_t count, size_t size) {
-    return is_refused() ? NULL : __libc_calloc(count, size);
+    return is_refused(count * size) ? NULL : __libc_calloc(count, size);
 }
 
 void *realloc(void *old, size_t size) {
-    return is_refused() ? NULL : __libc_realloc(old, size);
+    return is_refused(size) ? NULL : __libc_realloc(old, size);
 }
 
 void *memalign(size_t alignment, size_t size) {
-    return is_refused() ? NULL : __libc_memalign(alignment, size);
+    return is_refused(size) ? NULL : __libc_memalign(alignment, size);
 }
 
 void *aligned_alloc(size_t alignment, size_t size) {

@@ -1,4 +1,5 @@
 //! The error that ends the program: what is wrong with a line.
+use feed_kbart::KbartFault;
 use std::alloc::AllocError;
 use std::{fs, io};
 
@@ -9,6 +10,15 @@ pub struct Fault(pub &'static str);
 impl From<AllocError> for Fault {
     fn from(_error: AllocError) -> Fault {
         Fault("out of memory")
+    }
+}
+
+impl From<KbartFault> for Fault {
+    fn from(fault: KbartFault) -> Fault {
+        match fault {
+            KbartFault::Memory => Fault("out of memory"),
+            _ => Fault("not a holdings list"),
+        }
     }
 }
 

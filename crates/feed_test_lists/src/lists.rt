@@ -181,10 +181,7 @@ fn holdings_of(rt: &HostRuntime, path: &str) -> Result<Holdings, Fault> {
             fails_once: false,
         },
     };
-    match list_of(rt.alloc(), whole) {
-        Ok(holdings) => Ok(holdings),
-        Err(_) => Err(Fault("not a holdings list")),
-    }
+    Ok(list_of(rt.alloc(), whole)?)
 }
 
 pub fn rows(out: &mut Out<'_>, mut words: Words<'_>) -> Result<(), Fault> {
@@ -199,9 +196,7 @@ pub fn places(out: &mut Out<'_>, mut words: Words<'_>) -> Result<(), Fault> {
     let (size, path) = (words.number(), words.word());
     words.check()?;
     let bytes = file_of(out.rt, path)?;
-    let Ok(holdings) = list_in_windows(out.rt.alloc(), &bytes, size) else {
-        return Err(Fault("not a holdings list"));
-    };
+    let holdings = list_in_windows(out.rt.alloc(), &bytes, size)?;
     for text in words.rest.split(' ') {
         print_places(out, places_with(&holdings, text.as_bytes())?);
     }
