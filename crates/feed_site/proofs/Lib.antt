@@ -4,7 +4,9 @@ pub mod Within
 pub mod Valid
 pub mod HeldDays
 pub mod Fillings
-pub mod FirstTable
 pub mod Replaced
 pub mod HostNames
 pub mod Standard
+pub mod ByteKeys
+pub mod FirstRows
+pub mod Parents

@@ -1,8 +1,8 @@
 -- The values at the keys of a document without a fault.
-use Rattle.std.proofs.Common.{◌≡◌, ℕ, ◌+◌, ◌&&◌, Bool, true, false, is_some, List, [], ◌∷◌, Option, Some, None, option_map, if◌then◌else◌}
+use Rattle.std.proofs.Common.{◌≡◌, ℕ, ◌+◌, ◌&&◌, Bool, true, false, is_some, List, [], ◌∷◌, Option, Some, None, option_map, unwrap_or, if◌then◌else◌, arith}
 use Rattle.std.proofs.Common.{codes, Ordering, Less, Equal, Greater, nat_cmp, refl, sym, ◌∙◌, ap}
 use Rattle.std.specs.Option.{option_and_then}
-use Rattle.std.specs.List.{list_all}
+use Rattle.std.specs.List.{list_all, position_or_len}
 use Rattle.std.specs.Ordering.{is_eq, match_ordering}
 use Rattle.std.specs.Cmp.Lexicographic.{slice_cmp, same_text}
 use Rattle.std.proofs.lemmas.Map.Text.{is_eq-slice_cmp}
@@ -21,7 +21,9 @@ use Rattle.feed_site.specs.Lookups.{items_at, text_at}
 use Rattle.feed_site.specs.Faults.{MisfitValue, PlaceValue, at_key, days_at, fault_of, fields_fault, flaw, host_flaw, host_flaws, host_reason, hosts_flaw, is_backward, kind_fault}
 use Rattle.feed_site.specs.Faults.{list_fault, missing_fault, or_misfit, order_fault, place_of, row_fault, rows_fault, section_fault, single_fault, table_fault, text_flaw, value_flaw}
 use Rattle.feed_site.specs.Faults.{reason_of}
-use Rattle.feed_site.specs.Site.{first_day, holding_of, last_day, or_empty, package_of, row_or, rows_in, rows_of, site_of, text_in, texts_in, texts_of, title_of}
+use Rattle.feed_site.specs.Indexes.{count_in, count_of, first_place_in}
+use Rattle.feed_site.specs.Site.{PackageValue, first_day, holding_of, last_day, or_empty, package_of, row_or, rows_in, rows_of, site_of, text_in, texts_in, texts_of, title_of}
+use Rattle.feed_site.proofs.FirstRows.{counted}
 use Rattle.feed_site.proofs.Replaced.{text_is}
 use Rattle.feed_site.specs.Valid.{IsSite, fits, is_forward, is_holding, is_package_rule, is_title_rule}
 
@@ -223,6 +225,26 @@ rows_in_fit : {A : Type 0} (name : List ℕ) (section : Section) (make : Members
 rows_in_fit name section make test each doc None fine found known listed = refl
 rows_in_fit name section make test each doc (Some d) fine found known listed =
     list_fits name section make test each (as_array d) (rw (known, listed) at (section_fine name d doc fine found))
+
+-- the first place of a package is the number of tables before it
+place_in_rows : (test : PackageValue → Bool) (rows : Option Items) → list_fault (codes "package") part.Package rows ≡ None
+    → unwrap_or (first_place_in package_of test rows) (count_in rows) ≡ position_or_len test (rows_in package_of rows)
+place_in_rows test None fine = refl
+place_in_rows test (Some rows) fine =
+    let same : 0 + count_of rows ≡ count_of rows = omega arith in
+    let place : 0 + position_or_len test (rows_of package_of rows) ≡ position_or_len test (rows_of package_of rows) = omega arith in
+    rw (← same) (counted package_of test (codes "package") part.Package 1 0 rows fine ∙ place)
+
+place_at_key : (test : PackageValue → Bool) (doc : Members) (o : Option Data) → fault_of doc ≡ None → get_member (codes "package") doc ≡ o
+    → unwrap_or (first_place_in package_of test (option_and_then as_array o)) (count_in (option_and_then as_array o))
+    ≡ position_or_len test (rows_in package_of (option_and_then as_array o))
+place_at_key test doc None fine found = refl
+place_at_key test doc (Some d) fine found = place_in_rows test (as_array d) (section_fine (codes "package") d doc fine found)
+
+pub place_in_file : (test : PackageValue → Bool) (doc : Members) → fault_of doc ≡ None
+    → unwrap_or (first_place_in package_of test (items_at (codes "package") doc)) (count_in (items_at (codes "package") doc))
+    ≡ position_or_len test (rows_in package_of (items_at (codes "package") doc))
+place_in_file test doc fine = place_at_key test doc (get_member (codes "package") doc) fine refl
 
 -- days in order
 forward : (first last : Option DayRange) → is_backward first last ≡ false → is_forward (option_map first_day first) (option_map last_day last) ≡ true

@@ -22,3 +22,4 @@ pub mod Packages
 pub mod Requests
 pub mod RequestLaws
 pub mod Texts
+pub mod Indexes

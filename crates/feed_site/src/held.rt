@@ -1,22 +1,17 @@
 //! The holdings of a library among the rows of a list.
-ghost use Rattle.std.specs.Prelude.{◌≡◌, []};
-ghost use Rattle.std.specs.Str.{bytes_eq};
-ghost use Rattle.toml.specs.Data.{as_table};
-ghost use Rattle.toml.specs.View.{array_view, table_view, view};
+ghost use Rattle.std.specs.Prelude.{◌≡◌};
+ghost use Rattle.toml.specs.View.{table_view};
 ghost use Rattle.feed_site.specs.Held.{everything, has_asked, has_days, holding_at, library_has, package_holding};
 ghost use Rattle.feed_site.specs.Held.{shares_day, title_holding};
-ghost use Rattle.feed_site.specs.Lookups.{text_at};
-ghost use Rattle.feed_site.specs.Site.{holding_of, package_of, or_empty, row_or, rows_of, title_of};
+ghost use Rattle.feed_site.specs.Site.{holding_of, package_of, title_of};
 ghost use Rattle.feed_site.specs.Valid.{is_forward};
 
 use crate::checks::days_at;
-use crate::lookup::{has_text, switch_at};
-use crate::packages::package_table;
+use crate::lookup::switch_at;
 use crate::site_file::SiteFile;
 use feed_dates::DayRange;
 use std::marker::Model;
-use toml::value::Array;
-use toml::{Table, Value};
+use toml::Table;
 
 // The holdings of the library in a package or a title: none, or the days from a first to a last one.
 #[derive(Drop)]
@@ -55,34 +50,10 @@ fn holding_of(table: &Table) -> Holding
     }
 }
 
-// Returns the holdings that a table gives, if it is about this title of this package.
-fn title_row(row: &Value, package_id: &[u8], id: &[u8]) -> Option<Holding>
-    ensures { result ≡ title_holding package_id.now id.now (row_or title_of (as_table (view row.now)) []) }
-{
-    let table = row.as_table()?;
-    if has_text("package", package_id, table) && has_text("id", id, table) {
-        Some(holding_of(table))
-    } else {
-        None
-    }
-}
-
-// Returns the holdings by the first table about a title of a package.
-fn title_among(rows: &Array, package_id: &[u8], id: &[u8]) -> Option<Holding>
-    ensures { result ≡ title_holding package_id.now id.now (rows_of title_of (array_view rows.now)) }
-{
-    for index in 0..rows.len() {
-        if let Some(holding) = title_row(&rows[index], package_id, id) {
-            return Some(holding);
-        }
-    }
-    None
-}
-
 fn package_holding(site: &SiteFile, id: &[u8]) -> Option<Holding>
     ensures { result ≡ package_holding id.now site.now.packages }
 {
-    match package_table(site, id) {
+    match site.package_table(id) {
         Some(table) => Some(holding_of(table)),
         None => None,
     }
@@ -91,8 +62,8 @@ fn package_holding(site: &SiteFile, id: &[u8]) -> Option<Holding>
 fn title_holding(site: &SiteFile, package_id: &[u8], id: &[u8]) -> Option<Holding>
     ensures { result ≡ title_holding package_id.now id.now site.now.titles }
 {
-    match site.titles() {
-        Some(rows) => title_among(rows, package_id, id),
+    match site.title_table(package_id, id) {
+        Some(table) => Some(holding_of(table)),
         None => None,
     }
 }

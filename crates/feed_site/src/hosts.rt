@@ -163,7 +163,8 @@ fn ipv6_text(alloc: Global, address: Ipv6Addr) -> Result<Vec<u8>, AllocError>
     }
 }
 
-fn lower_case(alloc: Global, host: &[u8]) -> Result<Vec<u8>, AllocError>
+/// Returns a host in lower case.
+pub(crate) fn lower_case(alloc: Global, host: &[u8]) -> Result<Vec<u8>, AllocError>
     ensures { IfOk result (λ text. text.items ≡ written_host None host.now) }
 {
     let mut text = Vec::from_slice(alloc, host)?;

@@ -4,6 +4,7 @@
 mod bytes;
 mod checks;
 mod cuts;
+mod domains;
 mod fault;
 mod field;
 mod held;
@@ -13,6 +14,7 @@ mod laws;
 mod links;
 mod lookup;
 mod packages;
+mod places;
 mod position;
 mod request;
 mod section;
@@ -21,6 +23,7 @@ mod site_file;
 mod template;
 mod text;
 mod texts;
+mod title_places;
 mod urls;
 mod values;
 

@@ -2,7 +2,6 @@
 ghost use Rattle.std.specs.Prelude.{◌≡◌, is_some, option_copied, option_map};
 ghost use Rattle.toml.specs.Data.{get_member};
 ghost use Rattle.toml.specs.View.{view, array_view, table_view};
-ghost use Rattle.std.specs.Str.{bytes_eq};
 ghost use Rattle.feed_site.specs.Site.{or_empty};
 ghost use Rattle.feed_site.specs.Lookups.{items_at, switch_at, table_at, text_at};
 
@@ -33,11 +32,11 @@ pub(crate) fn text_at<'a>(key: &str, table: &'a Table) -> Option<&'a str>
     }
 }
 
-/// Returns whether a table has this text at a key. A missing text is the empty one.
-pub(crate) fn has_text(key: &str, text: &[u8], table: &Table) -> bool
-    ensures { result ≡ bytes_eq (or_empty (text_at key.now (table_view table.now))) text.now }
+/// Returns the bytes of the text at a key. A missing text is the empty one.
+pub(crate) fn text_or_empty<'a>(key: &str, table: &'a Table) -> &'a [u8]
+    ensures { result.now ≡ or_empty (text_at key.now (table_view table.now)) }
 {
-    text_at(key, table).unwrap_or("").as_bytes() == text
+    text_at(key, table).unwrap_or("").as_bytes()
 }
 
 /// Returns the switch at a key.

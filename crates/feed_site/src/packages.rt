@@ -1,51 +1,53 @@
 //! The names of packages, and their order.
-ghost use Rattle.std.specs.Prelude.{◌≡◌, [], ◌∷◌, option_copied, option_map};
-ghost use Rattle.std.specs.List.{find, position_or_len};
+ghost use Rattle.std.specs.Prelude.{◌≡◌, List, ℕ, Some, None, IfOk, OnOk, option_copied, option_map};
+ghost use Rattle.std.specs.Option.{option_or};
 ghost use Rattle.toml.specs.Data.{as_table};
-ghost use Rattle.toml.specs.View.{array_view, table_view, view};
+ghost use Rattle.toml.specs.View.{array_view, view};
 ghost use Rattle.feed_site.specs.Held.{is_package};
+ghost use Rattle.feed_site.specs.Indexes.{ArePackages, place_at, place_or};
 ghost use Rattle.feed_site.specs.Packages.{package_name, package_place, shown_package};
-ghost use Rattle.feed_site.specs.Site.{package_of, row_or, rows_of};
+ghost use Rattle.feed_site.specs.Site.{package_of};
 
-use crate::lookup::{has_text, text_at};
+use crate::lookup::{text_at, text_or_empty};
+use crate::places::Places;
 use crate::site_file::SiteFile;
+use std::alloc::{AllocError, Global};
+use toml::Value;
 use toml::value::Array;
-use toml::{Table, Value};
 
-// Returns the table of a row, if it is about this package.
-fn table_of<'a>(row: &'a Value, id: &[u8]) -> Option<&'a Table>
-    ensures { option_map (λ m. package_of (table_view m.now)) result
-        ≡ find (is_package id.now) (row_or package_of (as_table (view row.now)) []) }
+// Gives the package of a row a place, unless it has one.
+fn put_package(
+    alloc: Global,
+    places: &mut Places,
+    row: &Value,
+    place: usize,
+) -> Result<(), AllocError>
+    ensures { OnOk result ((id : List ℕ) → place_at id places.new ≡ option_or (place_at id places.old)
+        (place_or package_of (is_package id) place (as_table (view row.now)) None)) }
 {
-    let table = row.as_table()?;
-    if has_text("id", id, table) {
-        Some(table)
-    } else {
-        None
+    match row.as_table() {
+        Some(table) => places.put(alloc, text_or_empty("id", table), place),
+        None => Ok(()),
     }
 }
 
-// Returns the first table about a package.
-fn table_among<'a>(rows: &'a Array, id: &[u8]) -> Option<&'a Table>
-    ensures { option_map (λ m. package_of (table_view m.now)) result
-        ≡ find (is_package id.now) (rows_of package_of (array_view rows.now)) }
+fn places_of(alloc: Global, rows: &Array) -> Result<Places, AllocError>
+    ensures { IfOk result (ArePackages (Some (array_view rows.now))) }
 {
+    let mut places = Places::new(alloc);
     for index in 0..rows.len() {
-        if let Some(table) = table_of(&rows[index], id) {
-            return Some(table);
-        }
+        put_package(alloc, &mut places, &rows[index], index)?;
     }
-    None
+    Ok(places)
 }
 
-/// Returns the first table about a package.
-pub(crate) fn package_table<'a>(site: &'a SiteFile, id: &[u8]) -> Option<&'a Table>
-    ensures { option_map (λ m. package_of (table_view m.now)) result
-        ≡ find (is_package id.now) site.now.packages }
+/// Returns the place of the first table about each package.
+pub(crate) fn package_places(alloc: Global, rows: Option<&Array>) -> Result<Places, AllocError>
+    ensures { IfOk result (ArePackages (option_map (λ v. array_view v.now) rows.entry)) }
 {
-    match site.packages() {
-        Some(rows) => table_among(rows, id),
-        None => None,
+    match rows {
+        Some(rows) => places_of(alloc, rows),
+        None => Ok(Places::new(alloc)),
     }
 }
 
@@ -53,7 +55,7 @@ pub(crate) fn package_table<'a>(site: &'a SiteFile, id: &[u8]) -> Option<&'a Tab
 pub fn package_name<'a>(site: &'a SiteFile, id: &[u8]) -> Option<&'a str>
     ensures { option_copied result ≡ package_name site.now id.now }
 {
-    match package_table(site, id) {
+    match site.package_table(id) {
         Some(table) => text_at("name", table),
         None => None,
     }
@@ -69,38 +71,10 @@ pub fn shown_package<'a>(site: &'a SiteFile, id: &'a [u8]) -> &'a [u8]
     }
 }
 
-// Returns whether a row is about a package, if it is a table.
-fn is_about(row: &Value, id: &[u8]) -> Option<bool>
-    ensures { option_map (λ b. b) result
-        ≡ option_map (λ m. is_package id.now (package_of m)) (as_table (view row.now)) }
-{
-    match row.as_table() {
-        Some(table) => Some(has_text("id", id, table)),
-        None => None,
-    }
-}
-
-fn place_among(rows: &Array, id: &[u8]) -> usize
-    ensures { result ≡ position_or_len (is_package id.now) (rows_of package_of (array_view rows.now)) }
-{
-    let mut place = 0;
-    for index in 0..rows.len() {
-        match is_about(&rows[index], id) {
-            Some(true) => return place,
-            Some(false) => place += 1,
-            None => {}
-        }
-    }
-    place
-}
-
 /// Returns the place of a package in the order of the site file: that of the first table about it. A package without a
 /// table comes behind all those that have one.
 pub fn package_place(site: &SiteFile, id: &[u8]) -> usize
     ensures { result ≡ package_place site.now id.now }
 {
-    match site.packages() {
-        Some(rows) => place_among(rows, id),
-        None => 0,
-    }
+    site.package_place(id)
 }

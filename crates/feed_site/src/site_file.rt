@@ -1,27 +1,30 @@
 //! The site file, and how it is read.
 ghost use Rattle.std.specs.Prelude.{◌≡◌, ◌≤◌, IfErr, IfOk, Some, length, option_copied, option_map, take};
-ghost use Rattle.toml.specs.Data.{as_str};
+ghost use Rattle.std.specs.List.{find, position_or_len};
 ghost use Rattle.toml.specs.Errors.{IsMemory, IsWithin, span_start};
 ghost use Rattle.toml.specs.Parse.{parse_document};
-ghost use Rattle.toml.specs.View.{view, table_view, array_view};
+ghost use Rattle.toml.specs.View.{array_view, table_view};
+ghost use Rattle.feed_site.specs.Held.{is_package, is_title};
+ghost use Rattle.feed_site.specs.Indexes.{count_in, row_at, row_in};
 ghost use Rattle.feed_site.specs.Limits.{site_limit};
 ghost use Rattle.feed_site.specs.Positions.{position_of};
-ghost use Rattle.feed_site.specs.Proxies.{is_excepted};
-ghost use Rattle.feed_site.specs.Site.{except_in, or_empty, package_of, replacement, rows_in, text_in};
-ghost use Rattle.feed_site.specs.Site.{switch_in, texts_of, title_of};
+ghost use Rattle.feed_site.specs.Site.{except_in, package_of, replacement, switch_in, text_in, title_of};
 ghost use Rattle.feed_site.specs.Syntax.{IsTextFault};
 
 use crate::checks::fault_of;
+use crate::domains::Domains;
 use crate::lookup::{items_at, switch_at, table_at, text_at};
+use crate::packages::package_places;
+use crate::places::Places;
 use crate::position::position_of;
 use crate::site_fault::{KeyFault, SiteFault};
-use crate::urls::is_within;
-use std::alloc::Global;
+use crate::title_places::{TitlePlaces, title_places};
+use std::alloc::{AllocError, Global};
 use std::marker::Model;
 use std::str;
+use toml::Table;
 use toml::de::Error;
 use toml::value::Array;
-use toml::{Table, Value};
 
 /// The most bytes of a site file.
 pub const SITE_LIMIT: usize = 65_536;
@@ -30,19 +33,24 @@ pub const SITE_LIMIT: usize = 65_536;
 #[derive(Drop)]
 pub struct SiteFile {
     document: Table,
+    packages: Places,
+    titles: TitlePlaces,
+    domains: Domains,
 }
 
 impl Model for SiteFile {
     ghost use Rattle.std.specs.Prelude.{◌≡◌, None};
     ghost use Rattle.toml.specs.View.{table_view};
     ghost use Rattle.feed_site.specs.Faults.{fault_of};
+    ghost use Rattle.feed_site.specs.Indexes.{AreIndexes};
     ghost use Rattle.feed_site.specs.Site.{SiteValue, site_of};
 
     ghost Value = { SiteValue };
 
     ghost view = { λ s. site_of (table_view s.document) };
 
-    ghost invariant = { λ s. fault_of (table_view s.document) ≡ None };
+    ghost invariant = { λ s. (fault_of (table_view s.document) ≡ None)
+        × AreIndexes (table_view s.document) s.packages s.titles s.domains };
 }
 
 // Returns the text at a key of a section.
@@ -101,32 +109,60 @@ fn except_in(document: &Table) -> Option<&Array>
     }
 }
 
-// Returns whether a host is in a list, or is a subdomain of one that is.
-fn is_excepted(except: &Array, host: &[u8]) -> bool
-    ensures { result ≡ is_excepted (texts_of (array_view except.now)) host.now }
+// Returns the table at a place of a list.
+#[tactic(auto, using(crate::proofs::FirstRows::row_here, crate::proofs::FirstRows::row_past))]
+fn row_at<'a>(place: usize, rows: &'a Array) -> Option<&'a Table>
+    ensures { option_map (λ m. table_view m.now) result ≡ row_at place (array_view rows.now) }
 {
-    for index in 0..except.len() {
-        if is_within(text_of(&except[index]).as_bytes(), host) {
-            return true;
-        }
+    if place < rows.len() {
+        rows[place].as_table()
+    } else {
+        None
     }
-    false
 }
 
-// Returns the text of a value, or the empty one.
-fn text_of(value: &Value) -> &str
-    ensures { result.now ≡ or_empty (as_str (view value.now)) }
+fn row_in<'a>(place: Option<usize>, rows: Option<&'a Array>) -> Option<&'a Table>
+    ensures { option_map (λ m. table_view m.now) result ≡ row_in place (option_map (λ v. array_view v.now) rows.entry) }
 {
-    match value.as_str() {
-        Some(text) => text,
-        None => "",
+    match (place, rows) {
+        (Some(place), Some(rows)) => row_at(place, rows),
+        _ => None,
+    }
+}
+
+#[tactic(auto, using(crate::proofs::FirstRows::count_rows))]
+fn count_in(rows: Option<&Array>) -> usize
+    ensures { result ≡ count_in (option_map (λ v. array_view v.now) rows.entry) }
+{
+    match rows {
+        Some(rows) => rows.len(),
+        None => 0,
     }
 }
 
 impl SiteFile {
     ghost use Rattle.std.specs.Prelude.{IfErr, IfOk};
     ghost use Rattle.feed_site.specs.Reading.{IsSiteFault, IsSiteOf};
+    ghost use Rattle.feed_site.specs.Faults.{fault_of};
+    ghost use Rattle.feed_site.specs.Site.{site_of};
     ghost use Rattle.feed_site.specs.Valid.{IsSite};
+
+    // Makes the look-ups of a document.
+    fn of(alloc: Global, document: Table) -> Result<SiteFile, AllocError>
+        requires { fault_of (table_view document) ≡ None }
+        ensures value { IfOk result (λ site. site ≡ site_of (table_view document)) }
+        ensures valid { IfOk result IsSite }
+    {
+        let packages = package_places(alloc, items_at("package", &document))?;
+        let titles = title_places(alloc, items_at("title", &document))?;
+        let domains = Domains::of(alloc, except_in(&document))?;
+        Ok(SiteFile {
+            document,
+            packages,
+            titles,
+            domains,
+        })
+    }
 
     /// Reads a site file.
     ///
@@ -155,7 +191,10 @@ impl SiteFile {
                 Ok(fault) => Err(SiteFault::Key(fault)),
                 Err(_) => Err(SiteFault::Memory),
             },
-            None => Ok(SiteFile { document }),
+            None => match SiteFile::of(alloc, document) {
+                Ok(site) => Ok(site),
+                Err(_) => Err(SiteFault::Memory),
+            },
         }
     }
 }
@@ -228,27 +267,38 @@ impl SiteFile {
         text_in("proxy", "prefix", &self.document)
     }
 
-    /// Returns the tables of packages.
-    pub(crate) fn packages(&self) -> Option<&Array>
-        ensures { rows_in package_of (option_map (λ v. array_view v.now) result) ≡ self.now.packages }
+    /// Returns the first table about a package.
+    pub(crate) fn package_table(&self, id: &[u8]) -> Option<&Table>
+        ensures { option_map (λ m. package_of (table_view m.now)) result ≡ find (is_package id.now) self.now.packages }
     {
-        items_at("package", &self.document)
+        row_in(self.packages.get(id), items_at("package", &self.document))
     }
 
-    /// Returns the tables of titles.
-    pub(crate) fn titles(&self) -> Option<&Array>
-        ensures { rows_in title_of (option_map (λ v. array_view v.now) result) ≡ self.now.titles }
+    /// Returns the place of the first table about a package, or how many tables there are.
+    pub(crate) fn package_place(&self, id: &[u8]) -> usize
+        ensures { result ≡ position_or_len (is_package id.now) self.now.packages }
     {
-        items_at("title", &self.document)
+        match self.packages.get(id) {
+            Some(place) => place,
+            None => count_in(items_at("package", &self.document)),
+        }
+    }
+
+    /// Returns the first table about a title of a package.
+    pub(crate) fn title_table(&self, package_id: &[u8], id: &[u8]) -> Option<&Table>
+        ensures { option_map (λ m. title_of (table_view m.now)) result
+            ≡ find (is_title package_id.now id.now) self.now.titles }
+    {
+        row_in(
+            self.titles.get(package_id, id),
+            items_at("title", &self.document),
+        )
     }
 
     /// Returns whether links to a host never go through the proxy.
     pub(crate) fn is_excepted(&self, host: &[u8]) -> bool
         ensures { result ≡ is_excepted self.now.except host.now }
     {
-        match except_in(&self.document) {
-            Some(except) => is_excepted(except, host),
-            None => false,
-        }
+        self.domains.cover(host)
     }
 }

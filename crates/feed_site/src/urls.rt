@@ -1,8 +1,8 @@
-//! The parts of URLs of `http` and `https`, the names of hosts, and the domains that a host is in.
-ghost use Rattle.std.specs.Prelude.{◌≡◌, ◌≤◌, ◌-◌, drop, length, option_copied};
+//! The parts of URLs of `http` and `https`, and the names of hosts.
+ghost use Rattle.std.specs.Prelude.{◌≡◌, ◌≤◌, length, option_copied};
 ghost use Rattle.std.specs.List.{list_all, position_or_len};
-ghost use Rattle.feed_site.specs.Urls.{after_scheme, authority_of, begins_with, ends_authority, is_dotted, is_host};
-ghost use Rattle.feed_site.specs.Urls.{is_hyphen, is_label, is_visible, is_within};
+ghost use Rattle.feed_site.specs.Urls.{after_scheme, authority_of, begins_with, ends_authority, is_host};
+ghost use Rattle.feed_site.specs.Urls.{is_hyphen, is_label, is_visible};
 ghost use Rattle.feed_site.specs.Urls.{parts_between};
 
 use crate::bytes::ByteClass;
@@ -88,27 +88,4 @@ pub(crate) fn is_host(host: &[u8]) -> bool
     ensures { result ≡ is_host host.now }
 {
     host.len() <= 253 && are_labels(host)
-}
-
-fn is_dotted(domain: &[u8], text: &[u8]) -> bool
-    ensures { result ≡ is_dotted domain.now text.now }
-{
-    match text.split_first() {
-        Some((byte, rest)) => *byte == b'.' && rest.eq_ignore_ascii_case(domain),
-        None => false,
-    }
-}
-
-// Returns the last bytes of a host: those of a domain of this size, and the one before it.
-fn tail(size: usize, host: &[u8]) -> &[u8]
-    ensures { result.now ≡ drop (length host.now - size - 1) host.now }
-{
-    &host[host.len().saturating_sub(size).saturating_sub(1)..]
-}
-
-/// Returns whether a host is this domain or one of its subdomains.
-pub(crate) fn is_within(domain: &[u8], host: &[u8]) -> bool
-    ensures { result ≡ is_within domain.now host.now }
-{
-    host.eq_ignore_ascii_case(domain) || is_dotted(domain, tail(domain.len(), host))
 }
