@@ -1,9 +1,11 @@
 -- The type that a reply states of a file (RFC 9110, section 8.3).
-use Rattle.std.specs.Prelude.{◌==◌, ◌||◌, ◌-◌, ℕ, Bool, false, List, length, take, drop, codes, Option, Some, None}
+use Rattle.std.specs.Prelude.{◌≡◌, ◌==◌, ◌||◌, ◌&&◌, ◌-◌, ℕ, Bool, true, false, List, length, take, drop, codes, Option, Some, None}
 use Rattle.std.specs.List.{position}
 use Rattle.std.specs.Option.{option_map_or}
 use Rattle.std.specs.Str.{str_eq_ignore_ascii_case}
-use Rattle.httparse.specs.Grammar.{Field}
+use Rattle.httparse.specs.Grammar.{Field, ResponseHead, status_code}
+use Rattle.feed_http_heads.specs.Limits.{head_limit, field_limit}
+use Rattle.feed_http_heads.specs.ReplyHeads.{BeginsWithHeads}
 use Rattle.feed_http_heads.specs.Fields.{values_named, only}
 
 -- a semicolon, a space or a tab
@@ -43,3 +45,19 @@ is_other_media media = has_other_name media || has_other_part media
 -- the only Content-Type field names such a type
 abbrev pub has_other_type : List Field → Bool
 has_other_type fields = option_map_or (λ value. is_other_media (media_of value)) (only (values_named (codes "content-type") fields)) false
+
+-- a reply with this status has a file, or a part of it (RFC 9110, sections 15.3.1 and 15.3.7)
+abbrev pub has_file : ℕ → Bool
+has_file code = code == 200 || code == 206
+
+-- the head of a reply that has a file, and states such a type
+abbrev pub is_of_other_file : ResponseHead → Bool
+is_of_other_file head = has_file (status_code head) && has_other_type head.fields
+
+-- the text begins with such a head, after those that announce it, and within the limits of heads
+pub record HasOtherType (text : List ℕ) : Type 0 where
+  pub interim : List ResponseHead
+  pub head : ResponseHead
+  pub rest : List ℕ
+  pub begins : BeginsWithHeads head_limit field_limit text interim head rest
+  pub is : is_of_other_file head ≡ true

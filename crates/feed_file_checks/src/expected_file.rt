@@ -1,6 +1,10 @@
 //! A description of the file that a client has the node fetch.
-ghost use Rattle.std.specs.Prelude.{◌≡◌, true, false, codes};
+ghost use Rattle.std.specs.Prelude.{◌≡◌, ◌==◌, Some};
+ghost use Rattle.std.specs.List.{slice_split};
+ghost use Rattle.feed_range.specs.Text.{number_in_64_bits};
 ghost use Rattle.feed_file_checks.specs.FileChecks.{has_size};
+ghost use Rattle.feed_file_checks.specs.ExpectedFiles.{IsExpectedBy, any_file, expected_by, with_fields, with_next};
+ghost use Rattle.feed_file_checks.specs.ExpectedFiles.{sum_of, with_accept, with_field, with_size, with_sum};
 
 use feed_http_heads::{FIELD_LIMIT, origin_form};
 use feed_range::{read_number, strip_prefix};
@@ -17,50 +21,102 @@ pub struct ExpectedFile {
     pub is_accepted: bool,
 }
 
+/// A file of any length and digest, with a bound on its rows.
+const ANY_FILE: ExpectedFile = ExpectedFile {
+    size: None,
+    sum: None,
+    is_accepted: false,
+};
+
+// Returns the digest that 64 hexadecimal digits denote.
+fn sum_of(digits: &[u8]) -> Option<[u8; 32]>
+    ensures { result ≡ sum_of digits.now }
+{
+    <[u8; 32] as FromHex>::from_hex(digits).ok()
+}
+
+// Returns the file with what a field says besides.
+fn with_next(said: Option<ExpectedFile>, field: &[u8]) -> Option<ExpectedFile>
+    ensures { result ≡ with_next said field.now }
+{
+    said?.with_field(field)
+}
+
+// Returns the file by all fields of a query.
+fn expected_among(query: &[u8]) -> Option<ExpectedFile>
+    ensures { result ≡ with_fields (Some any_file) (slice_split (λ b. b == 38) query.now) }
+{
+    query
+        .split(|byte| *byte == b'&')
+        .fold(Some(ANY_FILE), |said, field| with_next(said, field))
+}
+
 impl ExpectedFile {
     /// Parses the query of a request to fetch: `size=` and a number, `sha256=` and 64 hexadecimal digits, and `accept`,
     /// each at most once and in any order. Returns none for any other query.
-    pub fn read(query: &[u8]) -> Option<ExpectedFile> {
-        let mut expected = ExpectedFile {
-            size: None,
-            sum: None,
-            is_accepted: false,
-        };
+    pub fn read(query: &[u8]) -> Option<ExpectedFile>
+        ensures { result ≡ expected_by query.now }
+    {
         if query.is_empty() {
-            return Some(expected);
+            return Some(ANY_FILE);
         }
-        for field in query.split(|byte| *byte == b'&') {
-            if !expected.add(field) {
-                return None;
-            }
-        }
-        Some(expected)
+        expected_among(query)
     }
 
     /// Returns what the request whose head is at the front of the bytes says, or none if its query is invalid.
-    pub fn of_request(bytes: &[u8]) -> Option<ExpectedFile> {
+    pub fn of_request(bytes: &[u8]) -> Option<ExpectedFile>
+        ensures { IsExpectedBy bytes.now result }
+    {
         let mut headers = [EMPTY_HEADER_SPAN; FIELD_LIMIT];
         let request = find_request(bytes, &mut headers)?;
         ExpectedFile::read(query_in(origin_form(request.target())))
     }
 
-    // Adds what a field of a query says, and returns whether it is valid and the first of its name.
-    fn add(&mut self, field: &[u8]) -> bool
-        ensures { self.new.is_accepted ≡ true → self.old.is_accepted ≡ false → field.now ≡ codes "accept" }
+    fn with_size(self, size: Option<u64>) -> Option<ExpectedFile>
+        ensures { result ≡ with_size self size }
+    {
+        match (self.size, size) {
+            (None, Some(_)) => Some(ExpectedFile { size, ..self }),
+            _ => None,
+        }
+    }
+
+    fn with_sum(self, sum: Option<[u8; 32]>) -> Option<ExpectedFile>
+        ensures { result ≡ with_sum self sum }
+    {
+        match (self.sum, sum) {
+            (None, Some(_)) => Some(ExpectedFile { sum, ..self }),
+            _ => None,
+        }
+    }
+
+    fn with_accept(self) -> Option<ExpectedFile>
+        ensures { result ≡ with_accept self }
+    {
+        if self.is_accepted {
+            return None;
+        }
+        Some(ExpectedFile {
+            is_accepted: true,
+            ..self
+        })
+    }
+
+    // Returns the file with what a field of a query says besides, if the field is valid and the first of its name.
+    fn with_field(self, field: &[u8]) -> Option<ExpectedFile>
+        ensures { result ≡ with_field self field.now }
     {
         if let Some(digits) = strip_prefix(field, b"size=") {
-            let is_first = self.size.is_none();
-            self.size = read_number(digits);
-            return is_first && self.size.is_some();
+            return self.with_size(read_number(digits));
         }
         if let Some(digits) = strip_prefix(field, b"sha256=") {
-            let is_first = self.sum.is_none();
-            self.sum = <[u8; 32] as FromHex>::from_hex(digits).ok();
-            return is_first && self.sum.is_some();
+            return self.with_sum(sum_of(digits));
         }
-        let is_first = !self.is_accepted;
-        self.is_accepted = field == b"accept".as_slice();
-        is_first && self.is_accepted
+        if field == b"accept".as_slice() {
+            self.with_accept()
+        } else {
+            None
+        }
     }
 
     /// Returns whether a file of this length may be the one that the client means.

@@ -1,9 +1,14 @@
 //! The checks of a file that a node fetches, before its feed gets any of it.
-ghost use Rattle.std.specs.Prelude.{◌≡◌, List, ℕ, true, IfSome, Ok, Option, Some, None};
+ghost use Rattle.std.specs.Prelude.{◌≡◌, ◌↔◌, List, [], ℕ, true, false, length, if◌then◌else◌, IsTrue};
+ghost use Rattle.std.specs.Prelude.{IfSome, Ok, Option, Some, None};
 ghost use Rattle.feed_model.specs.History.{History};
 ghost use Rattle.feed_model.specs.Content.{IsContent};
 ghost use Rattle.feed_releases.specs.Feeds.{recorded};
 ghost use Rattle.feed_file_checks.specs.FileChecks.{HasSeen, MayTake, has_size};
+ghost use Rattle.feed_file_checks.specs.FileTypes.{HasOtherType};
+ghost use Rattle.feed_file_checks.specs.PartChecks.{HasReceived, IsGateMismatch, IsMismatch, IsPartMismatch};
+ghost use Rattle.feed_file_checks.specs.PartChecks.{IsSumMismatch, next_range, range_mismatch, reads_from_front};
+ghost use Rattle.feed_file_checks.specs.PartChecks.{seen_after, size_after, size_mismatch};
 ghost use Rattle.feed_file_checks.specs.RowCounts.{HasCounted, seen_with};
 ghost use Rattle.feed_file_checks.specs.ShrinkGates.{IsChecked};
 
@@ -51,14 +56,14 @@ impl Mismatch {
 /// The checks of the file of one fetch, and what has arrived of it.
 #[derive(Drop)]
 pub struct FileCheck {
-    expected: ExpectedFile,
+    pub(crate) expected: ExpectedFile,
     /// Whether the file may have any type.
-    has_any_type: bool,
+    pub(crate) has_any_type: bool,
     /// Its length, by the reply to the HEAD.
-    size: u64,
-    front: FrontSum,
+    pub(crate) size: u64,
+    pub(crate) front: FrontSum,
     /// The rows, if the list may be held for them.
-    gate: Option<ShrinkGate>,
+    pub(crate) gate: Option<ShrinkGate>,
 }
 
 // Returns how a file differs from one with this sum, by its bytes from the place `first` on and its length.
@@ -69,8 +74,12 @@ fn sum_mismatch(
     size: u64,
     bytes: &[u8],
 ) -> Option<Mismatch>
-    ensures { (wanted seen : List ℕ) → sum ≡ Some wanted → HasSeen front.old seen → result ≡ None
+    ensures allowed { (wanted seen : List ℕ) → sum ≡ Some wanted → HasSeen front.old seen → result ≡ None
         → MayTake seen first bytes.now size wanted }
+    ensures mismatch { (seen : List ℕ) → ((wanted : List ℕ) → sum ≡ Some wanted → HasSeen front.old seen)
+        → IsSumMismatch sum seen first bytes.now size result }
+    ensures seen { (wanted seen : List ℕ) → sum ≡ Some wanted → HasSeen front.old seen → result ≡ None
+        → HasSeen front.new (seen_with seen first bytes.now) }
 {
     let sum = sum?;
     if front.may_take(first, bytes, size, &sum) {
@@ -96,6 +105,11 @@ fn gate_mismatch<K: Keep + Drop>(
     ensures counted { (before : ShrinkGate) (seen : List ℕ) → gate.old ≡ Some before → HasCounted before.rows seen
         → result ≡ None → IfSome gate.new (λ after. HasCounted after.rows (seen_with seen first bytes.now)
         × (after.percent ≡ before.percent)) }
+    ensures received { (seen : List ℕ) → IfSome gate.old (λ before. HasCounted before.rows seen)
+        → result ≡ None → IfSome gate.new (λ after. HasCounted after.rows (seen_with seen first bytes.now)) }
+    ensures mismatch { (h : History) (seen : List ℕ) → IsContent (recorded feed.now) h
+        → IfSome gate.old (λ before. HasCounted before.rows seen)
+        → IsGateMismatch h name.now.stem gate.old seen first bytes.now size result }
 {
     let gate = gate.as_mut()?;
     match gate.check(alloc, feed, name, first, bytes, size) {
@@ -107,7 +121,12 @@ fn gate_mismatch<K: Keep + Drop>(
 }
 
 impl FileCheck {
-    pub fn new(expected: ExpectedFile, has_any_type: bool, gate: Option<ShrinkGate>) -> FileCheck {
+    pub fn new(expected: ExpectedFile, has_any_type: bool, gate: Option<ShrinkGate>) -> FileCheck
+        ensures expected { result.expected ≡ expected }
+        ensures has_any_type { result.has_any_type ≡ has_any_type }
+        ensures gate { result.gate ≡ gate }
+        ensures received { IfSome gate (λ before. HasCounted before.rows []) → HasReceived result [] }
+    {
         FileCheck {
             expected,
             has_any_type,
@@ -119,7 +138,9 @@ impl FileCheck {
 
     /// Returns the length of the file, if its bytes are requested from the front on, also those that the feed has: its
     /// sum is to be compared, or its rows are counted. The feed compares the bytes.
-    pub fn read_size(&self) -> Option<u64> {
+    pub fn read_size(&self) -> Option<u64>
+        ensures { result ≡ (if reads_from_front self.now then Some self.now.size else None) }
+    {
         if self.expected.sum.is_some() || self.gate.is_some() {
             Some(self.size)
         } else {
@@ -128,7 +149,10 @@ impl FileCheck {
     }
 
     // Returns the number of bytes from the front on that were read.
-    fn count(&self) -> u64 {
+    fn count(&self) -> u64
+        ensures { (seen : List ℕ) → HasReceived self.now seen → IsTrue (reads_from_front self.now)
+            → result ≡ length seen }
+    {
         match &self.gate {
             Some(gate) => gate.count(),
             None => self.front.count(),
@@ -137,7 +161,10 @@ impl FileCheck {
 
     /// Returns the first and the last place of the next request for at most `piece` places: the range that is missing,
     /// or what follows the bytes that were read.
-    pub fn next_range(&self, missing: (u64, u64), piece: u64) -> (u64, u64) {
+    pub fn next_range(&self, missing: (u64, u64), piece: u64) -> (u64, u64)
+        ensures { (seen : List ℕ) → HasReceived self.now seen
+            → result ≡ next_range self.now seen missing piece }
+    {
         match self.read_size() {
             Some(size) if self.count() < size => {
                 let first = self.count();
@@ -151,12 +178,16 @@ impl FileCheck {
     }
 
     /// Returns whether a reply with this head has a file of a type that no list has.
-    pub fn refuses_type(&self, reply: &[u8]) -> bool {
+    pub fn refuses_type(&self, reply: &[u8]) -> bool
+        ensures { IsTrue result ↔ ((self.now.has_any_type ≡ false) × HasOtherType reply.now) }
+    {
         !self.has_any_type && has_other_type(reply)
     }
 
     /// Returns the fault of a file whose bytes do not arrive from its front on.
-    pub fn range_mismatch(&self) -> Mismatch {
+    pub fn range_mismatch(&self) -> Mismatch
+        ensures { result ≡ range_mismatch self.now }
+    {
         if self.expected.sum.is_some() {
             Mismatch::Sum
         } else {
@@ -177,6 +208,12 @@ impl FileCheck {
             → IsContent (recorded feed.now) h → self.old.gate ≡ Some before → HasCounted before.rows seen
             → got.now ≡ Got.Piece first total bytes → result ≡ None
             → IsChecked h name.now.stem before.percent seen first bytes self.old.size (Ok tt) }
+        ensures mismatch { (h : History) (seen : List ℕ) → IsContent (recorded feed.now) h
+            → HasReceived self.old seen → IsMismatch h name.now.stem self.old seen got.now result }
+        ensures received { (seen : List ℕ) → HasReceived self.old seen → result ≡ None
+            → HasReceived self.new (seen_after seen got.now) }
+        ensures expected { self.new.expected ≡ self.old.expected }
+        ensures size { self.new.size ≡ size_after self.old.size got.now }
     {
         match got {
             Got::Size(size) => {
@@ -203,7 +240,7 @@ impl FileCheck {
     }
 
     fn size_mismatch(&self, size: u64) -> Option<Mismatch>
-        ensures { result ≡ None → has_size self.now.expected.size size ≡ true }
+        ensures { result ≡ size_mismatch self.now.expected.size size }
     {
         if self.expected.has_size(size) {
             None
@@ -231,6 +268,12 @@ impl FileCheck {
         ensures counted { (before : ShrinkGate) (seen : List ℕ) → self.old.gate ≡ Some before
             → HasCounted before.rows seen → result ≡ None → IfSome self.new.gate (λ after.
             HasCounted after.rows (seen_with seen first bytes.now) × (after.percent ≡ before.percent)) }
+        ensures mismatch { (h : History) (seen : List ℕ) → IsContent (recorded feed.now) h
+            → HasReceived self.old seen → IsPartMismatch h name.now.stem self.old seen first bytes.now size result }
+        ensures received { (seen : List ℕ) → HasReceived self.old seen → result ≡ None
+            → HasReceived self.new (seen_with seen first bytes.now) }
+        ensures expected { self.new.expected ≡ self.old.expected }
+        ensures kept_size { self.new.size ≡ self.old.size }
     {
         if let Some(mismatch) = self.size_mismatch(size) {
             return Some(mismatch);

@@ -1,13 +1,17 @@
 //! The type that a reply states of a file.
-ghost use Rattle.std.specs.Prelude.{◌≡◌, List, take};
+ghost use Rattle.std.specs.Prelude.{◌≡◌, ◌↔◌, List, take, IsTrue};
 ghost use Rattle.std.specs.List.{position};
-ghost use Rattle.httparse.specs.Grammar.{Field};
+ghost use Rattle.httparse.specs.Grammar.{Field, ResponseHead};
+ghost use Rattle.httparse.specs.Spans.{IsResponseAt, IsResponseWithin};
 ghost use Rattle.feed_http_heads.specs.Fields.{AreWithin, AreFieldsOf};
+ghost use Rattle.feed_http_heads.specs.ReplyHeads.{is_interim_status};
 ghost use Rattle.feed_file_checks.specs.FileTypes.{ends_media, has_other_type, is_other_media, media_of};
 ghost use Rattle.feed_file_checks.specs.FileTypes.{has_other_name, has_other_part, last_of};
+ghost use Rattle.feed_file_checks.specs.FileTypes.{HasOtherType, has_file, is_of_other_file};
 
-use feed_http_heads::{FIELD_LIMIT, Fields, HEAD_LIMIT, read_reply_head};
-use httparse::spans::EMPTY_HEADER_SPAN;
+use feed_http_heads::{FIELD_LIMIT, Fields, HEAD_LIMIT};
+use httparse::Status;
+use httparse::spans::{EMPTY_HEADER_SPAN, HeaderSpan, ResponseSpans, parse_response};
 
 fn ends_media(byte: u8) -> bool
     ensures { result ≡ ends_media byte }
@@ -77,18 +81,56 @@ fn states_other_type(fields: &Fields<'_>) -> bool
     }
 }
 
+fn is_interim(code: u16) -> bool
+    ensures { result ≡ is_interim_status code }
+{
+    (100..200).contains(&code)
+}
+
+fn has_file(code: u16) -> bool
+    ensures { result ≡ has_file code }
+{
+    code == 200 || code == 206
+}
+
+fn fields_of<'b>(text: &'b [u8], headers: &'b [HeaderSpan], spans: ResponseSpans) -> Fields<'b>
+    requires { IsResponseWithin text.now headers.now spans }
+    ensures within { AreWithin result }
+    ensures fields { (head : ResponseHead) → IsResponseAt text.now headers.now spans head
+        → AreFieldsOf result head.fields }
+{
+    Fields {
+        buffer: text,
+        headers: &headers[..spans.headers],
+    }
+}
+
+// Returns whether the head that the spans cover is that of a file of another type.
+fn is_of_other_file(text: &[u8], headers: &[HeaderSpan], spans: ResponseSpans) -> bool
+    requires { IsResponseWithin text.now headers.now spans }
+    ensures { (head : ResponseHead) → IsResponseAt text.now headers.now spans head
+        → result ≡ is_of_other_file head }
+{
+    has_file(spans.code) && states_other_type(&fields_of(text, headers, spans))
+}
+
 /// Returns whether the bytes begin with the head of a reply that has a file, and states a type that no list has: HTML,
-/// XML, JSON, PDF or an image.
-pub fn has_other_type(reply: &[u8]) -> bool {
-    let mut buffer = [0u8; HEAD_LIMIT];
+/// XML, JSON, PDF or an image. Skips interim heads.
+pub fn has_other_type(reply: &[u8]) -> bool
+    ensures { IsTrue result ↔ HasOtherType reply.now }
+{
     let mut headers = [EMPTY_HEADER_SPAN; FIELD_LIMIT];
-    let mut reader = reply;
-    let Ok(read) = read_reply_head(&mut reader, &mut buffer, &mut headers) else {
-        return false;
-    };
-    let fields = Fields {
-        buffer: &buffer[read.start..read.filled],
-        headers: &headers[..read.spans.headers],
-    };
-    (read.spans.code == 200 || read.spans.code == 206) && states_other_type(&fields)
+    let mut text = front_of(HEAD_LIMIT, reply);
+    loop {
+        match parse_response(text, &mut headers) {
+            Ok(Status::Complete(spans)) => {
+                if !is_interim(spans.code) {
+                    return is_of_other_file(text, &headers, spans);
+                }
+                text = &text[spans.len..];
+            }
+            Ok(Status::Partial) => return false,
+            Err(_) => return false,
+        }
+    }
 }

@@ -1,0 +1,2 @@
+mod ReplyHeads
+mod PartChecks
