@@ -60,12 +60,12 @@ abbrev pub with_fields : Option ExpectedFile → List (List ℕ) → Option Expe
 with_fields said fields = fold with_next said fields
 
 -- the file that a query means, whose fields are between `&`
-abbrev pub expected_by : List ℕ → Option ExpectedFile
-expected_by [] = Some any_file
-expected_by (byte ∷ rest) = with_fields (Some any_file) (slice_split (λ b. b == 38) (byte ∷ rest))
+abbrev pub file_by_query : List ℕ → Option ExpectedFile
+file_by_query [] = Some any_file
+file_by_query (byte ∷ rest) = with_fields (Some any_file) (slice_split (λ b. b == 38) (byte ∷ rest))
 
 -- the file that the query of the request means whose head is at the front of the bytes; none without such a head
 abbrev pub IsExpectedBy : List ℕ → Option ExpectedFile → Type 0
 IsExpectedBy bytes result =
     (HasNoHead bytes × (result ≡ None))
-    ⊎ ((head : RequestHead) × BeginsWith bytes head × (result ≡ expected_by (query_in (origin_form head.target))))
+    ⊎ ((head : RequestHead) × BeginsWith bytes head × (result ≡ file_by_query (query_in (origin_form head.target))))

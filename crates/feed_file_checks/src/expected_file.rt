@@ -3,7 +3,7 @@ ghost use Rattle.std.specs.Prelude.{◌≡◌, ◌==◌, Some};
 ghost use Rattle.std.specs.List.{slice_split};
 ghost use Rattle.feed_range.specs.Text.{number_in_64_bits};
 ghost use Rattle.feed_file_checks.specs.FileChecks.{has_size};
-ghost use Rattle.feed_file_checks.specs.ExpectedFiles.{IsExpectedBy, any_file, expected_by, with_fields, with_next};
+ghost use Rattle.feed_file_checks.specs.ExpectedFiles.{IsExpectedBy, any_file, file_by_query, with_fields, with_next};
 ghost use Rattle.feed_file_checks.specs.ExpectedFiles.{sum_of, with_accept, with_field, with_size, with_sum};
 
 use feed_http_heads::{FIELD_LIMIT, origin_form};
@@ -55,7 +55,7 @@ impl ExpectedFile {
     /// Parses the query of a request to fetch: `size=` and a number, `sha256=` and 64 hexadecimal digits, and `accept`,
     /// each at most once and in any order. Returns none for any other query.
     pub fn read(query: &[u8]) -> Option<ExpectedFile>
-        ensures { result ≡ expected_by query.now }
+        ensures { result ≡ file_by_query query.now }
     {
         if query.is_empty() {
             return Some(ANY_FILE);

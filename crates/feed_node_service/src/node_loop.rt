@@ -9,7 +9,7 @@ use crate::node_log::NodeLog;
 use crate::node_state::{NodeState, TurnFacts};
 use crate::responder::FeedResponder;
 use crate::source_addrs::SourceAddrs;
-use crate::today::{day_number, today};
+use crate::today::{day_number, today, unix_seconds};
 use crate::wanted::WantedPackage;
 use crate::watched_file::WatchedFile;
 use feed_keep::Keep;
@@ -94,6 +94,7 @@ fn run_over<'a, K: Keep + Drop, W: Write, F: Write>(
     let day = day_number(rt);
     let mut node = NodeMachine::new(rt.alloc(), table, feed, responder, token, today(day));
     let _ = node.keep_releases();
+    state.start(unix_seconds(rt));
     let mut running = RunningNode {
         rt,
         state,

@@ -17,7 +17,7 @@ use feed_monitoring::{
 use feed_names::ReleaseName;
 use feed_node_server::CloseCause;
 use feed_releases::Feed;
-use feed_resolver::{LastFetch, respond_about_feed};
+use feed_resolver::{Activity, LastFetch, respond_about_feed};
 use feed_resolver_reply::Response;
 use feed_resolver_request::FetchPolicy;
 use std::alloc::{AllocError, Global};
@@ -39,7 +39,11 @@ pub struct NodeState {
     facts: Cell<TurnFacts>,
     /// Whether a client has asked that the fetch under way end.
     is_canceled: Cell<bool>,
+    /// When the node began to answer from its feed, in seconds since 1970-01-01.
+    started: Cell<u64>,
     fetches: RefCell<LastFetches>,
+    /// The last fetch of each package that activated its release.
+    activations: RefCell<LastFetches>,
     /// The description of the file by the last client that made the node fetch, or none if its query is invalid.
     expected: Cell<Option<ExpectedFile>>,
 }
@@ -53,7 +57,9 @@ impl NodeState {
                 since_switch: None,
             }),
             is_canceled: Cell::new(false),
+            started: Cell::new(0),
             fetches: RefCell::new(LastFetches::new(alloc)),
+            activations: RefCell::new(LastFetches::new(alloc)),
             expected: Cell::new(None),
         })
     }
@@ -76,6 +82,11 @@ impl NodeState {
     /// Returns what the last such client says of the file, or none if its query is invalid.
     pub fn expected(&self) -> Option<ExpectedFile> {
         self.expected.get()
+    }
+
+    /// Keeps when the node began to answer from its feed.
+    pub fn start(&self, seconds: u64) {
+        self.started.set(seconds);
     }
 
     /// Keeps what the node is at the beginning of a turn.
@@ -104,9 +115,26 @@ impl NodeState {
         }
     }
 
+    // Keeps the fetch of a release that it activated, unless memory runs out.
+    fn activate(&self, name: &ReleaseName, outcome: FetchOutcome, seconds: u64) {
+        if let (Ok(name), Ok(mut activations)) = (
+            name.try_clone(),
+            self.activations.try_borrow_mut(),
+        ) {
+            let _ = activations.put(LastFetch {
+                name,
+                outcome: outcome.name(),
+                seconds,
+            });
+        }
+    }
+
     /// Counts the fetch of a release that ended, and keeps it as the last one of its package, unless memory runs out.
     pub fn end_fetch(&self, name: ReleaseName, outcome: FetchOutcome, seconds: u64) {
         self.count_fetch(outcome);
+        if matches!(outcome, FetchOutcome::Activated) {
+            self.activate(&name, outcome, seconds);
+        }
         if let Ok(mut fetches) = self.fetches.try_borrow_mut() {
             let _ = fetches.put(LastFetch {
                 name,
@@ -133,12 +161,18 @@ impl NodeState {
         ensures value { IfOk result (IsFeedResponse policy.now bytes.now persists) }
         ensures says { IfOk result (λ found. IfSome found (λ response. SaysWhetherItKeeps persists response.bytes)) }
     {
-        match self.fetches.try_borrow() {
-            Ok(fetches) => {
-                respond_about_feed(alloc, bytes, persists, policy, feed, fetches.as_slice())
-            }
-            Err(_) => Err(AllocError),
-        }
+        let (Ok(fetches), Ok(activations)) = (
+            self.fetches.try_borrow(),
+            self.activations.try_borrow(),
+        ) else {
+            return Err(AllocError);
+        };
+        let activity = Activity {
+            started: self.started.get(),
+            fetches: fetches.as_slice(),
+            activations: activations.as_slice(),
+        };
+        respond_about_feed(alloc, bytes, persists, policy, feed, activity)
     }
 
     /// Counts lines of the log that were not written.

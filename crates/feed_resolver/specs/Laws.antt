@@ -1,5 +1,5 @@
 -- The laws of replies.
-use Rattle.std.specs.Prelude.{◌≡◌, ◌↔◌, ℕ, Bool, true, List, Some, map}
+use Rattle.std.specs.Prelude.{◌≡◌, ◌↔◌, ℕ, Bool, true, All, List, Some, map}
 use Rattle.std.specs.List.{Contains, flat_map}
 use Rattle.json.specs.Json.{document, array}
 use Rattle.json.specs.Value.{items_of}
@@ -15,7 +15,7 @@ use Rattle.feed_resolver_hits.specs.Hits.{ReleaseHitValue, held_hits, is_found, 
 use Rattle.feed_site.specs.Site as site_file
 use Rattle.feed_resolver_reply.specs.Replies.{ResponseValue}
 use Rattle.feed_resolver.specs.Answers.{Sited, hits_among, tally_among, answers_body}
-use Rattle.feed_resolver.specs.Status.{status_body, active_value}
+use Rattle.feed_resolver.specs.Status.{IsCountable, active_value, status_body}
 use Rattle.feed_resolver_tag.specs.Tags.{SiteValue}
 use Rattle.feed_resolver.specs.Replies.{IsResponseAt}
 use Rattle.feed_resolver.specs.NodeReplies.{IsNodeReplyAt, AsksForNoFetch}
@@ -47,7 +47,8 @@ SameReleasesSameNodeBytes =
 
 -- the active releases in JSON are, by its grammar (RFC 8259), an array with one object for each, in their order
 abbrev pub StatusIsJson : Type 0
-StatusIsJson = (site : site_file.SiteValue) (actives : List ActiveValue) → document (status_body site Json actives) ≡ Some (array (items_of (map active_value actives)))
+StatusIsJson = (site : site_file.SiteValue) (actives : List ActiveValue) → All IsCountable actives
+    → document (status_body site Json actives) ≡ Some (array (items_of (map active_value actives)))
 
 -- a hit of the core in an active release, for the query that rows are compared with, that is searched for and that the
 -- library has

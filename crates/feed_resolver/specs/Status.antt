@@ -1,8 +1,10 @@
 -- The active releases as text, as JSON and as an HTML page, and the home page.
-use Rattle.std.specs.Prelude.{ℕ, List, [], ◌∷◌, ◌++◌, codes}
+use Rattle.std.specs.Prelude.{ℕ, ◌<◌, ◌^◌, List, [], ◌∷◌, ◌++◌, codes, length}
+use Rattle.std.specs.Fmt.{decimal}
 use Rattle.std.specs.List.{flat_map}
 use Rattle.json.specs.Json as json
-use Rattle.json.specs.Json.{object, no_members}
+use Rattle.json.specs.Json.{member, no_members, number, object}
+use Rattle.feed_kbart.specs.HoldingsValue.{HoldingsValue}
 use Rattle.feed_releases.specs.Actives.{ActiveValue}
 use Rattle.feed_resolver_request.specs.declared.representation.Representation.{Representation}
 use Rattle.feed_resolver_request.specs.declared.representation.Representation.TheVariants.{Text, Json, Html}
@@ -33,9 +35,14 @@ active_items site actives = codes "<ul>\n" ++ (flat_map (active_item site) activ
 unfoldable pub active_line : ActiveValue → List ℕ
 active_line active = name_text active.name ++ codes "\n"
 
+-- the members for the rows and the skipped records of a list, and the end of the object
+unfoldable pub counts_end : HoldingsValue → List ℕ
+counts_end holdings = joined (
+    codes ",\"rows\":" ∷ decimal (length holdings.rows) ∷ codes ",\"skipped\":" ∷ decimal (length holdings.aside) ∷ codes "}" ∷ [])
+
 -- an active release as a JSON object
 unfoldable pub active_object : ActiveValue → List ℕ
-active_object active = release_members active.name ++ codes "}"
+active_object active = release_members active.name ++ counts_end active.holdings
 
 -- the packages, and the end of the page
 unfoldable pub packages_part : site_file.SiteValue → List ActiveValue → List ℕ
@@ -54,5 +61,12 @@ status_body site Html actives = home_page site actives
 
 -- the object that states an active release
 abbrev pub active_value : ActiveValue → json.Json
-active_value active =
-    object (text_member (codes "package") active.name.stem (text_member (codes "release") (name_text active.name) no_members))
+active_value active = object (
+    text_member (codes "package") active.name.stem
+    (text_member (codes "release") (name_text active.name)
+    (member (codes "rows") (number (decimal (length active.holdings.rows)))
+    (member (codes "skipped") (number (decimal (length active.holdings.aside))) no_members))))
+
+-- it has rows and skipped records that 64 bits can count, as each list in memory has
+abbrev pub IsCountable : ActiveValue → Type 0
+IsCountable active = (length active.holdings.rows < 2 ^ 64) × (length active.holdings.aside < 2 ^ 64)

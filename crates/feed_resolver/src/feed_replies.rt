@@ -13,7 +13,7 @@ use feed_keep::Keep;
 use feed_names::ReleaseName;
 use feed_pieces::put_all;
 use feed_range::strip_prefix;
-use feed_releases::{Feed, ReleaseStatus};
+use feed_releases::{ActiveRelease, Feed, ReleaseStatus};
 use feed_resolver_reply::{
     Piece, Reply, Response, Status, put_comma, put_list_end, put_list_start, refusal,
 };
@@ -46,6 +46,29 @@ pub struct LastFetch {
     pub outcome: &'static str,
     /// When it ended, in seconds since 1970-01-01.
     pub seconds: u64,
+}
+
+/// What a node has done since it started.
+#[derive(Clone, Copy)]
+pub struct Activity<'a> {
+    /// When it began to answer from its feed, in seconds since 1970-01-01.
+    pub started: u64,
+    /// The last fetch of each package.
+    pub fetches: &'a [LastFetch],
+    /// The last fetch of each package that activated its release.
+    pub activations: &'a [LastFetch],
+}
+
+impl Activity<'_> {
+    // Returns when the node began to answer from its active release with this name.
+    fn active_since(&self, name: &ReleaseName) -> u64 {
+        for it in self.activations {
+            if it.name.text() == name.text() {
+                return it.seconds;
+            }
+        }
+        self.started
+    }
 }
 
 // Returns what a request asks of `/feed`.
@@ -103,11 +126,48 @@ fn put_reason(
     put_all(out, &[Piece::Quoted(&text)])
 }
 
+// Returns the active release with this name.
+fn active_named<'a, 'b>(
+    actives: &'b [ActiveRelease<'a>],
+    name: &ReleaseName,
+) -> Option<&'b ActiveRelease<'a>> {
+    actives
+        .iter()
+        .find(|active| active.name().text() == name.text())
+}
+
+// Writes the members for the counts of a release and for when it became active, which are null unless it is.
+fn put_active_members(
+    out: &mut Vec<u8>,
+    active: Option<&ActiveRelease<'_>>,
+    activity: Activity<'_>,
+) -> Result<(), AllocError> {
+    let Some(active) = active else {
+        return put_all(
+            out,
+            &[Piece::Plain(b",\"rows\":null,\"skipped\":null,\"active_since\":null")],
+        );
+    };
+    put_all(
+        out,
+        &[
+            Piece::Plain(b",\"rows\":"),
+            Piece::Number(active.holdings().rows().len() as u64),
+            Piece::Plain(b",\"skipped\":"),
+            Piece::Number(active.holdings().aside().len() as u64),
+            Piece::Plain(b",\"active_since\":"),
+            Piece::Number(activity.active_since(active.name())),
+        ],
+    )
+}
+
 // Writes the status of a release as an object of JSON.
 fn put_object(
     alloc: Global,
     out: &mut Vec<u8>,
     status: &ReleaseStatus<'_>,
+    active: Option<&ActiveRelease<'_>>,
+    activity: Activity<'_>,
 ) -> Result<(), AllocError> {
     put_all(
         out,
@@ -124,6 +184,7 @@ fn put_object(
         ],
     )?;
     put_reason(alloc, out, status)?;
+    put_active_members(out, active, activity)?;
     put_all(out, &[Piece::Plain(b"}")])
 }
 
@@ -161,14 +222,21 @@ fn put_json(
     alloc: Global,
     out: &mut Vec<u8>,
     statuses: &[ReleaseStatus<'_>],
-    fetches: &[LastFetch],
+    actives: &[ActiveRelease<'_>],
+    activity: Activity<'_>,
 ) -> Result<(), AllocError> {
     put_list_start(out)?;
     for (place, status) in statuses.iter().enumerate() {
         put_comma(out, place)?;
-        put_object(alloc, out, status)?;
+        put_object(
+            alloc,
+            out,
+            status,
+            active_named(actives, status.name),
+            activity,
+        )?;
     }
-    for (place, fetch) in fetches.iter().enumerate() {
+    for (place, fetch) in activity.fetches.iter().enumerate() {
         put_comma(out, statuses.len().saturating_add(place))?;
         put_fetch_object(out, fetch)?;
     }
@@ -195,7 +263,7 @@ fn put_lines(
 fn list_reply<K: Keep + Drop>(
     alloc: Global,
     feed: &Feed<K>,
-    fetches: &[LastFetch],
+    activity: Activity<'_>,
     representation: Representation,
 ) -> Result<Reply, AllocError>
     ensures { IfOk result IsListReply }
@@ -204,10 +272,10 @@ fn list_reply<K: Keep + Drop>(
     statuses.sort_unstable_by(|one, other| one.name.text().cmp(&other.name.text()));
     let mut body = Vec::new(alloc);
     if representation == Representation::Json {
-        put_json(alloc, &mut body, &statuses, fetches)?;
+        put_json(alloc, &mut body, &statuses, &feed.actives()?, activity)?;
         return Ok(Reply::new(Status::Listed, Representation::Json, body));
     }
-    put_lines(&mut body, &statuses, fetches)?;
+    put_lines(&mut body, &statuses, activity.fetches)?;
     Ok(Reply::new(Status::Listed, Representation::Text, body))
 }
 
@@ -232,7 +300,7 @@ fn feed_reply<K: Keep + Drop>(
     request: &Request<'_>,
     target: FeedTarget,
     feed: &Feed<K>,
-    fetches: &[LastFetch],
+    activity: Activity<'_>,
 ) -> Result<Reply, AllocError>
     requires { IsInBuffer request.now }
     ensures { IfOk result (λ reply. (head : RequestHead) → HasHead request.now head
@@ -250,7 +318,7 @@ fn feed_reply<K: Keep + Drop>(
             list_reply(
                 alloc,
                 feed,
-                fetches,
+                activity,
                 representation_of(query, &request.fields()),
             )
         }
@@ -266,7 +334,7 @@ fn is_busy(policy: &FetchPolicy<'_>) -> bool
 
 /// Returns the reply of a node to a request for `/feed`, or to a GET or HEAD of a target below it. To a client that has
 /// the token a GET lists the recorded releases, with the name, the state, the size, the missing bytes and the reason of
-/// each, and then the last fetches. A DELETE of such a client ends the fetch that is under way, if one is. Returns none
+/// each, as JSON with the counts of an active one and when it became active, and then the last fetches. A DELETE of such a client ends the fetch that is under way, if one is. Returns none
 /// for any other request, and for a node without a token. `keeps` is whether the connection persists after the reply.
 ///
 /// # Errors
@@ -278,7 +346,7 @@ pub fn respond_about_feed<K: Keep + Drop>(
     keeps: bool,
     policy: &FetchPolicy<'_>,
     feed: &Feed<K>,
-    fetches: &[LastFetch],
+    activity: Activity<'_>,
 ) -> Result<Option<Response>, AllocError>
     ensures value { IfOk result (IsFeedResponse policy.now bytes.now keeps) }
     ensures says { IfOk result (λ found. IfSome found (λ response. SaysWhetherItKeeps keeps response.bytes)) }
@@ -300,7 +368,7 @@ pub fn respond_about_feed<K: Keep + Drop>(
         &request,
         target,
         feed,
-        fetches,
+        activity,
     )?;
     let response = reply.response(alloc, keeps, request.is_head())?;
     Ok(Some(response))

@@ -12,7 +12,7 @@ mod responses;
 mod status;
 mod validators;
 
-pub use feed_replies::{FeedTarget, LastFetch, ends_fetch, respond_about_feed};
+pub use feed_replies::{Activity, FeedTarget, LastFetch, ends_fetch, respond_about_feed};
 pub use laws::{
     every_page_is_utf8, form_is_get, goes_to_best, head_is_head_of_get, hits_are_held,
     links_are_held, not_modified_has_tag_of_good, redirects_sole_hit, same_inputs_same_bytes,

@@ -3,8 +3,9 @@ ghost use Rattle.std.specs.Prelude.{◌≡◌, ◌++◌, OnOk};
 ghost use Rattle.std.specs.List.{flat_map};
 ghost use Rattle.feed_resolver_reply.specs.JsonLists.{items_from, json_list};
 ghost use Rattle.feed_resolver.specs.Status.{active_item, active_items, active_line, active_object, status_body};
-ghost use Rattle.feed_resolver.specs.Status.{home_page, packages_part};
+ghost use Rattle.feed_resolver.specs.Status.{counts_end, home_page, packages_part};
 
+use feed_kbart::Holdings;
 use feed_page_texts::Text;
 use feed_pieces::put_all;
 use feed_releases::ActiveRelease;
@@ -81,12 +82,29 @@ pub(crate) fn put_lines(out: &mut Vec<u8>, actives: &[ActiveRelease<'_>]) -> Res
     Ok(())
 }
 
+// Writes the members for the rows and the skipped records of a list, and the end of the object.
+#[tactic(auto, unfolding(crate::specs::Status::counts_end))]
+fn put_counts_end(out: &mut Vec<u8>, holdings: &Holdings) -> Result<(), AllocError>
+    ensures { OnOk result (out.new.items ≡ out.old.items ++ counts_end holdings.now) }
+{
+    put_all(
+        out,
+        &[
+            Piece::Plain(b",\"rows\":"),
+            Piece::Number(holdings.rows().len() as u64),
+            Piece::Plain(b",\"skipped\":"),
+            Piece::Number(holdings.aside().len() as u64),
+            Piece::Plain(b"}"),
+        ],
+    )
+}
+
 #[tactic(auto, unfolding(crate::specs::Status::active_object))]
 fn put_object(out: &mut Vec<u8>, active: &ActiveRelease<'_>) -> Result<(), AllocError>
     ensures { OnOk result (out.new.items ≡ out.old.items ++ active_object active.now) }
 {
     put_release_members(out, active.name())?;
-    put(out, b"}")
+    put_counts_end(out, active.holdings())
 }
 
 fn put_objects(out: &mut Vec<u8>, actives: &[ActiveRelease<'_>]) -> Result<(), AllocError>
