@@ -48,7 +48,7 @@ pub struct LastFetch {
     pub seconds: u64,
 }
 
-/// What a node has done since it started.
+/// The fetches of a node since it started.
 #[derive(Clone, Copy)]
 pub struct Activity<'a> {
     /// When it began to answer from its feed, in seconds since 1970-01-01.
@@ -334,8 +334,9 @@ fn is_busy(policy: &FetchPolicy<'_>) -> bool
 
 /// Returns the reply of a node to a request for `/feed`, or to a GET or HEAD of a target below it. To a client that has
 /// the token a GET lists the recorded releases, with the name, the state, the size, the missing bytes and the reason of
-/// each, as JSON with the counts of an active one and when it became active, and then the last fetches. A DELETE of such a client ends the fetch that is under way, if one is. Returns none
-/// for any other request, and for a node without a token. `keeps` is whether the connection persists after the reply.
+/// each, and then the last fetches. JSON has the rows and the skipped records of each active release too, and when it
+/// became active. A DELETE of such a client ends the fetch that is under way, if one is. Returns none for any other
+/// request, and for a node without a token. `keeps` is whether the connection persists after the reply.
 ///
 /// # Errors
 ///
