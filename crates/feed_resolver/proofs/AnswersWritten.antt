@@ -1,5 +1,5 @@
 -- The answers that are written are those of the definition.
-use Rattle.std.proofs.Common.{◌≡◌, ℕ, List, [], ◌∷◌, ◌++◌, refl, sym, ap, ◌∙◌}
+use Rattle.std.proofs.Common.{◌≡◌, ℕ, Option, List, [], ◌∷◌, ◌++◌, refl, sym, ap, ◌∙◌}
 use Rattle.std.proofs.lemmas.List.Sums.{fold-append}
 use Rattle.feed_embargo.specs.Today.{TodayValue}
 use Rattle.feed_site.specs.Site as site_file
@@ -12,21 +12,21 @@ use Rattle.feed_resolver_hits.specs.HitsText.{release_text}
 use Rattle.feed_resolver_hits.specs.AnswerJson.{answer_json}
 use Rattle.feed_resolver_hits.specs.Asks.{AskValue, ask_of}
 use Rattle.feed_resolver_hits.specs.Tallies.{TallyValue, sole_link, tally_of}
-use Rattle.feed_resolver_hits.specs.Tallying.{RunningValue, with_hit, with_hits, no_hits, tally_from}
+use Rattle.feed_resolver_hits.specs.Tallying.{RunningValue, with_look, with_looks, no_hits, tally_from}
 use Rattle.feed_resolver_hits.proofs.Tallies.{tally_is}
-use Rattle.feed_resolver.specs.Answers.{Sited, also_among, also_beside, release_hits, hits_among, others_among, others_beside, tally_among, texts_behind, answers_body}
+use Rattle.feed_resolver.specs.Answers.{Sited, also_among, also_beside, release_looks, looks_among, others_among, others_beside, tally_among, texts_behind, answers_body}
 use Rattle.feed_resolver.specs.AnswerTexts.{texts_from}
 use Rattle.feed_resolver_page.specs.HitsPage.{hits_page}
 
-abbrev after : List ReleaseHitValue → RunningValue
-after hits = with_hits no_hits hits
+abbrev after : List (Option ReleaseHitValue) → RunningValue
+after looks = with_looks no_hits looks
 
-texts_are : (site : site_file.SiteValue) (today : TodayValue) (search : SearchValue) (earlier : List ReleaseHitValue) (actives : List ActiveValue)
+texts_are : (site : site_file.SiteValue) (today : TodayValue) (search : SearchValue) (earlier : List (Option ReleaseHitValue)) (actives : List ActiveValue)
     → texts_from site today search (after earlier) actives ≡ texts_behind site today search earlier actives
 texts_are site today search earlier [] = refl
 texts_are site today search earlier (active ∷ actives) =
-    let more = release_hits site today search active in
-    let joint : with_hits (after earlier) more ≡ after (earlier ++ more) = sym (fold-append with_hit no_hits earlier more) in
+    let more = release_looks site today search active in
+    let joint : with_looks (after earlier) more ≡ after (earlier ++ more) = sym (fold-append with_look no_hits earlier more) in
     ap (λ (r : RunningValue). release_text (tally_from (after earlier)) (tally_from r) active.name ++ texts_from site today search r actives) joint
     ∙ ap (λ (t : TallyValue). release_text t (tally_from (after (earlier ++ more))) active.name ++ texts_from site today search (after (earlier ++ more)) actives) (tally_is earlier)
     ∙ ap (λ (t : TallyValue). release_text (tally_of earlier) t active.name ++ texts_from site today search (after (earlier ++ more)) actives) (tally_is (earlier ++ more))
@@ -40,12 +40,12 @@ text_written representation text search actives old new chosen is =
     ∙ ap (λ (r : Representation). old ++ answers_body r text search actives) (sym chosen)
 
 pub json_written : (ask : AskValue) (search : SearchValue) (actives : Sited) (running also : RunningValue) (old new : List ℕ)
-    → running ≡ with_hits no_hits (hits_among search actives) → also ≡ with_hits no_hits (also_beside search actives)
+    → running ≡ with_looks no_hits (looks_among search actives) → also ≡ with_looks no_hits (also_beside search actives)
     → new ≡ old ++ answer_json ask [] (tally_from running) (tally_from also)
     → new ≡ old ++ answer_json ask [] (tally_among search actives) (also_among search actives)
 json_written ask search actives running also old new made beside is =
     is ∙ ap (λ (r : RunningValue). old ++ answer_json ask [] (tally_from r) (tally_from also)) made
-    ∙ ap (λ (t : TallyValue). old ++ answer_json ask [] t (tally_from also)) (tally_is (hits_among search actives))
+    ∙ ap (λ (t : TallyValue). old ++ answer_json ask [] t (tally_from also)) (tally_is (looks_among search actives))
     ∙ ap (λ (r : RunningValue). old ++ answer_json ask [] (tally_among search actives) (tally_from r)) beside
     ∙ ap (λ (t : TallyValue). old ++ answer_json ask [] (tally_among search actives) t) (tally_is (also_beside search actives))
 
@@ -58,18 +58,18 @@ json_answered representation text ask search actives old new chosen read is =
     ∙ ap (λ (r : Representation). old ++ answers_body r text search actives) (sym chosen)
 
 pub page_written : (text : List ℕ) (site : site_file.SiteValue) (ask : AskValue) (search : SearchValue) (actives : Sited) (running also others : RunningValue) (count : ℕ) (old new : List ℕ)
-    → site ≡ actives.library → running ≡ with_hits no_hits (hits_among search actives) → also ≡ with_hits no_hits (also_beside search actives)
-    → count ≡ (tally_from running).count → others ≡ with_hits no_hits (others_beside count search actives)
+    → site ≡ actives.library → running ≡ with_looks no_hits (looks_among search actives) → also ≡ with_looks no_hits (also_beside search actives)
+    → count ≡ (tally_from running).count → others ≡ with_looks no_hits (others_beside count search actives)
     → new ≡ old ++ hits_page site text ask (tally_from running) (tally_from also) (tally_from others)
     → new ≡ old ++ hits_page actives.library text ask (tally_among search actives) (also_among search actives) (others_among search actives)
 page_written text site ask search actives running also others count old new of made dated counts beside is =
     let tally : TallyValue = tally_among search actives in
     let covered : TallyValue = also_among search actives in
     let counted_is : count ≡ tally.count =
-    counts ∙ ap (λ (r : RunningValue). (tally_from r).count) made ∙ ap (λ (t : TallyValue). t.count) (tally_is (hits_among search actives)) in
+    counts ∙ ap (λ (r : RunningValue). (tally_from r).count) made ∙ ap (λ (t : TallyValue). t.count) (tally_is (looks_among search actives)) in
     is ∙ ap (λ (s : site_file.SiteValue). old ++ hits_page s text ask (tally_from running) (tally_from also) (tally_from others)) of
     ∙ ap (λ (r : RunningValue). old ++ hits_page actives.library text ask (tally_from r) (tally_from also) (tally_from others)) made
-    ∙ ap (λ (t : TallyValue). old ++ hits_page actives.library text ask t (tally_from also) (tally_from others)) (tally_is (hits_among search actives))
+    ∙ ap (λ (t : TallyValue). old ++ hits_page actives.library text ask t (tally_from also) (tally_from others)) (tally_is (looks_among search actives))
     ∙ ap (λ (r : RunningValue). old ++ hits_page actives.library text ask tally (tally_from r) (tally_from others)) dated
     ∙ ap (λ (t : TallyValue). old ++ hits_page actives.library text ask tally t (tally_from others)) (tally_is (also_beside search actives))
     ∙ ap (λ (r : RunningValue). old ++ hits_page actives.library text ask tally covered (tally_from r)) beside
@@ -86,10 +86,15 @@ page_answered representation text ask search actives old new chosen read is =
     ∙ ap (λ (r : Representation). old ++ answers_body r text search actives) (sym chosen)
 
 -- the link that a tally chooses
-pub best_made : (search : SearchValue) (actives : Sited) (running : RunningValue) → running ≡ with_hits no_hits (hits_among search actives)
-    → (tally_from running).best ≡ (tally_of (hits_among search actives)).best
-best_made search actives running made = ap (λ (r : RunningValue). (tally_from r).best) made ∙ ap (λ (t : TallyValue). t.best) (tally_is (hits_among search actives))
+pub best_made : (search : SearchValue) (actives : Sited) (running : RunningValue) → running ≡ with_looks no_hits (looks_among search actives)
+    → (tally_from running).best ≡ (tally_of (looks_among search actives)).best
+best_made search actives running made = ap (λ (r : RunningValue). (tally_from r).best) made ∙ ap (λ (t : TallyValue). t.best) (tally_is (looks_among search actives))
 
-pub sole_made : (search : SearchValue) (actives : Sited) (running : RunningValue) → running ≡ with_hits no_hits (hits_among search actives)
-    → sole_link (tally_from running) ≡ sole_link (tally_of (hits_among search actives))
-sole_made search actives running made = ap (λ (r : RunningValue). sole_link (tally_from r)) made ∙ ap sole_link (tally_is (hits_among search actives))
+pub sole_made : (search : SearchValue) (actives : Sited) (running : RunningValue) → running ≡ with_looks no_hits (looks_among search actives)
+    → sole_link (tally_from running) ≡ sole_link (tally_of (looks_among search actives))
+sole_made search actives running made = ap (λ (r : RunningValue). sole_link (tally_from r)) made ∙ ap sole_link (tally_is (looks_among search actives))
+
+pub whole_made : (search : SearchValue) (actives : Sited) (running : RunningValue) → running ≡ with_looks no_hits (looks_among search actives)
+    → (tally_from running).is_whole ≡ (tally_of (looks_among search actives)).is_whole
+whole_made search actives running made =
+    ap (λ (r : RunningValue). (tally_from r).is_whole) made ∙ ap (λ (t : TallyValue). t.is_whole) (tally_is (looks_among search actives))

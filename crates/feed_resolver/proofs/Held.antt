@@ -8,10 +8,11 @@ use Rattle.std.proofs.lemmas.Option.{get_or_from_slice_get, slice_get_within}
 use Rattle.feed_answer.specs.Answers.{answer_of}
 use Rattle.feed_resolver_hits.specs.Searches.{SearchValue, compared}
 use Rattle.feed_resolver_hits.specs.Hits.{ReleaseHitValue, best_link, held_hits, is_found, link_text, release_hit}
+use Rattle.feed_resolver_hits.specs.Looks.{counted, found_in, row_limit}
 use Rattle.feed_resolver_hits.specs.Ranks.{IsBestLink}
-use Rattle.feed_resolver_hits.specs.Tallies.{count_limit, counted}
 use Rattle.feed_resolver_hits.proofs.BestLinks.{best_is}
-use Rattle.feed_resolver.specs.Answers.{Sited, hits_among, release_hits}
+use Rattle.feed_resolver_hits.proofs.LooksPlaced.{of_answer}
+use Rattle.feed_resolver.specs.Answers.{Sited, hits_among, looks_among, release_looks}
 use Rattle.feed_resolver.specs.Laws.{HitsAreHeld, IsHeldHit, LinksAreHeld}
 
 -- ---- elements of lists
@@ -96,12 +97,39 @@ take_has {X} (suc n) (w ∷ xs) x has = by (take_has n xs x) (first_or_later w (
 
 -- ---- hits
 
+found_has : (looks : List (Option ReleaseHitValue)) (found : ReleaseHitValue) → Contains (found_in looks) found → Contains looks (Some found)
+found_has [] found has = absurd (none_is found has)
+found_has (None ∷ looks) found has = later_is None looks (Some found) (found_has looks found has)
+found_has (Some one ∷ looks) found has = by (found_has looks found) (first_or_later one (found_in looks) found has)
+  where
+    by : (Contains (found_in looks) found → Contains looks (Some found)) → (one ≡ found) ⊎ Contains (found_in looks) found → Contains (Some one ∷ looks) (Some found)
+    by behind (inl same) = subst (λ (f : ReleaseHitValue). Contains (Some one ∷ looks) (Some f)) same (first_is (Some one) looks)
+    by behind (inr later) = later_is (Some one) looks (Some found) (behind later)
+
+some_is : (one found : ReleaseHitValue) → Some one ≡ Some found → one ≡ found
+some_is one found same = cc
+
+found_gives : (looks : List (Option ReleaseHitValue)) (found : ReleaseHitValue) → Contains looks (Some found) → Contains (found_in looks) found
+found_gives [] found has = absurd (none_is (Some found) has)
+found_gives (None ∷ looks) found has = by (found_gives looks found) (first_or_later None looks (Some found) has)
+  where
+    by : (Contains looks (Some found) → Contains (found_in looks) found) → (None ≡ Some found) ⊎ Contains looks (Some found) → Contains (found_in looks) found
+    by behind (inl same) = absurd (cc)
+    by behind (inr later) = behind later
+found_gives (Some one ∷ looks) found has = by (found_gives looks found) (first_or_later (Some one) looks (Some found) has)
+  where
+    by : (Contains looks (Some found) → Contains (found_in looks) found) → (Some one ≡ Some found) ⊎ Contains looks (Some found) → Contains (one ∷ found_in looks) found
+    by behind (inl same) = subst (λ (f : ReleaseHitValue). Contains (one ∷ found_in looks) f) (some_is one found same) (first_is one (found_in looks))
+    by behind (inr later) = later_is one (found_in looks) found (behind later)
+
 held_from : (search : SearchValue) (actives : Sited) (found : ReleaseHitValue) → Contains (hits_among search actives) found → IsHeldHit search actives found
 held_from search actives found has =
-    let from = flat_has (release_hits actives.library actives.today search) actives.actives found has in
+    let from = flat_has (release_looks actives.library actives.today search) actives.actives (Some found) (found_has (looks_among search actives) found has) in
     let name = from.0.name in
     let answer = answer_of from.0.holdings (compared search) in
-    let hit = map_has (release_hit actives.library actives.today search name) (held_hits actives.library search name answer) found from.2 in
+    let own = subst (λ hits. Contains hits found) (of_answer actives.library actives.today search name from.0.holdings)
+    (found_gives (release_looks actives.library actives.today search from.0) found from.2) in
+    let hit = map_has (release_hit actives.library actives.today search name) (held_hits actives.library search name answer) found own in
     let kept = filter_has (is_found actives.library search name) answer hit.0 hit.1 in
     record { active = from.0; hit = hit.0; is_active = from.1; answers = kept.0; held = kept.1; shown = hit.2 }
 
@@ -111,8 +139,11 @@ held_gives search actives found is =
     let answer = answer_of is.active.holdings (compared search) in
     let kept = filter_gives (is_found actives.library search name) answer is.hit is.answers is.held in
     let own = map_gives (release_hit actives.library actives.today search name) (held_hits actives.library search name answer) is.hit kept in
+    let looked = found_has (release_looks actives.library actives.today search is.active) (release_hit actives.library actives.today search name is.hit)
+    (subst (λ hits. Contains hits (release_hit actives.library actives.today search name is.hit)) (sym (of_answer actives.library actives.today search name is.active.holdings)) own) in
     subst (λ (f : ReleaseHitValue). Contains (hits_among search actives) f) (sym is.shown)
-    (flat_gives (release_hits actives.library actives.today search) actives.actives is.active (release_hit actives.library actives.today search name is.hit) is.is_active own)
+    (found_gives (looks_among search actives) (release_hit actives.library actives.today search name is.hit)
+    (flat_gives (release_looks actives.library actives.today search) actives.actives is.active (Some (release_hit actives.library actives.today search name is.hit)) is.is_active looked))
 
 pub hits_are : HitsAreHeld
 hits_are search actives found = (held_from search actives found, held_gives search actives found)
@@ -121,13 +152,17 @@ place_has : {X : Type 0} → (xs : List X) (place : ℕ) (x : X) → slice_get x
 place_has {X} xs place x at =
     subst (λ (y : X). Contains xs y) (get_or_from_slice_get xs place x x at) (Contains-get_or xs place x (slice_get_within xs place x at))
 
-link_from : (search : SearchValue) (actives : Sited) (url : List ℕ) (best : Option (List ℕ)) → best ≡ Some url → IsBestLink (counted (hits_among search actives)) best
+-- a hit that is counted is one of all
+counted_has : (looks : List (Option ReleaseHitValue)) (found : ReleaseHitValue) → Contains (counted looks) found → Contains (found_in looks) found
+counted_has looks found has = found_gives looks found (take_has row_limit looks (Some found) (found_has (take row_limit looks) found has))
+
+link_from : (search : SearchValue) (actives : Sited) (url : List ℕ) (best : Option (List ℕ)) → best ≡ Some url → IsBestLink (counted (looks_among search actives)) best
     → (found : ReleaseHitValue) × IsHeldHit search actives found × (url ≡ link_text found)
 link_from search actives url None at is = absurd (cc)
 link_from search actives url (Some text) at is =
     let same : text ≡ url = cc in
-    let hits = hits_among search actives in
-    (is.1, held_from search actives is.1 (take_has count_limit hits is.1 (place_has (counted hits) is.0 is.1 is.2.at)), sym same ∙ is.3)
+    let looks = looks_among search actives in
+    (is.1, held_from search actives is.1 (counted_has looks is.1 (place_has (counted looks) is.0 is.1 is.2.at)), sym same ∙ is.3)
 
 pub links_are : LinksAreHeld
-links_are search actives url at = link_from search actives url (best_link (counted (hits_among search actives))) at (best_is (counted (hits_among search actives)))
+links_are search actives url at = link_from search actives url (best_link (counted (looks_among search actives))) at (best_is (counted (looks_among search actives)))

@@ -39,10 +39,11 @@ use Rattle.feed_releases.specs.Actives.{ActiveValue}
 use Rattle.feed_site.specs.Hosts.{host_of, is_link}
 use Rattle.feed_site.specs.Urls.{url_limit, is_visible}
 use Rattle.feed_resolver_hits.specs.Hits.{best_link}
-use Rattle.feed_resolver_hits.specs.Tallies.{counted, sole_link}
+use Rattle.feed_resolver_hits.specs.Looks.{counted}
+use Rattle.feed_resolver_hits.specs.Tallies.{sole_link}
 use Rattle.feed_resolver_hits.proofs.Redirects.{best_is}
-use Rattle.feed_resolver.specs.Answers.{Sited, is_of, hits_among, tally_among}
-use Rattle.feed_resolver.specs.Replies.{found_reply, sole_redirect}
+use Rattle.feed_resolver.specs.Answers.{Sited, is_of, looks_among, tally_among}
+use Rattle.feed_resolver.specs.Replies.{found_reply, sole_redirect, status_without}
 use Rattle.feed_resolver.specs.Replies.{query_reply, hits_reply, resolve_reply, resolve_reply_at, redirect_reply, go_reply, resource_reply, path_of, target_query, target_reply, has_coded_body}
 use Rattle.feed_resolver.specs.Replies.{method_refusal, plain_reply, form_refusal, reply_by_form, reply_to}
 
@@ -100,12 +101,12 @@ sole_wanted true link url e = (refl, e)
 sole_wanted false link url e = absurd (cc)
 
 pub sole_hit : (representation : Representation) (actives : Sited) (query : SearchValue) (url : List ℕ) → sole_redirect representation actives query ≡ Some url
-    → (representation ≡ Html) × (actives.library.redirects_sole_hit ≡ true) × IsSoleHit (hits_among query actives) url
+    → (representation ≡ Html) × (actives.library.redirects_sole_hit ≡ true) × IsSoleHit (looks_among query actives) url
 sole_hit Text actives query url e = absurd (cc)
 sole_hit Json actives query url e = absurd (cc)
 sole_hit Html actives query url e =
     let wanted = sole_wanted actives.library.redirects_sole_hit (sole_link (tally_among query actives)) url e in
-    (refl, wanted.0, (sole_is (hits_among query actives) url).0 wanted.1)
+    (refl, wanted.0, (sole_is (looks_among query actives) url).0 wanted.1)
 
 redirect_located : (hits_link : Option (List ℕ)) (other : ReplyValue) → ((url : List ℕ) → hits_link ≡ Some url → is_link url ≡ true) → IsLocated other
     → IsLocated (option_map_or redirect_to hits_link other)
@@ -125,7 +126,8 @@ package_located representation text actives other (Some place) located = resolve
 
 best_located : (representation : Representation) (text : List ℕ) (actives : Sited) (query : SearchValue) → IsLocated (redirect_reply representation text actives query)
 best_located representation text actives query =
-    redirect_located (best_link (counted (hits_among query actives))) (hits_reply status.NotFound representation text actives query) (best_is (counted (hits_among query actives))) plain
+    redirect_located (best_link (counted (looks_among query actives))) (hits_reply (status_without (tally_among query actives).is_whole) representation text actives query)
+    (best_is (counted (looks_among query actives))) plain
 
 go_located : (representation : Representation) (text : List ℕ) (actives : Sited) → IsLocated (go_reply representation text actives)
 go_located representation text actives =

@@ -36,13 +36,14 @@ use Rattle.feed_resolver_hits.specs.Asked.{asked_of}
 use Rattle.feed_resolver_hits.specs.Laws.{IsSoleHit}
 use Rattle.feed_resolver_hits.specs.Ranks.{IsBestLink}
 use Rattle.feed_site.specs.Hosts.{is_link}
-use Rattle.feed_resolver_hits.specs.Tallies.{counted, sole_link}
+use Rattle.feed_resolver_hits.specs.Looks.{counted}
+use Rattle.feed_resolver_hits.specs.Tallies.{sole_link}
 use Rattle.feed_page_texts.specs.declared.table.Text.TheVariants as advice
 use Rattle.feed_resolver_page.specs.ErrorPages.{error_reply}
 use Rattle.feed_resolver_hits.proofs.BestLinks as links
 use Rattle.feed_resolver_tag.specs.Tags.{SiteValue}
-use Rattle.feed_resolver.specs.Answers.{Dated, Sited, sited, is_of, hits_among, tally_among}
-use Rattle.feed_resolver.specs.Replies.{found_reply, sole_redirect}
+use Rattle.feed_resolver.specs.Answers.{Dated, Sited, sited, is_of, looks_among, tally_among}
+use Rattle.feed_resolver.specs.Replies.{found_reply, sole_redirect, status_without}
 use Rattle.feed_resolver.specs.Replies.{resource_reply, resolve_reply, package_reply, redirect_reply, go_reply, hits_reply, query_reply, target_reply, target_query, path_of}
 use Rattle.feed_resolver.specs.Replies.{method_refusal, has_coded_body, resolve_reply_at, reply_by_form, reply_to, sent_reply, tagged_reply, response_to, IsResponse}
 use Rattle.feed_resolver.specs.Answered.{IsGoodIn, IsAnswered, IsAnsweredTo}
@@ -248,10 +249,11 @@ redirected : (keeps alone : Bool) (url : List ℕ) → is_link url ≡ true
 redirected keeps true url link = let sent = redirect_sent keeps url link in (head_of keeps (redirect_to url), sent.alone, sent.states.location)
 redirected keeps false url link = let sent = redirect_sent keeps url link in (head_of keeps (redirect_to url), sent.whole, sent.states.location)
 
-goes : (keeps alone : Bool) (hits : List ReleaseHitValue) (o : Option (List ℕ)) (other : ReplyValue) → IsBestLink hits o → other.status ≡ status.NotFound
-    → GoesTo o (response_of keeps alone (option_map_or redirect_to o other))
-goes keeps alone hits None other best is = ap status_code is
-goes keeps alone hits (Some url) other best is = (refl, redirected keeps alone url (ap is_link best.3 ∙ best.2.link))
+goes : (keeps alone whole : Bool) (hits : List ReleaseHitValue) (o : Option (List ℕ)) (other : ReplyValue) → IsBestLink hits o → other.status ≡ status_without whole
+    → GoesTo o whole (response_of keeps alone (option_map_or redirect_to o other))
+goes keeps alone true hits None other best is = ap status_code is
+goes keeps alone false hits None other best is = ap status_code is
+goes keeps alone whole hits (Some url) other best is = (refl, redirected keeps alone url (ap is_link best.3 ∙ best.2.link))
 
 -- a site sends a redirect as it is
 sited_redirect : (redirects : Bool) (o : Option (List ℕ)) (other : ReplyValue)
@@ -261,8 +263,9 @@ sited_redirect redirects (Some url) other = refl
 
 pub goes_to_best : GoesToBest
 goes_to_best site keeps actives bytes body head query response begins asks is =
-    let hits = counted (hits_among query (sited site actives)) in
-    let other : ReplyValue = hits_reply status.NotFound (accepted_representation head) (target_query head) (sited site actives) query in
+    let hits = counted (looks_among query (sited site actives)) in
+    let whole : Bool = (tally_among query (sited site actives)).is_whole in
+    let other : ReplyValue = hits_reply (status_without whole) (accepted_representation head) (target_query head) (sited site actives) query in
     let best : IsBestLink hits (best_link hits) = links.best_is hits in
     let redirects : Bool = site.library.redirects_sole_hit in
     let same : response ≡ response_of keeps (is_head head) (option_map_or redirect_to (best_link hits) (of_site redirects other)) =
@@ -270,7 +273,7 @@ goes_to_best site keeps actives bytes body head query response begins asks is =
     ∙ ap (λ (t : ReplyValue). response_of keeps (is_head head) (of_site redirects t)) (read_tagged site head body actives asks.method ∙ untagged_go site head body actives asks.resource
     ∙ go_replied head body query (sited site actives) asks)
     ∙ ap (response_of keeps (is_head head)) (sited_redirect redirects (best_link hits) other) in
-    (best_link hits, best, subst (λ (v : ResponseValue). GoesTo (best_link hits) v) (sym same) (goes keeps (is_head head) hits (best_link hits) (of_site redirects other) best refl))
+    (best_link hits, best, subst (λ (v : ResponseValue). GoesTo (best_link hits) whole v) (sym same) (goes keeps (is_head head) whole hits (best_link hits) (of_site redirects other) best refl))
 
 -- ---- a sole hit
 
@@ -282,7 +285,7 @@ redirect_of (Some url) other good found = refl
 sole_redirected : (representation : Representation) (text : List ℕ) (actives : Sited) (o : Result SearchValue Refusal) (query : SearchValue) → o ≡ Ok query
     → (query_reply actives status.Good representation text (found_reply representation text actives) o).status ≡ status.Found
     → (representation ≡ Html) × (actives.library.redirects_sole_hit ≡ true)
-    × IsSoleHit (hits_among query actives) (query_reply actives status.Good representation text (found_reply representation text actives) o).location
+    × IsSoleHit (looks_among query actives) (query_reply actives status.Good representation text (found_reply representation text actives) o).location
 sole_redirected representation text actives o query is found =
     let at : query_reply actives status.Good representation text (found_reply representation text actives) o ≡ found_reply representation text actives query =
     ap (query_reply actives status.Good representation text (found_reply representation text actives)) is in
@@ -290,7 +293,7 @@ sole_redirected representation text actives o query is found =
     let other : ReplyValue = hits_reply status.Good representation text actives query in
     let own = sole_hit representation actives query (option_map_or redirect_to link other).location
     (redirect_of link other refl (subst (λ (r : ReplyValue). r.status ≡ status.Found) at found)) in
-    (own.0, own.1, subst (λ (r : ReplyValue). IsSoleHit (hits_among query actives) r.location) (sym at) own.2)
+    (own.0, own.1, subst (λ (r : ReplyValue). IsSoleHit (looks_among query actives) r.location) (sym at) own.2)
 
 pub redirects_sole_hit : RedirectsSoleHit
 redirects_sole_hit representation text query actives asked found = sole_redirected representation text actives (asked_of text) query asked found

@@ -1,8 +1,10 @@
 -- A reply that shows all hits has the answers of the releases as they are.
-use Rattle.std.proofs.Common.{◌≡◌, ◌≤◌, ◌-◌, ℕ, zero, suc, List, [], ◌∷◌, ◌++◌, Bool, true, false, inl, inr, refl, sym, ap, ◌∙◌, arith, length, take, drop, map, append_assoc}
+use Rattle.std.proofs.Common.{◌≡◌, ◌≤◌, ◌-◌, ℕ, suc, Option, List, [], ◌∷◌, ◌++◌, Bool, true, false, inl, inr, refl, sym, ap, ◌∙◌, arith, length, drop, map, subst, append_assoc}
 use Rattle.std.specs.Prelude.{if◌then◌else◌, nat_lt, nat_le, ◌&&◌}
 use Rattle.std.specs.List.{flat_map}
-use Rattle.std.proofs.lemmas.List.{length-take}
+use Rattle.std.proofs.lemmas.List.{take_all}
+use Rattle.std.proofs.lemmas.List.Elements.{filter_map-append}
+use Rattle.std.proofs.lemmas.Bool.{false≢true}
 use Rattle.std.proofs.lemmas.Bool.Decides.{leb_tells}
 use Rattle.feed_names.specs.ReleaseName.{Name, text_of}
 use Rattle.feed_answer.specs.HitValue.{HitValue}
@@ -13,8 +15,10 @@ use Rattle.feed_resolver_hits.specs.Searches.{SearchValue, compared}
 use Rattle.feed_releases.specs.Actives.{ActiveValue}
 use Rattle.feed_resolver_hits.specs.Hits.{ReleaseHitValue, held_hits, release_hit}
 use Rattle.feed_resolver_hits.specs.HitsText.{release_hit_line, release_head_line, release_text}
-use Rattle.feed_resolver_hits.specs.Tallies.{text_size, first_within, count_limit, shown_limit, text_limit, counted, tally_of}
-use Rattle.feed_resolver.specs.Answers.{sited_by, release_hits, hits_among, texts_behind, answers_body}
+use Rattle.feed_resolver_hits.specs.Tallies.{text_size, first_within, shown_limit, text_limit, tally_of}
+use Rattle.feed_resolver_hits.specs.Looks.{counted, found_in, row_limit}
+use Rattle.feed_resolver_hits.proofs.LooksPlaced.{of_answer}
+use Rattle.feed_resolver.specs.Answers.{sited_by, release_looks, looks_among, texts_behind, answers_body}
 use Rattle.feed_resolver.specs.Laws.{written_answer, WholeTextIsWritten}
 
 -- all of these are shown
@@ -36,42 +40,19 @@ prefix_shown places bytes (found ∷ hits) more all =
     (first_within (places - 1) (bytes - text_size found) (hits ++ more)) (hits ++ more) all in
     rw (parts.0) (ap (λ l. found ∷ l) (prefix_shown (places - 1) (bytes - text_size found) hits more parts.1))
 
-fewer_shown : (places bytes : ℕ) (hits : List ReleaseHitValue) → length (first_within places bytes hits) ≤ length hits
-fewer_shown places bytes [] = omega arith
-fewer_shown places bytes (found ∷ more) = cases (nat_lt 0 places && nat_lt 0 (bytes - text_size found)) (fewer_shown (places - 1) (bytes - text_size found) more)
-  where
-    cases : (b : Bool) → length (first_within (places - 1) (bytes - text_size found) more) ≤ length more
-        → length (if b then found ∷ first_within (places - 1) (bytes - text_size found) more else []) ≤ length (found ∷ more)
-    cases true less = omega (arith, less)
-    cases false less = omega arith
+-- all rows are looked at, and all hits in them are shown
+record IsWhole (looks : List (Option ReleaseHitValue)) : Type 0 where
+  counts : counted looks ≡ found_in looks
+  shows : first_within shown_limit text_limit (counted looks) ≡ found_in looks
+  test : nat_le (length looks) row_limit ≡ true
 
-take_all : {A : Type 0} → (n : ℕ) (xs : List A) → length xs ≤ n → take n xs ≡ xs
-take_all {A} zero [] few = refl
-take_all {A} (suc n) [] few = refl
-take_all {A} zero (x ∷ xs) few = absurd (omega (arith, few))
-take_all {A} (suc n) (x ∷ xs) few = ap (λ l. x ∷ l) (take_all n xs (omega (arith, few)))
-
--- so few that all are counted
-all_counted : (limit places bytes : ℕ) (hits : List ReleaseHitValue) → first_within places bytes (take limit hits) ≡ hits → length hits ≤ limit
-all_counted limit places bytes hits all =
-    let few : length (first_within places bytes (take limit hits)) ≤ length (take limit hits) = fewer_shown places bytes (take limit hits) in
-    let same : length (first_within places bytes (take limit hits)) ≡ length hits = ap length all in
-    let taken = length-take limit hits in
-    omega (arith, few, same, taken)
-
--- all hits of a list are counted and shown
-record IsWhole (hits : List ReleaseHitValue) : Type 0 where
-  counts : counted hits ≡ hits
-  shows : first_within shown_limit text_limit (counted hits) ≡ hits
-  test : nat_le (length hits) count_limit ≡ true
-
-whole_of : (hits : List ReleaseHitValue) → length hits ≤ count_limit → AllShown shown_limit text_limit hits → IsWhole hits
-whole_of hits few all =
-    let same : counted hits ≡ hits = take_all count_limit hits few in
+whole_of : (looks : List (Option ReleaseHitValue)) → length looks ≤ row_limit → AllShown shown_limit text_limit (found_in looks) → IsWhole looks
+whole_of looks few all =
+    let same : counted looks ≡ found_in looks = ap found_in (take_all row_limit looks few) in
     record {
       counts = same;
       shows = ap (first_within shown_limit text_limit) same ∙ all;
-      test = elim (leb_tells (length hits) count_limit) [ inl (e, le) ↦ e | inr (e, less) ↦ absurd (omega (arith, few, less)) ];
+      test = elim (leb_tells (length looks) row_limit) [ inl (e, le) ↦ e | inr (e, less) ↦ absurd (omega (arith, few, less)) ];
     }
 
 -- the lines of a release
@@ -92,52 +73,56 @@ length_append : {A : Type 0} → (xs ys : List A) → length (xs ++ ys) - length
 length_append {A} [] ys = omega arith
 length_append {A} (x ∷ xs) ys = let less = length_append xs ys in omega (arith, less)
 
-release_is : (site : site_file.SiteValue) (today : TodayValue) (search : SearchValue) (earlier : List ReleaseHitValue) (name : Name) (hits : List HitValue)
-    → IsWhole earlier → IsWhole (earlier ++ map (release_hit site today search name) hits)
-    → release_text (tally_of earlier) (tally_of (earlier ++ map (release_hit site today search name) hits)) name ≡ answer_text (text_of name) hits
+release_is : (site : site_file.SiteValue) (today : TodayValue) (search : SearchValue) (earlier looks : List (Option ReleaseHitValue)) (name : Name) (hits : List HitValue)
+    → found_in looks ≡ map (release_hit site today search name) hits → IsWhole earlier → IsWhole (earlier ++ looks)
+    → release_text (tally_of earlier) (tally_of (earlier ++ looks)) name ≡ answer_text (text_of name) hits
 unfolding release_text answer_text
-release_is site today search earlier name hits before after =
+release_is site today search earlier looks name hits same before after =
     let own = map (release_hit site today search name) hits in
+    let old = found_in earlier in
+    let joint : found_in (earlier ++ looks) ≡ old ++ own = filter_map-append (λ look. look) earlier looks ∙ ap (λ l. old ++ l) same in
     let head = text_of name in
-    let lines = flat_map release_hit_line (drop (length (tally_of earlier).shown) (tally_of (earlier ++ own)).shown) in
-    ap (λ b. release_head_line head (length (counted (earlier ++ own)) - length (counted earlier)) b ++ lines) after.test
-    ∙ ap (λ l. release_head_line head (length l - length (counted earlier)) true ++ lines) after.counts
-    ∙ ap (λ l. release_head_line head (length (earlier ++ own) - length l) true ++ lines) before.counts
-    ∙ ap (λ n. release_head_line head n true ++ lines) (length_append earlier own ∙ length_map site today search name hits)
-    ∙ ap (λ l. release_head_line head (length hits) true ++ flat_map release_hit_line (drop (length l) (tally_of (earlier ++ own)).shown)) before.shows
-    ∙ ap (λ l. release_head_line head (length hits) true ++ flat_map release_hit_line (drop (length earlier) l)) after.shows
-    ∙ ap (λ l. release_head_line head (length hits) true ++ flat_map release_hit_line l) (drop_front earlier own)
+    let lines = flat_map release_hit_line (drop (length (tally_of earlier).shown) (tally_of (earlier ++ looks)).shown) in
+    ap (λ b. release_head_line head (length (counted (earlier ++ looks)) - length (counted earlier)) b ++ lines) after.test
+    ∙ ap (λ l. release_head_line head (length l - length (counted earlier)) true ++ lines) (after.counts ∙ joint)
+    ∙ ap (λ l. release_head_line head (length (old ++ own) - length l) true ++ lines) before.counts
+    ∙ ap (λ n. release_head_line head n true ++ lines) (length_append old own ∙ length_map site today search name hits)
+    ∙ ap (λ l. release_head_line head (length hits) true ++ flat_map release_hit_line (drop (length l) (tally_of (earlier ++ looks)).shown)) before.shows
+    ∙ ap (λ l. release_head_line head (length hits) true ++ flat_map release_hit_line (drop (length old) l)) (after.shows ∙ joint)
+    ∙ ap (λ l. release_head_line head (length hits) true ++ flat_map release_hit_line l) (drop_front old own)
     ∙ ap (λ t. release_head_line head (length hits) true ++ t) (lines_are site today search name hits)
 
 fewer : {A : Type 0} → (xs ys : List A) → length xs ≤ length (xs ++ ys)
 fewer {A} [] ys = omega arith
 fewer {A} (x ∷ xs) ys = let less : length xs ≤ length (xs ++ ys) = fewer xs ys in omega (arith, less)
 
--- the first hits of some that are all counted and shown
-front_whole : (hits more : List ReleaseHitValue) → length (hits ++ more) ≤ count_limit → AllShown shown_limit text_limit (hits ++ more) → IsWhole hits
-front_whole hits more few all =
-    let less : length hits ≤ length (hits ++ more) = fewer hits more in
-    whole_of hits (omega (arith, few, less)) (prefix_shown shown_limit text_limit hits more all)
+-- the first rows of some that are all looked at, and whose hits are all shown
+front_whole : (looks more : List (Option ReleaseHitValue)) → length (looks ++ more) ≤ row_limit → AllShown shown_limit text_limit (found_in (looks ++ more)) → IsWhole looks
+front_whole looks more few all =
+    let less : length looks ≤ length (looks ++ more) = fewer looks more in
+    whole_of looks (omega (arith, few, less))
+    (prefix_shown shown_limit text_limit (found_in looks) (found_in more) (subst (AllShown shown_limit text_limit) (filter_map-append (λ look. look) looks more) all))
 
-texts_whole : (site : site_file.SiteValue) (today : TodayValue) (search : SearchValue) (earlier : List ReleaseHitValue) (actives : List ActiveValue)
-    → length (earlier ++ hits_among search (sited_by site today actives)) ≤ count_limit
-    → AllShown shown_limit text_limit (earlier ++ hits_among search (sited_by site today actives)) → texts_behind site today search earlier actives ≡ flat_map (written_answer site search) actives
+texts_whole : (site : site_file.SiteValue) (today : TodayValue) (search : SearchValue) (earlier : List (Option ReleaseHitValue)) (actives : List ActiveValue)
+    → length (earlier ++ looks_among search (sited_by site today actives)) ≤ row_limit
+    → AllShown shown_limit text_limit (found_in (earlier ++ looks_among search (sited_by site today actives)))
+    → texts_behind site today search earlier actives ≡ flat_map (written_answer site search) actives
 texts_whole site today search earlier [] few all = refl
 texts_whole site today search earlier (active ∷ actives) few all =
-    let own = release_hits site today search active in
-    let rest = hits_among search (sited_by site today actives) in
+    let own = release_looks site today search active in
+    let rest = looks_among search (sited_by site today actives) in
     let joint : earlier ++ (own ++ rest) ≡ (earlier ++ own) ++ rest = sym (append_assoc earlier own rest) in
-    let count : length ((earlier ++ own) ++ rest) ≤ count_limit = rw (← joint) few in
-    let shown : AllShown shown_limit text_limit ((earlier ++ own) ++ rest) = rw (← joint) all in
+    let count : length ((earlier ++ own) ++ rest) ≤ row_limit = rw (← joint) few in
+    let shown : AllShown shown_limit text_limit (found_in ((earlier ++ own) ++ rest)) = rw (← joint) all in
     ap (λ t. t ++ texts_behind site today search (earlier ++ own) actives)
-    (release_is site today search earlier active.name (held_hits site search active.name (answer_of active.holdings (compared search))) (front_whole earlier (own ++ rest) few all)
-    (front_whole (earlier ++ own) rest count shown))
+    (release_is site today search earlier own active.name (held_hits site search active.name (answer_of active.holdings (compared search)))
+    (of_answer site today search active.name active.holdings) (front_whole earlier (own ++ rest) few all) (front_whole (earlier ++ own) rest count shown))
     ∙ ap (λ t. written_answer site search active ++ t) (texts_whole site today search (earlier ++ own) actives count shown)
 
 pub whole_text : WholeTextIsWritten
 unfolding answers_body
-whole_text text search actives all =
-    let hits = hits_among search actives in
-    let few : length hits ≤ count_limit = all_counted count_limit shown_limit text_limit hits all in
-    let same : counted hits ≡ hits = take_all count_limit hits few in
+whole_text text search actives whole all =
+    let looks = looks_among search actives in
+    let few : length looks ≤ row_limit = (elim (leb_tells (length looks) row_limit) [ inl (e, le) ↦ le | inr (e, less) ↦ absurd (false≢true (sym e ∙ whole)) ]) in
+    let same : counted looks ≡ found_in looks = ap found_in (take_all row_limit looks few) in
     texts_whole actives.library actives.today search [] actives.actives few (ap (first_within shown_limit text_limit) (sym same) ∙ all)

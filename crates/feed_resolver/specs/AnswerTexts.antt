@@ -5,12 +5,12 @@ use Rattle.feed_site.specs.Site as site_file
 use Rattle.feed_resolver_hits.specs.Searches.{SearchValue}
 use Rattle.feed_releases.specs.Actives.{ActiveValue}
 use Rattle.feed_resolver_hits.specs.HitsText.{release_text}
-use Rattle.feed_resolver_hits.specs.Tallying.{RunningValue, with_hits, tally_from}
-use Rattle.feed_resolver.specs.Answers.{release_hits}
+use Rattle.feed_resolver_hits.specs.Tallying.{RunningValue, with_looks, tally_from}
+use Rattle.feed_resolver.specs.Answers.{release_looks}
 
--- the answers of releases as text, behind those whose hits made this tally
+-- the answers of releases as text, behind those whose rows made this tally
 abbrev pub texts_from : site_file.SiteValue → TodayValue → SearchValue → RunningValue → List ActiveValue → List ℕ
 texts_from site today search running [] = []
 texts_from site today search running (active ∷ actives) =
-    release_text (tally_from running) (tally_from (with_hits running (release_hits site today search active))) active.name
-    ++ texts_from site today search (with_hits running (release_hits site today search active)) actives
+    release_text (tally_from running) (tally_from (with_looks running (release_looks site today search active))) active.name
+    ++ texts_from site today search (with_looks running (release_looks site today search active)) actives

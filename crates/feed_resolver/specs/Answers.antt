@@ -1,18 +1,18 @@
 -- The hits of a query in active releases on a day, and the body that lists them.
-use Rattle.std.specs.Prelude.{ℕ, ◌==◌, ◌&&◌, ◌||◌, Bool, if◌then◌else◌, List, [], ◌∷◌, ◌++◌, drop, take, is_some}
+use Rattle.std.specs.Prelude.{ℕ, ◌==◌, ◌&&◌, ◌||◌, Bool, if◌then◌else◌, List, [], ◌∷◌, ◌++◌, drop, take, Option, is_some}
 use Rattle.std.specs.List.{flat_map}
 use Rattle.std.specs.Str.{bytes_eq}
 use Rattle.feed_embargo.specs.Today.{TodayValue}
 use Rattle.feed_site.specs.Site as site_file
 use Rattle.feed_answer.specs.QueryValue.{QueryValue}
-use Rattle.feed_answer.specs.Answers.{answer_of}
 use Rattle.feed_releases.specs.Actives.{ActiveValue}
 use Rattle.feed_resolver_request.specs.declared.representation.Representation.{Representation}
 use Rattle.feed_resolver_request.specs.declared.representation.Representation.TheVariants.{Text, Json, Html}
-use Rattle.feed_resolver_hits.specs.Hits.{ReleaseHitValue, library_hits}
+use Rattle.feed_resolver_hits.specs.Hits.{ReleaseHitValue}
+use Rattle.feed_resolver_hits.specs.Looks.{found_in, looks_in}
 use Rattle.feed_resolver_hits.specs.AnswerJson.{answer_json}
 use Rattle.feed_resolver_hits.specs.Asks.{ask_of}
-use Rattle.feed_resolver_hits.specs.Searches.{SearchValue, compared, in_scope}
+use Rattle.feed_resolver_hits.specs.Searches.{SearchValue, in_scope}
 use Rattle.feed_resolver_hits.specs.declared.search.Scope.TheVariants as scope
 use Rattle.feed_resolver_hits.specs.HitsText.{release_text}
 use Rattle.feed_resolver_hits.specs.Tallies.{TallyValue, tally_of}
@@ -51,13 +51,17 @@ pub record ContextValue : Type 0 where
 abbrev pub sited_in : ContextValue → Sited
 sited_in context = sited context.site context.actives
 
--- the hits of a search in a release that the library has
-abbrev pub release_hits : site_file.SiteValue → TodayValue → SearchValue → ActiveValue → List ReleaseHitValue
-release_hits site today search active = library_hits site today search active.name (answer_of active.holdings (compared search))
+-- what a search finds in each row of a release that has one of its identifiers
+abbrev pub release_looks : site_file.SiteValue → TodayValue → SearchValue → ActiveValue → List (Option ReleaseHitValue)
+release_looks site today search active = looks_in site today search active.name active.holdings.rows
 
--- the hits in all the releases, in their order
+-- the same of all the releases, in their order
+abbrev pub looks_among : SearchValue → Sited → List (Option ReleaseHitValue)
+looks_among search actives = flat_map (release_looks actives.library actives.today search) actives.actives
+
+-- the hits in all these rows
 abbrev pub hits_among : SearchValue → Sited → List ReleaseHitValue
-hits_among search actives = flat_map (release_hits actives.library actives.today search) actives.actives
+hits_among search actives = found_in (looks_among search actives)
 
 -- the release belongs to the package
 abbrev pub is_of : List ℕ → ActiveValue → Bool
@@ -65,14 +69,14 @@ is_of stem active = bytes_eq active.name.stem stem
 
 -- the tally of the hits in all the releases
 abbrev pub tally_among : SearchValue → Sited → TallyValue
-tally_among search actives = tally_of (hits_among search actives)
+tally_among search actives = tally_of (looks_among search actives)
 
--- the answers of releases as text, behind releases with these hits: the limits are on the hits of all
-abbrev pub texts_behind : site_file.SiteValue → TodayValue → SearchValue → List ReleaseHitValue → List ActiveValue → List ℕ
+-- the answers of releases as text, behind releases with these rows: the limits are on the rows and the hits of all
+abbrev pub texts_behind : site_file.SiteValue → TodayValue → SearchValue → List (Option ReleaseHitValue) → List ActiveValue → List ℕ
 texts_behind site today search earlier [] = []
 texts_behind site today search earlier (active ∷ actives) =
-    release_text (tally_of earlier) (tally_of (earlier ++ release_hits site today search active)) active.name
-    ++ texts_behind site today search (earlier ++ release_hits site today search active) actives
+    release_text (tally_of earlier) (tally_of (earlier ++ release_looks site today search active)) active.name
+    ++ texts_behind site today search (earlier ++ release_looks site today search active) actives
 
 -- the query names a date and a volume, or one of them
 abbrev pub has_both : QueryValue → Bool
@@ -82,17 +86,17 @@ abbrev pub is_placed : QueryValue → Bool
 is_placed query = is_some query.days || is_some query.volume
 
 -- the rows of the same titles whose days are covered and whose volumes are not, if the query names both
-abbrev pub also_beside : SearchValue → Sited → List ReleaseHitValue
-also_beside search actives = if has_both search.query then hits_among (in_scope scope.Dated search) actives else []
+abbrev pub also_beside : SearchValue → Sited → List (Option ReleaseHitValue)
+also_beside search actives = if has_both search.query then looks_among (in_scope scope.Dated search) actives else []
 
 abbrev pub also_among : SearchValue → Sited → TallyValue
 also_among search actives = tally_of (also_beside search actives)
 
 -- the other rows of the same titles, for any date and volume, which a query that names a date or a volume has if it has no
 -- hits of its own
-abbrev pub others_beside : ℕ → SearchValue → Sited → List ReleaseHitValue
+abbrev pub others_beside : ℕ → SearchValue → Sited → List (Option ReleaseHitValue)
 others_beside count search actives =
-    if (count == 0) && is_placed search.query then hits_among (in_scope scope.Others search) actives else []
+    if (count == 0) && is_placed search.query then looks_among (in_scope scope.Others search) actives else []
 
 abbrev pub others_among : SearchValue → Sited → TallyValue
 others_among search actives = tally_of (others_beside (tally_among search actives).count search actives)

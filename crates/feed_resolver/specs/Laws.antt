@@ -60,7 +60,7 @@ pub record IsHeldHit (search : SearchValue) (actives : Sited) (found : ReleaseHi
   pub held : is_found actives.library search active.name hit ≡ true
   pub shown : found ≡ release_hit actives.library actives.today search active.name hit
 
--- a reply counts exactly the hits of the core that the library has
+-- the rows that have one of a query's identifiers have exactly the hits of the core that the library has
 abbrev pub HitsAreHeld : Type 0
 HitsAreHeld = (search : SearchValue) (actives : Sited) (found : ReleaseHitValue)
     → Contains (hits_among search actives) found ↔ IsHeldHit search actives found
@@ -75,8 +75,9 @@ abbrev pub written_answer : site_file.SiteValue → SearchValue → ActiveValue 
 written_answer site search active =
     answer_text (text_of active.name) (held_hits site search active.name (answer_of active.holdings (compared search)))
 
--- a reply that shows all hits has, as text, the answers that `Answer::write` prints, of the hits that the library has
+-- a reply that looks at all rows and shows all hits has, as text, the answers that `Answer::write` prints, of the hits that the library has
 abbrev pub WholeTextIsWritten : Type 0
 WholeTextIsWritten =
-    (text : List ℕ) (search : SearchValue) (actives : Sited) → (tally_among search actives).shown ≡ hits_among search actives
+    (text : List ℕ) (search : SearchValue) (actives : Sited) → (tally_among search actives).is_whole ≡ true
+    → (tally_among search actives).shown ≡ hits_among search actives
     → answers_body Text text search actives ≡ flat_map (written_answer actives.library search) actives.actives

@@ -16,10 +16,10 @@ use Rattle.feed_resolver_reply.specs.declared.status.Status.TheVariants as statu
 use Rattle.feed_resolver_hits.specs.Asked.{asked_of}
 use Rattle.feed_resolver_hits.specs.Laws.{IsSoleHit}
 use Rattle.feed_resolver_hits.specs.Ranks.{IsBestLink}
-use Rattle.feed_resolver_hits.specs.Tallies.{counted}
+use Rattle.feed_resolver_hits.specs.Looks.{counted}
 use Rattle.std.specs.Str.{IsUtf8}
 use Rattle.feed_resolver_tag.specs.Tags.{SiteValue}
-use Rattle.feed_resolver.specs.Answers.{Dated, Sited, hits_among, sited}
+use Rattle.feed_resolver.specs.Answers.{Dated, Sited, looks_among, sited, tally_among}
 use Rattle.feed_resolver_request.specs.Forms.{form_of}
 use Rattle.feed_resolver.specs.Replies.{IsResponse, reply_to, has_coded_body, path_of, resolve_reply, sent_reply, target_query}
 
@@ -63,10 +63,11 @@ pub record AsksToGo (head : RequestHead) (search : SearchValue) : Type 0 where
   pub resource : resource_of (path_in (origin_form head.target)) ≡ Go
   pub asked : asked_of (query_in (origin_form head.target)) ≡ Ok search
 
--- the response is a redirect to this URL, or there is none to go to
-abbrev pub GoesTo : Option (List ℕ) → ResponseValue → Type 0
-GoesTo None response = response.status ≡ 404
-GoesTo (Some url) response =
+-- the response is a redirect to this URL, or there is none to go to: not at all, or not in the rows that were looked at
+abbrev pub GoesTo : Option (List ℕ) → Bool → ResponseValue → Type 0
+GoesTo None true response = response.status ≡ 404
+GoesTo None false response = response.status ≡ 200
+GoesTo (Some url) is_whole response =
     (response.status ≡ 302) × ((head : ResponseHead) × IsMessage response head [] × (values_named (codes "location") head.fields ≡ url ∷ []))
 
 -- `/go` redirects to a counted hit that may be linked to, and no other such hit ranks above it
@@ -74,7 +75,8 @@ abbrev pub GoesToBest : Type 0
 GoesToBest =
     (site : SiteValue) (keeps : Bool) (actives : Dated) (bytes body : List ℕ) (head : RequestHead) (search : SearchValue) (response : ResponseValue)
     → BeginsWith bytes head → AsksToGo head search → IsResponse site bytes body keeps actives response
-    → (best : Option (List ℕ)) × IsBestLink (counted (hits_among search (sited site actives))) best × GoesTo best response
+    → (best : Option (List ℕ)) × IsBestLink (counted (looks_among search (sited site actives))) best
+    × GoesTo best (tally_among search (sited site actives)).is_whole response
 
 -- `/resolve` redirects only a browser, only if the library wants it, and to the link of the only hit: one that is available,
 -- covers the whole of what is asked for, in full text, and the library has all those days
@@ -83,7 +85,7 @@ RedirectsSoleHit =
     (representation : Representation) (text : List ℕ) (search : SearchValue) (actives : Sited)
     → asked_of text ≡ Ok search → (resolve_reply representation text actives).status ≡ status.Found
     → (representation ≡ Html) × (actives.library.redirects_sole_hit ≡ true)
-    × IsSoleHit (hits_among search actives) (resolve_reply representation text actives).location
+    × IsSoleHit (looks_among search actives) (resolve_reply representation text actives).location
 
 -- a GET that asks what a form asks: the same fields and path, and the form as its query
 pub record IsGetOfForm (post get : RequestHead) (body : List ℕ) : Type 0 where

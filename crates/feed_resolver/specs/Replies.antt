@@ -72,10 +72,15 @@ package_reply representation stem text actives = option_map_or (resolve_reply_at
     (position (is_of stem) actives.actives)
     (error_reply actives.library text status.NotFound representation advice.NoList (codes "NoRelease"))
 
+-- the status of an answer in place of a redirect: whether there is nothing to go to is known only if all rows are looked at
+abbrev pub status_without : Bool → Status
+status_without is_whole = if is_whole then status.NotFound else status.Good
+
 -- a redirect to the best of the counted hits, or the answer if none has a link
 abbrev pub redirect_reply : Representation → List ℕ → Sited → SearchValue → ReplyValue
 redirect_reply representation text actives search = option_map_or redirect_to
-    (tally_among search actives).best (hits_reply status.NotFound representation text actives search)
+    (tally_among search actives).best
+    (hits_reply (status_without (tally_among search actives).is_whole) representation text actives search)
 
 -- the same for what a text asks
 abbrev pub go_reply : Representation → List ℕ → Sited → ReplyValue

@@ -1,11 +1,11 @@
 //! Counts the hits of a query in the active releases on a day, and writes the body that lists them.
 ghost use Rattle.std.specs.Prelude.{◌≡◌, ◌++◌, [], IfOk, OnOk};
-ghost use Rattle.feed_resolver_hits.specs.Tallying.{no_hits, with_hits};
+ghost use Rattle.feed_resolver_hits.specs.Tallying.{no_hits, with_looks};
 ghost use Rattle.feed_resolver_hits.specs.AnswerJson.{answer_json};
 ghost use Rattle.feed_resolver_page.specs.HitsPage.{hits_page};
-ghost use Rattle.feed_resolver.specs.Answers.{also_among, also_beside, answers_body, has_both, hits_among};
+ghost use Rattle.feed_resolver.specs.Answers.{also_among, also_beside, answers_body, has_both, looks_among};
 ghost use Rattle.feed_resolver.specs.Answers.{is_placed, others_among, others_beside, tally_among};
-ghost use Rattle.feed_resolver.specs.Answers.{release_hits, sited_in};
+ghost use Rattle.feed_resolver.specs.Answers.{release_looks, sited_in};
 ghost use Rattle.feed_resolver.specs.AnswerTexts.{texts_from};
 
 use crate::context::Context;
@@ -24,8 +24,8 @@ fn add_release<'a>(
     search: &Search<'_>,
 ) -> Result<(), AllocError>
     ensures { OnOk result (tally.new
-        ≡ with_hits tally.old
-        (release_hits context.now.site.library context.now.actives.today search.now active.now)) }
+        ≡ with_looks tally.old
+        (release_looks context.now.site.library context.now.actives.today search.now active.now)) }
 {
     let (site, today) = (context.library(), context.today);
     tally.add_release(alloc, site, today, active.name(), active.holdings(), search)
@@ -38,7 +38,7 @@ fn tally_by<'a>(
     search: &Search<'_>,
 ) -> Result<Tally<'a>, AllocError>
     ensures { IfOk result (λ tally. tally
-        ≡ with_hits no_hits (hits_among search.now (sited_in context.now))) }
+        ≡ with_looks no_hits (looks_among search.now (sited_in context.now))) }
 {
     let mut tally = Tally::new(alloc);
     for active in context.actives {
@@ -54,7 +54,7 @@ pub(crate) fn tally_among<'a>(
     lookup: &Lookup,
 ) -> Result<Tally<'a>, AllocError>
     ensures { IfOk result (λ tally. tally
-        ≡ with_hits no_hits (hits_among lookup.now (sited_in context.now))) }
+        ≡ with_looks no_hits (looks_among lookup.now (sited_in context.now))) }
 {
     tally_by(alloc, context, &Search::of(lookup))
 }
@@ -79,7 +79,7 @@ fn also_beside<'a>(
     lookup: &Lookup,
 ) -> Result<Tally<'a>, AllocError>
     ensures { IfOk result (λ tally. tally
-        ≡ with_hits no_hits (also_beside lookup.now (sited_in context.now))) }
+        ≡ with_looks no_hits (also_beside lookup.now (sited_in context.now))) }
 {
     if has_both(lookup.query()) {
         tally_by(alloc, context, &Search::dated(lookup))
@@ -97,7 +97,7 @@ fn others_beside<'a>(
     count: usize,
 ) -> Result<Tally<'a>, AllocError>
     ensures { IfOk result (λ tally. tally
-        ≡ with_hits no_hits (others_beside count lookup.now (sited_in context.now))) }
+        ≡ with_looks no_hits (others_beside count lookup.now (sited_in context.now))) }
 {
     if count == 0 && is_placed(lookup.query()) {
         tally_by(alloc, context, &Search::others(lookup))

@@ -21,7 +21,7 @@ pub fn head_is_head_of_get()
     ensures { HeadIsHeadOfGet }
 {}
 
-/// `/go` redirects to a hit above which no hit ranks, of the first 1,000,000, that may be linked to.
+/// `/go` redirects to a hit above which no hit ranks, of those in the rows that are looked at, that may be linked to.
 pub fn goes_to_best()
     ensures { GoesToBest }
 {}
@@ -36,7 +36,7 @@ pub fn status_is_json()
     ensures { StatusIsJson }
 {}
 
-/// A reply counts exactly the hits of the core that the library has.
+/// The rows that have one of a query's identifiers have exactly the hits of the core that the library has.
 pub fn hits_are_held()
     ensures { HitsAreHeld }
 {}
@@ -46,7 +46,8 @@ pub fn links_are_held()
     ensures { LinksAreHeld }
 {}
 
-/// A reply that shows all hits has, as text, the answers that `Answer::write` prints of the hits that the library has.
+/// A reply that looks at all rows and shows all hits has, as text, the answers that `Answer::write` prints of the hits
+/// that the library has.
 pub fn whole_text_is_written()
     ensures { WholeTextIsWritten }
 {}

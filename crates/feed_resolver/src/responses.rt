@@ -18,7 +18,7 @@ ghost use Rattle.feed_resolver_reply.specs.declared.status.Status.TheVariants as
 ghost use Rattle.feed_resolver.specs.Answers.{dated, sited_in, is_of, tally_among};
 ghost use Rattle.feed_resolver.specs.Replies.{IsResponse, IsResponseAt, hits_reply, go_reply, resolve_reply};
 ghost use Rattle.feed_resolver.specs.Replies.{found_reply, package_reply, redirect_reply, resource_reply};
-ghost use Rattle.feed_resolver.specs.Replies.{sole_redirect};
+ghost use Rattle.feed_resolver.specs.Replies.{sole_redirect, status_without};
 ghost use Rattle.feed_resolver.specs.Replies.{method_refusal, plain_reply, form_refusal, form_reply};
 ghost use Rattle.feed_resolver.specs.Replies.{reply_to, response_to};
 ghost use Rattle.feed_resolver.specs.Validators.{unless_preflight};
@@ -185,16 +185,30 @@ fn package_reply(
     }
 }
 
+fn status_without(is_whole: bool) -> Status
+    ensures { result ≡ status_without is_whole }
+{
+    if is_whole {
+        Status::NotFound
+    } else {
+        Status::Good
+    }
+}
+
+// Returns the best link, and the status of a reply if there is none.
 fn best_link(
     alloc: Global,
     context: &Context<'_>,
     lookup: &Lookup,
-) -> Result<Option<Vec<u8>>, AllocError>
-    ensures { IfOk result (λ best. option_map (λ text. text.items) best
+) -> Result<(Option<Vec<u8>>, Status), AllocError>
+    ensures link { IfOk result (λ best. option_map (λ text. text.items) best.0
         ≡ (tally_among lookup.now (sited_in context.now)).best) }
+    ensures status { IfOk result (λ best. best.1
+        ≡ status_without (tally_among lookup.now (sited_in context.now)).is_whole) }
 {
     let tally = tally_among(alloc, context, lookup)?;
-    copied(alloc, tally.best_link())
+    let link = copied(alloc, tally.best_link())?;
+    Ok((link, status_without(tally.is_whole())))
 }
 
 fn redirect_reply(
@@ -206,9 +220,10 @@ fn redirect_reply(
     ensures { IfOk result (λ reply. reply
         ≡ redirect_reply asked.now.representation asked.now.text (sited_in context.now) lookup.now) }
 {
-    match best_link(alloc, context, lookup)? {
+    let (best, status) = best_link(alloc, context, lookup)?;
+    match best {
         Some(link) => Ok(Reply::redirect(alloc, link)),
-        None => hits_reply(alloc, Status::NotFound, asked, context, lookup),
+        None => hits_reply(alloc, status, asked, context, lookup),
     }
 }
 

@@ -1,11 +1,11 @@
 -- The object of an answer parses to its value.
-use Rattle.std.proofs.Common.{◌≡◌, ◌<◌, ◌≤◌, ◌^◌, ℕ, List, [], ◌∷◌, ◌++◌, refl, ap, ◌∙◌, arith, codes}
-use Rattle.std.specs.Prelude.{All, drop}
+use Rattle.std.proofs.Common.{◌≡◌, ◌≤◌, ℕ, List, [], ◌∷◌, ◌++◌, refl, ap, ◌∙◌, arith, codes}
+use Rattle.std.specs.Prelude.{drop}
 use Rattle.std.specs.List.{flat_map}
 use Rattle.json.specs.Token.{Token}
 use Rattle.json.specs.Text.{content}
 use Rattle.json.specs.Lex.{Lexeme, token, comma, colon, lex, between, punctuate, fresh, after_value, tokens}
-use Rattle.json.specs.Json.{Items, array}
+use Rattle.json.specs.Json.{array}
 use Rattle.json.specs.Tree.{json_tokens, items_depth}
 use Rattle.json.specs.Value.{items_of}
 use Rattle.feed_openurl.specs.CitationParts.{name_of}
@@ -16,7 +16,6 @@ use Rattle.feed_openurl.specs.declared.part.TheConstants.{PARTS}
 use Rattle.feed_resolver_reply.specs.JsonStrings.{json_string}
 use Rattle.feed_resolver_reply.specs.Pieces.{joined}
 use Rattle.feed_resolver_reply.proofs.JsonTexts.{Lexes, lexes_then, IsText, parsed}
-use Rattle.feed_resolver_hits.specs.Hits.{ReleaseHitValue}
 use Rattle.feed_resolver_hits.specs.HitsJson.{also_json, also_value, hits_json, item_values, values_with}
 use Rattle.feed_resolver_hits.specs.Asks.{AskValue}
 use Rattle.feed_resolver_hits.specs.AnswerJson.{citation_front, citation_json, part_member, query_members, answer_start, answer_json, answer_value, also_member}

@@ -1,7 +1,6 @@
 -- A book that comes first ranks above each serial.
-use Rattle.std.proofs.Common.{◌≡◌, ◌<◌, ◌≤◌, ◌+◌, ◌*◌, ℕ, Bool, true, false, refl, ap, ◌∙◌, arith}
+use Rattle.std.proofs.Common.{◌≡◌, ◌<◌, true, false, ap, ◌∙◌, arith}
 use Rattle.feed_kbart.specs.declared.identifiers.Kind.{Kind}
-use Rattle.feed_kbart.specs.declared.identifiers.Kind.TheVariants.{Serial, Book}
 use Rattle.feed_resolver_hits.specs.Hits.{ReleaseHitValue, first_rank, rank_of, release_hit}
 use Rattle.feed_resolver_hits.specs.Searches.{is_first_as}
 use Rattle.feed_resolver_hits.specs.Laws.{BooksComeFirst}

@@ -1,11 +1,11 @@
 -- The object of a hit parses to its value.
 use Rattle.std.proofs.Common.{◌≡◌, ◌<◌, ◌≤◌, ◌^◌, ◌+◌, ◌⊎◌, inl, inr, ℕ, suc, List, [], ◌∷◌, ◌++◌, Bool, true, false, Some, refl, sym, ap, ◌∙◌, subst, arith, append_assoc, codes, length, map, lit≤}
-use Rattle.std.specs.Prelude.{All, ◌==◌, if◌then◌else◌}
+use Rattle.std.specs.Prelude.{All, if◌then◌else◌}
 use Rattle.std.proofs.lemmas.List.{append-nil}
 use Rattle.json.specs.Json.{Json, array, document}
 use Rattle.json.specs.Value.{items_of}
 use Rattle.feed_resolver_reply.specs.JsonLists.{comma_before, items_from, json_list}
-use Rattle.feed_resolver_hits.specs.Tallies.{TallyValue, left_out}
+use Rattle.feed_resolver_hits.specs.Tallies.{TallyValue, left_out, shows_all}
 use Rattle.std.specs.List.{AllByRecursion}
 use Rattle.std.specs.Fmt.{decimal}
 use Rattle.std.proofs.lemmas.List.Elements.{recursion_from_All}
@@ -328,7 +328,7 @@ abbrev last_items : Bool → ℕ → Bool → List Item
 last_items none n b = if none then [] else inr (n, b) ∷ []
 
 abbrev items_in : TallyValue → List Item
-items_in tally = hit_items tally.top ++ last_items (left_out tally == 0) (left_out tally) tally.is_whole
+items_in tally = hit_items tally.top ++ last_items (shows_all tally) (left_out tally) tally.is_whole
 
 -- the value of a hit is an object of texts and numbers, and its text with this end reads as it
 abbrev pub Reads : List ℕ → (ReleaseHitValue → Json) → Type 0
@@ -364,9 +364,9 @@ module _ (end : List ℕ) (value : ReleaseHitValue → Json) (reads : Reads end 
 
   text_is : (tally : TallyValue) → json_list (item_text end) (items_in tally) ≡ list_json end tally
   unfolding list_json
-  text_is tally = let last = last_items (left_out tally == 0) (left_out tally) tally.is_whole in
+  text_is tally = let last = last_items (shows_all tally) (left_out tally) tally.is_whole in
       ap (λ t. codes "[" ++ (t ++ codes "\n]\n"))
-      (items_are tally.top 0 last ∙ ap (λ t. items_from (hit_object end) 0 tally.top ++ t) (last_is (left_out tally == 0) (length tally.top) (left_out tally) tally.is_whole))
+      (items_are tally.top 0 last ∙ ap (λ t. items_from (hit_object end) 0 tally.top ++ t) (last_is (shows_all tally) (length tally.top) (left_out tally) tally.is_whole))
       ∙ ap (λ t. codes "[" ++ t) (append_assoc (items_from (hit_object end) 0 tally.top) (more_items tally) (codes "\n]\n"))
 
   values_of : (hits : List ReleaseHitValue) (none : Bool) (n : ℕ) (b : Bool)
@@ -399,13 +399,13 @@ module _ (end : List ℕ) (value : ReleaseHitValue → Json) (reads : Reads end 
       → AllByRecursion (λ item. IsText (item_text end item) (item_value value item)) (items_in tally)
   each_of tally small counts =
       let fits : left_out tally < 2 ^ 64 = omega arith in
-      each_item tally.top (last_items (left_out tally == 0) (left_out tally) tally.is_whole)
+      each_item tally.top (last_items (shows_all tally) (left_out tally) tally.is_whole)
       (recursion_from_All (λ (found : ReleaseHitValue). found.hit.row.number < 2 ^ 64) tally.top small)
-      (each_last (left_out tally == 0) (left_out tally) tally.is_whole fits)
+      (each_last (shows_all tally) (left_out tally) tally.is_whole fits)
 
   flat_of : (tally : TallyValue) → AllByRecursion (λ item. depth (item_value value item) ≤ 1) (items_in tally)
   flat_of tally =
-      flat_items tally.top (last_items (left_out tally == 0) (left_out tally) tally.is_whole) (flat_last (left_out tally == 0) (left_out tally) tally.is_whole)
+      flat_items tally.top (last_items (shows_all tally) (left_out tally) tally.is_whole) (flat_last (shows_all tally) (left_out tally) tally.is_whole)
 
   -- the list in another text
   pub list_is : (tally : TallyValue) → All (λ (found : ReleaseHitValue). found.hit.row.number < 2 ^ 64) tally.top → tally.count < 2 ^ 64
@@ -413,13 +413,13 @@ module _ (end : List ℕ) (value : ReleaseHitValue → Json) (reads : Reads end 
   list_is tally small counts =
       subst (λ (t : List ℕ). IsText t (array (items_of (values_with value tally)))) (text_is tally)
       (subst (λ (vs : List Json). IsText (json_list (item_text end) (items_in tally)) (array (items_of vs)))
-      (values_of tally.top (left_out tally == 0) (left_out tally) tally.is_whole)
+      (values_of tally.top (shows_all tally) (left_out tally) tally.is_whole)
       (list_in (item_text end) (item_value value) (items_in tally) (each_of tally small counts)))
 
   -- and it is as deep as an object
   pub list_flat : (tally : TallyValue) → items_depth (items_of (values_with value tally)) ≤ 1
   list_flat tally =
-      subst (λ (vs : List Json). items_depth (items_of vs) ≤ 1) (values_of tally.top (left_out tally == 0) (left_out tally) tally.is_whole)
+      subst (λ (vs : List Json). items_depth (items_of vs) ≤ 1) (values_of tally.top (shows_all tally) (left_out tally) tally.is_whole)
       (items_shallow (item_value value) (items_in tally) (flat_of tally))
 
   pub document_read : (tally : TallyValue) → All (λ (found : ReleaseHitValue). found.hit.row.number < 2 ^ 64) tally.top → tally.count < 2 ^ 64
@@ -427,7 +427,7 @@ module _ (end : List ℕ) (value : ReleaseHitValue → Json) (reads : Reads end 
   document_read tally small counts =
       ap document (sym (text_is tally))
       ∙ list_read (item_text end) (item_value value) (items_in tally) (each_of tally small counts) (flat_of tally)
-      ∙ ap (λ vs. Some (array (items_of vs))) (values_of tally.top (left_out tally == 0) (left_out tally) tally.is_whole)
+      ∙ ap (λ vs. Some (array (items_of vs))) (values_of tally.top (shows_all tally) (left_out tally) tally.is_whole)
 
 -- the hits, and the titles whose date is covered
 hit_flat : (found : ReleaseHitValue) → depth (hit_value found) ≤ 1

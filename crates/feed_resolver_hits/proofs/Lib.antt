@@ -7,7 +7,8 @@ pub mod Written
 pub mod Tops
 pub mod BooksFirst
 pub mod Tallies
-pub mod PlacesAsked
+pub mod Merged
+pub mod LooksPlaced
 pub mod TitlesAsked
 pub mod LinksKept
 pub mod SoleHits

@@ -1,6 +1,7 @@
 -- A sole link is that of the only hit.
-use Rattle.std.proofs.Common.{◌≡◌, ◌<◌, ℕ, suc, List, [], ◌∷◌, Bool, true, false, Option, Some, None, refl, sym, ap, ◌∙◌, arith, length, take, subst}
-use Rattle.std.specs.Prelude.{◌==◌, ◌&&◌, ◌-◌, nat_lt, if◌then◌else◌, option_map}
+use Rattle.std.proofs.Common.{◌≡◌, ◌<◌, ◌≤◌, ℕ, suc, List, [], ◌∷◌, Bool, true, false, Option, Some, None, refl, sym, ap, ◌∙◌, arith, length, subst}
+use Rattle.std.specs.Prelude.{◌==◌, ◌&&◌, ◌-◌, nat_le, nat_lt, if◌then◌else◌, option_map}
+use Rattle.std.proofs.lemmas.List.{take_all}
 use Rattle.std.proofs.lemmas.Bool.{ne_eqb}
 use Rattle.std.proofs.lemmas.Bool.Decides.{nat_tests}
 use Rattle.feed_embargo.specs.declared.availability.Availability.{Availability}
@@ -9,7 +10,8 @@ use Rattle.feed_answer.specs.declared.grade.Grade.{Grade}
 use Rattle.feed_answer.specs.declared.grade.Grade.TheVariants.{Inside, Overlap, Untested}
 use Rattle.feed_site.specs.Hosts.{is_link}
 use Rattle.feed_resolver_hits.specs.Hits.{ReleaseHitValue, LinkValue, best_link, better, is_available, is_certain, is_full_text, is_inside, link_of, link_text, link_url, link_with, rank_of}
-use Rattle.feed_resolver_hits.specs.Tallies.{link_if_certain, sole_link, tally_of, text_limit, text_size}
+use Rattle.feed_resolver_hits.specs.Looks.{counted, found_in, row_limit}
+use Rattle.feed_resolver_hits.specs.Tallies.{first_within, link_if_certain, shown_limit, sole_link, tally_of, text_limit, text_size}
 use Rattle.feed_resolver_hits.specs.Laws.{IsSoleHit, SoleLinkIsOfSoleHit}
 
 and_left : (a b : Bool) → (a && b) ≡ true → a ≡ true
@@ -52,15 +54,26 @@ shown_one : (room : Bool) (found : ReleaseHitValue) (link : Option (List ℕ)) (
 shown_one true found link url e = chosen (is_certain found) link url e
 shown_one false found link url e = absurd (cc)
 
-sole_one : (found : ReleaseHitValue) (url : List ℕ) → sole_link (tally_of (found ∷ [])) ≡ Some url → IsSoleHit (found ∷ []) url
+-- what is known of the only hit that is counted
+record IsSoleOne (found : ReleaseHitValue) (url : List ℕ) : Type 0 where
+  available : found.availability ≡ Available
+  inside : found.hit.grade ≡ Inside
+  full : is_full_text found.hit.row ≡ true
+  whole : found.is_held_whole ≡ true
+  link : is_link url ≡ true
+  means : url ≡ link_text found
+
+-- the link of these hits, if there is only one
+abbrev sole_of : List ReleaseHitValue → Option (List ℕ)
+sole_of hits = if length hits == 1 then link_if_certain (first_within shown_limit text_limit hits) (best_link hits) else None
+
+sole_one : (found : ReleaseHitValue) (url : List ℕ) → sole_of (found ∷ []) ≡ Some url → IsSoleOne found url
 sole_one found url is =
     let shown = shown_one (nat_lt 0 (text_limit - text_size found)) found (best_link (found ∷ [])) url is in
     let in_full = and_left ((is_available found.availability && is_inside found.hit.grade) && is_full_text found.hit.row) found.is_held_whole shown.0 in
     let covered = and_left (is_available found.availability && is_inside found.hit.grade) (is_full_text found.hit.row) in_full in
     let own = linked (is_link (link_text found)) (rank_of found) (link_text found) url (sym (best_one found) ∙ shown.1) in
     record {
-      found = found;
-      sole = refl;
       available = available found.availability (and_left (is_available found.availability) (is_inside found.hit.grade) covered);
       inside = inside found.hit.grade (and_right (is_available found.availability) (is_inside found.hit.grade) covered);
       full = and_right (is_available found.availability && is_inside found.hit.grade) (is_full_text found.hit.row) in_full;
@@ -70,38 +83,67 @@ sole_one found url is =
     }
 
 -- of several hits none is the sole one
-several : (k : ℕ) (one other : ReleaseHitValue) (more : List ReleaseHitValue) → (length (take (suc (suc k)) (one ∷ other ∷ more)) == 1) ≡ false
-several k one other more = ne_eqb (suc (suc (length (take k more)))) 1 (λ e. omega arith)
+several : (one other : ReleaseHitValue) (more : List ReleaseHitValue) → (length (one ∷ other ∷ more) == 1) ≡ false
+several one other more = ne_eqb (suc (suc (length more))) 1 (λ e. omega arith)
 
-none_of_several : (one other : ReleaseHitValue) (more : List ReleaseHitValue) → sole_link (tally_of (one ∷ other ∷ more)) ≡ None
+none_of_several : (one other : ReleaseHitValue) (more : List ReleaseHitValue) → sole_of (one ∷ other ∷ more) ≡ None
 none_of_several one other more =
-    let tally = tally_of (one ∷ other ∷ more) in
-    ap (λ b. if b then link_if_certain tally.shown tally.best else None) (several 999998 one other more)
+    let hits = one ∷ other ∷ more in
+    ap (λ b. if b then link_if_certain (first_within shown_limit text_limit hits) (best_link hits) else None) (several one other more)
 
-sole_only : (hits : List ReleaseHitValue) (url : List ℕ) → sole_link (tally_of hits) ≡ Some url → IsSoleHit hits url
+sole_only : (hits : List ReleaseHitValue) (url : List ℕ) → sole_of hits ≡ Some url → (found : ReleaseHitValue) × (hits ≡ found ∷ []) × IsSoleOne found url
 sole_only [] url is = absurd (cc)
-sole_only (found ∷ []) url is = sole_one found url is
+sole_only (found ∷ []) url is = (found, refl, sole_one found url is)
 sole_only (one ∷ other ∷ more) url is = let none = none_of_several one other more in absurd (cc)
 
-one_has : (found : ReleaseHitValue) (url : List ℕ) → found.availability ≡ Available → found.hit.grade ≡ Inside → is_full_text found.hit.row ≡ true
-    → found.is_held_whole ≡ true → is_link (link_text found) ≡ true → url ≡ link_text found
-    → text_size found < text_limit → sole_link (tally_of (found ∷ [])) ≡ Some url
-one_has found url opened covers full whole link means small =
+one_has : (found : ReleaseHitValue) (url : List ℕ) → IsSoleOne found url → text_size found < text_limit → sole_of (found ∷ []) ≡ Some url
+one_has found url is small =
     let best = best_link (found ∷ []) in
+    let linked : is_link (link_text found) ≡ true = subst (λ (u : List ℕ). is_link u ≡ true) is.means is.link in
     let room : nat_lt 0 (text_limit - text_size found) ≡ true = grind (arith, nat_tests) in
     ap (λ b. link_if_certain (if b then found ∷ [] else []) best) room
-    ∙ ap (λ (a : Availability). if ((is_available a && is_inside found.hit.grade) && is_full_text found.hit.row) && found.is_held_whole then best else None) opened
-    ∙ ap (λ (g : Grade). if (is_inside g && is_full_text found.hit.row) && found.is_held_whole then best else None) covers
-    ∙ ap (λ b. if b && found.is_held_whole then best else None) full
-    ∙ ap (λ b. if b then best else None) whole
+    ∙ ap (λ (a : Availability). if ((is_available a && is_inside found.hit.grade) && is_full_text found.hit.row) && found.is_held_whole then best else None) is.available
+    ∙ ap (λ (g : Grade). if (is_inside g && is_full_text found.hit.row) && found.is_held_whole then best else None) is.inside
+    ∙ ap (λ b. if b && found.is_held_whole then best else None) is.full
+    ∙ ap (λ b. if b then best else None) is.whole
     ∙ best_one found
-    ∙ ap (λ b. option_map link_url (if b then Some (link_with (rank_of found) (link_text found)) else None)) link
-    ∙ ap Some (sym means)
+    ∙ ap (λ b. option_map link_url (if b then Some (link_with (rank_of found) (link_text found)) else None)) linked
+    ∙ ap Some (sym is.means)
 
-sole_has : (hits : List ReleaseHitValue) (url : List ℕ) (is : IsSoleHit hits url) → text_size is.found < text_limit → sole_link (tally_of hits) ≡ Some url
-sole_has hits url is small =
-    ap (λ (l : List ReleaseHitValue). sole_link (tally_of l)) is.sole
-    ∙ one_has is.found url is.available is.inside is.full is.whole (subst (λ (u : List ℕ). is_link u ≡ true) is.means is.link) is.means small
+-- so few rows that all are looked at
+all_looked : (looks : List (Option ReleaseHitValue)) → length looks ≤ row_limit → counted looks ≡ found_in looks
+all_looked looks few = ap found_in (take_all row_limit looks few)
+
+whole_sole : (whole one : Bool) (link : Option (List ℕ)) (url : List ℕ) → (if whole && one then link else None) ≡ Some url
+    → (whole ≡ true) × ((if one then link else None) ≡ Some url)
+whole_sole true one link url is = (refl, is)
+whole_sole false one link url is = absurd (cc)
+
+sole_from : (looks : List (Option ReleaseHitValue)) (url : List ℕ) → sole_link (tally_of looks) ≡ Some url → IsSoleHit looks url
+sole_from looks url is =
+    let split = whole_sole (nat_le (length looks) row_limit) (length (counted looks) == 1) _ url is in
+    let few : length looks ≤ row_limit = (let test = split.0 in grind (arith, nat_tests, test)) in
+    let own = sole_only (counted looks) url split.1 in
+    record {
+      found = own.0;
+      all = few;
+      sole = sym (all_looked looks few) ∙ own.1;
+      available = own.2.available;
+      inside = own.2.inside;
+      full = own.2.full;
+      whole = own.2.whole;
+      link = own.2.link;
+      means = own.2.means;
+    }
+
+sole_has : (looks : List (Option ReleaseHitValue)) (url : List ℕ) (is : IsSoleHit looks url) → text_size is.found < text_limit → sole_link (tally_of looks) ≡ Some url
+sole_has looks url is small =
+    let few = is.all in
+    let test : nat_le (length looks) row_limit ≡ true = grind (arith, nat_tests, few) in
+    let own : IsSoleOne is.found url = record { available = is.available; inside = is.inside; full = is.full; whole = is.whole; link = is.link; means = is.means } in
+    ap (λ b. if b && (length (counted looks) == 1) then link_if_certain (tally_of looks).shown (tally_of looks).best else None) test
+    ∙ ap sole_of (all_looked looks is.all ∙ is.sole)
+    ∙ one_has is.found url own small
 
 pub sole_is : SoleLinkIsOfSoleHit
-sole_is hits url = (sole_only hits url, sole_has hits url)
+sole_is looks url = (sole_from looks url, sole_has looks url)

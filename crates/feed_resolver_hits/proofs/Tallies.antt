@@ -1,34 +1,40 @@
--- A tally that is made hit by hit is that of the list.
-use Rattle.std.proofs.Common.{◌≡◌, inl, inr, ◌≤◌, ◌-◌, ◌+◌, ℕ, zero, suc, List, [], ◌∷◌, ◌++◌, Bool, true, false, Option, Some, None, refl, sym, ap, ◌∙◌, arith, length, take, min, append_assoc}
+-- A tally that is made row by row is that of the list.
+use Rattle.std.proofs.Common.{◌≡◌, inl, inr, ◌-◌, ◌+◌, ℕ, zero, suc, List, [], ◌∷◌, ◌++◌, Bool, true, false, Option, Some, None, refl, sym, ap, ◌∙◌, arith, length, take, append_assoc}
 use Rattle.std.specs.Prelude.{fold, nat_lt, nat_le, ◌&&◌, ◌==◌, if◌then◌else◌}
-use Rattle.std.proofs.lemmas.List.{append-nil, length-take}
+use Rattle.std.proofs.lemmas.List.{append-nil}
 use Rattle.std.proofs.lemmas.Bool.{ne_eqb}
 use Rattle.std.proofs.lemmas.Bool.Decides.{leb_tells, nat_tests}
 use Rattle.std.specs.Prelude.{option_map}
-use Rattle.feed_resolver_hits.specs.Hits.{ReleaseHitValue, LinkValue, link_of, link_url, better, highest_link, best_link}
+use Rattle.feed_resolver_hits.specs.Hits.{ReleaseHitValue, LinkValue, link_of, link_url, better, highest_link}
 use Rattle.feed_resolver_hits.specs.Ranks.{ranked}
 use Rattle.feed_resolver_hits.proofs.Tops.{top_is, within_first}
-use Rattle.feed_resolver_hits.specs.Tallies.{TallyValue, text_size, first_within, count_limit, shown_limit, text_limit, counted, tally_of}
-use Rattle.feed_resolver_hits.specs.Tallying.{RunningValue, ShownValue, with_shown, with_top, with_link, with_hit, with_hits, no_hits, tally_from}
+use Rattle.feed_resolver_hits.specs.Tallies.{TallyValue, text_size, first_within, shown_limit, text_limit, tally_of}
+use Rattle.feed_resolver_hits.specs.Tallying.{RunningValue, ShownValue, with_shown, with_top, with_link, with_found, with_look, with_looks, no_hits, tally_from}
+use Rattle.feed_resolver_hits.specs.Looks.{counted, found_in, row_limit}
 
 -- a tally that is cut off stays as it is
-pub cut_stays : (running : RunningValue) (hits : List ReleaseHitValue) → running.is_whole ≡ false → with_hits running hits ≡ running
+pub cut_stays : (running : RunningValue) (looks : List (Option ReleaseHitValue)) → running.is_whole ≡ false → with_looks running looks ≡ running
 cut_stays running [] cut = refl
-cut_stays running (found ∷ more) cut =
-    let same : with_hit running found ≡ running = rw cut refl in
-    ap (λ r. with_hits r more) same ∙ cut_stays running more cut
+cut_stays running (look ∷ more) cut =
+    let same : with_look running look ≡ running = rw cut refl in
+    ap (λ r. with_looks r more) same ∙ cut_stays running more cut
 
--- a tally of so many hits more
-abbrev running_of : ℕ → Bool → ShownValue → List ReleaseHitValue → Option LinkValue → RunningValue
-running_of left is_whole shown top link = record { left = left; is_whole = is_whole; shown = shown; top = top; link = link }
+-- a tally of so many rows more
+abbrev running_of : ℕ → Bool → ℕ → ShownValue → List ReleaseHitValue → Option LinkValue → RunningValue
+running_of left is_whole count shown top link = record { left = left; is_whole = is_whole; count = count; shown = shown; top = top; link = link }
 
--- one that is counted
-one_more : (left : ℕ) (shown : ShownValue) (top : List ReleaseHitValue) (link : Option LinkValue) (found : ReleaseHitValue)
-    → with_hit (running_of (suc left) true shown top link) found ≡ running_of left true (with_shown shown found) (with_top top found) (with_link link found)
-one_more left shown top link found =
+-- one that is looked at
+one_look : (left count : ℕ) (shown : ShownValue) (top : List ReleaseHitValue) (link : Option LinkValue) (look : Option ReleaseHitValue)
+    → with_look (running_of (suc left) true count shown top link) look ≡ with_found (running_of (suc left) true count shown top link) look
+one_look left count shown top link look =
     let some : (suc left == 0) ≡ false = ne_eqb (suc left) 0 (λ e. omega arith) in
+    rw some refl
+
+one_less : (left count : ℕ) (shown : ShownValue) (top : List ReleaseHitValue) (link : Option LinkValue)
+    → running_of (suc left - 1) true count shown top link ≡ running_of left true count shown top link
+one_less left count shown top link =
     let less : suc left - 1 ≡ left = omega arith in
-    rw some (ap (λ n. running_of n true (with_shown shown found) (with_top top found) (with_link link found)) less)
+    ap (λ n. running_of n true count shown top link) less
 
 same_test : (a b : ℕ) → nat_le a b ≡ nat_le (suc a) (suc b)
 same_test a b = elim (leb_tells a b) [
@@ -42,27 +48,74 @@ never a = elim (leb_tells (suc a) 0) [ inl (e, le) ↦ absurd (omega arith) | in
 always : (a : ℕ) → nat_le 0 a ≡ true
 always a = elim (leb_tells 0 a) [ inl (e, le) ↦ e | inr (e, less) ↦ absurd (omega arith) ]
 
--- each part is made of the hits that are counted
-pub counted_hits : (left : ℕ) (shown : ShownValue) (top : List ReleaseHitValue) (link : Option LinkValue) (hits : List ReleaseHitValue)
-    → with_hits (running_of left true shown top link) hits
-    ≡ running_of (left - length hits) (nat_le (length hits) left) (fold with_shown shown (take left hits)) (fold with_top top (take left hits)) (fold with_link link (take left hits))
-counted_hits zero shown top link [] = refl
-counted_hits (suc left) shown top link [] =
+-- a tally with the hits of some rows more
+abbrev summed : ℕ → Bool → ℕ → ShownValue → List ReleaseHitValue → Option LinkValue → List ReleaseHitValue → RunningValue
+summed left is_whole count shown top link hits =
+    running_of left is_whole (count + length hits) (fold with_shown shown hits) (fold with_top top hits) (fold with_link link hits)
+
+no_more : (left : ℕ) (is_whole : Bool) (count : ℕ) (shown : ShownValue) (top : List ReleaseHitValue) (link : Option LinkValue)
+    → running_of left is_whole count shown top link ≡ summed left is_whole count shown top link []
+no_more left is_whole count shown top link =
+    let same : count ≡ count + 0 = omega arith in
+    ap (λ n. running_of left is_whole n shown top link) same
+
+-- each part is made of the hits in the rows that are looked at
+pub counted_looks : (left count : ℕ) (shown : ShownValue) (top : List ReleaseHitValue) (link : Option LinkValue) (looks : List (Option ReleaseHitValue))
+    → with_looks (running_of left true count shown top link) looks
+    ≡ summed (left - length looks) (nat_le (length looks) left) count shown top link (found_in (take left looks))
+counted_looks zero count shown top link [] = no_more 0 true count shown top link
+counted_looks (suc left) count shown top link [] =
     let same : suc left ≡ suc left - 0 = omega arith in
-    ap (λ n. running_of n true shown top link) same ∙ ap (λ b. running_of (suc left - 0) b shown top link) (sym (always (suc left)))
-counted_hits zero shown top link (found ∷ more) =
+    no_more (suc left) true count shown top link
+    ∙ ap (λ n. summed n true count shown top link []) same ∙ ap (λ b. summed (suc left - 0) b count shown top link []) (sym (always (suc left)))
+counted_looks zero count shown top link (look ∷ more) =
     let none : 0 ≡ 0 - suc (length more) = omega arith in
-    cut_stays (running_of zero false shown top link) more refl
-    ∙ ap (λ n. running_of n false shown top link) none ∙ ap (λ b. running_of (0 - suc (length more)) b shown top link) (sym (never (length more)))
-counted_hits (suc left) shown top link (found ∷ more) =
+    cut_stays (running_of zero false count shown top link) more refl
+    ∙ no_more 0 false count shown top link
+    ∙ ap (λ n. summed n false count shown top link []) none ∙ ap (λ b. summed (0 - suc (length more)) b count shown top link []) (sym (never (length more)))
+counted_looks (suc left) count shown top link (None ∷ more) =
     let fewer : left - length more ≡ suc left - suc (length more) = omega arith in
-    let also = fold with_shown (with_shown shown found) (take left more) in
-    let high = fold with_top (with_top top found) (take left more) in
-    let known = fold with_link (with_link link found) (take left more) in
-    ap (λ r. with_hits r more) (one_more left shown top link found)
-    ∙ counted_hits left (with_shown shown found) (with_top top found) (with_link link found) more
-    ∙ ap (λ n. running_of n (nat_le (length more) left) also high known) fewer
-    ∙ ap (λ b. running_of (suc left - suc (length more)) b also high known) (same_test (length more) left)
+    ap (λ r. with_looks r more) (one_look left count shown top link None ∙ one_less left count shown top link)
+    ∙ counted_looks left count shown top link more
+    ∙ ap (λ n. summed n (nat_le (length more) left) count shown top link (found_in (take left more))) fewer
+    ∙ ap (λ b. summed (suc left - suc (length more)) b count shown top link (found_in (take left more))) (same_test (length more) left)
+counted_looks (suc left) count shown top link (Some found ∷ more) =
+    let fewer : left - length more ≡ suc left - suc (length more) = omega arith in
+    let hits = found_in (take left more) in
+    let joint : (count + 1) + length hits ≡ count + suc (length hits) = omega arith in
+    let also = fold with_shown (with_shown shown found) hits in
+    let high = fold with_top (with_top top found) hits in
+    let known = fold with_link (with_link link found) hits in
+    ap (λ r. with_looks r more)
+    (one_look left count shown top link (Some found) ∙ one_less left (count + 1) (with_shown shown found) (with_top top found) (with_link link found))
+    ∙ counted_looks left (count + 1) (with_shown shown found) (with_top top found) (with_link link found) more
+    ∙ ap (λ n. running_of n (nat_le (length more) left) ((count + 1) + length hits) also high known) fewer
+    ∙ ap (λ b. running_of (suc left - suc (length more)) b ((count + 1) + length hits) also high known) (same_test (length more) left)
+    ∙ ap (λ n. running_of (suc left - suc (length more)) (nat_le (suc (length more)) (suc left)) n also high known) joint
+
+-- of more rows than are looked at only the first one matters
+front_from : (left count : ℕ) (shown : ShownValue) (top : List ReleaseHitValue) (link : Option LinkValue) (looks : List (Option ReleaseHitValue))
+    → with_looks (running_of left true count shown top link) (take (suc left) looks) ≡ with_looks (running_of left true count shown top link) looks
+front_from left count shown top link [] = refl
+front_from zero count shown top link (look ∷ more) = sym (cut_stays (running_of zero false count shown top link) more refl)
+front_from (suc left) count shown top link (None ∷ more) =
+    let step = one_look left count shown top link None ∙ one_less left count shown top link in
+    ap (λ r. with_looks r (take (suc left) more)) step ∙ front_from left count shown top link more ∙ sym (ap (λ r. with_looks r more) step)
+front_from (suc left) count shown top link (Some found ∷ more) =
+    let step = one_look left count shown top link (Some found) ∙ one_less left (count + 1) (with_shown shown found) (with_top top found) (with_link link found) in
+    ap (λ r. with_looks r (take (suc left) more)) step
+    ∙ front_from left (count + 1) (with_shown shown found) (with_top top found) (with_link link found) more ∙ sym (ap (λ r. with_looks r more) step)
+
+pub front_looks : (running : RunningValue) (looks : List (Option ReleaseHitValue)) → running.is_whole ≡ true
+    → with_looks running (take (running.left + 1) looks) ≡ with_looks running looks
+front_looks running looks whole =
+    let own : running ≡ running_of running.left true running.count running.shown running.top running.link =
+    ap (λ b. running_of running.left b running.count running.shown running.top running.link) whole in
+    let next : running.left + 1 ≡ suc running.left = omega arith in
+    ap (λ n. with_looks running (take n looks)) next
+    ∙ ap (λ r. with_looks r (take (suc running.left) looks)) own
+    ∙ front_from running.left running.count running.shown running.top running.link looks
+    ∙ ap (λ r. with_looks r looks) (sym own)
 
 no_room : (bytes : ℕ) (hits : List ReleaseHitValue) → first_within 0 bytes hits ≡ []
 no_room bytes [] = refl
@@ -114,9 +167,6 @@ link_is (found ∷ more) link = link_is more (with_link link found) ∙ better_a
 abbrev tally_with : ℕ → Bool → List ReleaseHitValue → List ReleaseHitValue → Option (List ℕ) → TallyValue
 tally_with count is_whole shown top best = record { count = count; is_whole = is_whole; shown = shown; top = top; best = best }
 
-count_is : (limit : ℕ) (hits : List ReleaseHitValue) → limit - (limit - length hits) ≡ length (take limit hits)
-count_is limit hits = (omega arith) ∙ sym (length-take limit hits)
-
 -- made of its parts
 parts : (count one : ℕ) (is_whole : Bool) (shown other top high : List ReleaseHitValue) (best link : Option (List ℕ)) → count ≡ one → shown ≡ other → top ≡ high → best ≡ link
     → tally_with count is_whole shown top best ≡ tally_with one is_whole other high link
@@ -127,8 +177,9 @@ parts count one is_whole shown other top high best link first second third fourt
 highest_shown : (hits : List ReleaseHitValue) → first_within shown_limit text_limit (fold with_top [] hits) ≡ first_within shown_limit text_limit (ranked hits)
 highest_shown hits = ap (first_within shown_limit text_limit) (top_is hits) ∙ within_first shown_limit text_limit (ranked hits)
 
-pub tally_is : (hits : List ReleaseHitValue) → tally_from (with_hits no_hits hits) ≡ tally_of hits
-tally_is hits =
-    ap tally_from (counted_hits count_limit no_hits.shown no_hits.top no_hits.link hits)
-    ∙ parts _ _ (nat_le (length hits) count_limit) _ _ _ _ _ _ (count_is count_limit hits) (shown_is (counted hits) no_hits.shown)
-    (highest_shown (counted hits)) (ap (option_map link_url) (link_is (counted hits) None))
+pub tally_is : (looks : List (Option ReleaseHitValue)) → tally_from (with_looks no_hits looks) ≡ tally_of looks
+tally_is looks =
+    let count : 0 + length (counted looks) ≡ length (counted looks) = omega arith in
+    ap tally_from (counted_looks row_limit 0 no_hits.shown no_hits.top no_hits.link looks)
+    ∙ parts _ _ (nat_le (length looks) row_limit) _ _ _ _ _ _ count (shown_is (counted looks) no_hits.shown)
+    (highest_shown (counted looks)) (ap (option_map link_url) (link_is (counted looks) None))

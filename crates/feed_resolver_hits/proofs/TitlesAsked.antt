@@ -1,6 +1,6 @@
 -- The rows that a query without a date and a volume asks for.
-use Rattle.std.proofs.Common.{◌≡◌, Bool, true, false, List, ℕ, refl, ap}
-use Rattle.std.specs.Prelude.{if◌then◌else◌, ◌||◌, Option, Some, None}
+use Rattle.std.proofs.Common.{◌≡◌, refl, ap}
+use Rattle.std.specs.Prelude.{if◌then◌else◌, Option, Some, None}
 use Rattle.feed_kbart.specs.Identifiers.{kind}
 use Rattle.feed_kbart.specs.RowValue.{RowValue}
 use Rattle.feed_kbart.specs.declared.identifiers.Kind.{Kind}

@@ -1,7 +1,12 @@
 -- The hits of the highest ranks, made hit by hit, are the first ones in the order of ranks.
-use Rattle.std.proofs.Common.{◌≡◌, ◌<◌, ◌≤◌, ◌-◌, ◌+◌, ◌*◌, ◌⊎◌, ℕ, zero, suc, List, [], ◌∷◌, ◌++◌, Bool, true, false, refl, sym, ap, ◌∙◌, subst, inl, inr, arith, length, take, append_assoc}
-use Rattle.std.specs.Prelude.{◌==◌, ◌&&◌, ◌↔◌, fold, if◌then◌else◌, insert, nat_lt, reverse}
-use Rattle.std.proofs.lemmas.List.{append-nil, reverse-append}
+use Rattle.std.proofs.Common.{◌≡◌, ◌<◌, ◌≤◌, ◌-◌, ◌+◌, ◌*◌, ◌⊎◌, ℕ, zero, suc, List, [], ◌∷◌, ◌++◌, Bool, true, false}
+use Rattle.std.proofs.Common.{refl, sym, ap, ◌∙◌, subst, inl, inr, arith, drop, get_or, length, take, append_assoc}
+use Rattle.std.specs.Prelude.{◌==◌, ◌&&◌, ◌↔◌, fold, if◌then◌else◌, insert, nat_le, nat_lt, reverse}
+use Rattle.std.specs.List.{AllWithin}
+use Rattle.std.specs.List.Sorted.{IsPartitionPoint, IsPartitionedBy}
+use Rattle.std.proofs.Math.Seq.{take-append_seam}
+use Rattle.std.proofs.lemmas.List.{append-nil, length-take, reverse-append, take-append-drop}
+use Rattle.std.proofs.lemmas.List.Sorted.{IsNonDecreasingBy-insert, IsNonDecreasingBy-take}
 use Rattle.std.proofs.lemmas.List.Edits.{insert-append_right}
 use Rattle.std.proofs.lemmas.List.Elements.{filter-append}
 use Rattle.std.proofs.lemmas.Bool.{cases_lt, eqb-true, ne_eqb}
@@ -16,7 +21,7 @@ use Rattle.feed_resolver_hits.specs.Hits.{ReleaseHitValue, availability_rank, fi
 use Rattle.feed_resolver_hits.specs.Ranks.{IsBetter, IsPreferred, in_rank, below_rank, ranked, rank_limit}
 use Rattle.feed_resolver_hits.specs.Laws.{RanksInOrder}
 use Rattle.feed_resolver_hits.specs.Tallies.{first_within, shown_limit, text_size}
-use Rattle.feed_resolver_hits.specs.Tallying.{skip_below, kept_above, with_top}
+use Rattle.feed_resolver_hits.specs.Tallying.{IsPlaceOf, IsRanked, skip_below, kept_above, with_top}
 
 -- ---- ranks are small
 
@@ -114,27 +119,55 @@ kept rank high low g h =
     ∙ ap reverse (not_skipped rank (reverse high) (above_back rank high g))
     ∙ reverse_twice high
 
--- by the last hit
-kept_last : (rank : ℕ) (front : List ReleaseHitValue) (last : ReleaseHitValue)
-    → kept_above rank (front ++ last ∷ []) ≡ (if nat_lt (rank_of last) rank then kept_above rank front else front ++ last ∷ [])
-kept_last rank front last = ap (λ l. reverse (skip_below rank l)) (reverse-append front (last ∷ [])) ∙ go (nat_lt (rank_of last) rank)
-  where
-    go : (b : Bool) → reverse (if b then skip_below rank (reverse front) else last ∷ reverse front) ≡ (if b then kept_above rank front else front ++ last ∷ [])
-    go true = refl
-    go false = reverse-append (last ∷ []) (reverse front) ∙ ap (λ l. l ++ last ∷ []) (reverse_twice front)
+-- ---- the place of a hit among ranked ones
 
-pub place_before : (rank : ℕ) (hits front : List ReleaseHitValue) (last : ReleaseHitValue) (place : ℕ) → hits ≡ front ++ last ∷ [] → rank_of last < rank
-    → place ≡ length (kept_above rank front) → place ≡ length (kept_above rank hits)
-place_before rank hits front last place same lower is =
-    is ∙ sym (ap (λ l. length (kept_above rank l)) same ∙ ap length (kept_last rank front last)
-    ∙ ap (λ b. length (if b then kept_above rank front else front ++ last ∷ [])) (lt-ltb (rank_of last) rank lower))
+above_first : (rank place : ℕ) (hits : List ReleaseHitValue) → AllWithin (λ f. rank ≤ rank_of f) hits 0 place → place ≤ length hits → AllAbove rank (take place hits)
+above_first rank zero hits all le = tt
+above_first rank (suc place) [] all le = absurd (omega (arith, le))
+above_first rank (suc place) (found ∷ more) all le = (
+  all 0 found (omega arith) (omega arith),
+  above_first rank place more (λ k d low high. all (suc k) d (omega arith) (omega (arith, high))) (omega (arith, le)),
+)
 
-pub place_here : (rank : ℕ) (hits front : List ReleaseHitValue) (last : ReleaseHitValue) → hits ≡ front ++ last ∷ [] → rank ≤ rank_of last → length hits ≡ length (kept_above rank hits)
-place_here rank hits front last same above =
-    let test : nat_lt (rank_of last) rank ≡ false = grind (arith, nat_tests) in
-    ap length same
-    ∙ sym (ap (λ l. length (kept_above rank l)) same ∙ ap length (kept_last rank front last)
-    ∙ ap (λ b. length (if b then kept_above rank front else front ++ last ∷ [])) test)
+below_rest : (rank place : ℕ) (hits : List ReleaseHitValue) → AllWithin (λ f. rank_of f < rank) hits place (length hits) → AllBelow rank (drop place hits)
+below_rest rank zero [] all = tt
+below_rest rank (suc place) [] all = tt
+below_rest rank zero (found ∷ more) all =
+    (all 0 found (omega arith) (omega arith), below_rest rank zero more (λ k d low high. all (suc k) d (omega arith) (omega (arith, high))))
+below_rest rank (suc place) (found ∷ more) all = below_rest rank place more (λ k d low high. all (suc k) d (omega (arith, low)) (omega (arith, high)))
+
+pub place_is : (rank : ℕ) (hits : List ReleaseHitValue) (place : ℕ) → place ≤ length hits → IsPlaceOf rank hits place → place ≡ length (kept_above rank hits)
+place_is rank hits place le split =
+    let front = take place hits in
+    let back = drop place hits in
+    let size : length front ≡ place = omega (arith, length-take place hits, le) in
+    sym (ap (λ l. length (kept_above rank l)) (sym (take-append-drop place hits))
+    ∙ ap length (kept rank front back (above_first rank place hits split.0 le) (below_rest rank place hits split.1)) ∙ size)
+
+pub is_partitioned : (rank : ℕ) (hits : List ReleaseHitValue) → IsRanked hits → IsPartitionedBy (λ f. nat_le rank (rank_of f)) hits
+is_partitioned rank hits up i j d before within passes =
+    let order = up i j d (omega (arith, before)) within in
+    let first = rank_small (get_or hits i d) in
+    let second = rank_small (get_or hits j d) in
+    grind (arith, nat_tests, order, first, second, passes)
+
+pub is_place : (rank : ℕ) (hits : List ReleaseHitValue) (place : ℕ)
+    → IsPartitionPoint (λ f. nat_le rank (rank_of f) ≡ true) (λ f. nat_le rank (rank_of f) ≡ false) hits place → IsPlaceOf rank hits place
+is_place rank hits place split = (
+  (λ k d low high. (let test = split.0 k d low high in grind (arith, nat_tests, test))),
+  (λ k d low high. (let test = split.1 k d low high in grind (arith, nat_tests, test))),
+)
+
+pub stays_ranked : (found : ReleaseHitValue) (hits : List ReleaseHitValue) (place : ℕ) → place ≤ length hits → IsPlaceOf (rank_of found) hits place → IsRanked hits
+    → IsRanked (insert hits place found)
+stays_ranked found hits place le split up =
+    IsNonDecreasingBy-insert (λ f. rank_limit - rank_of f) hits place found up le
+    (λ k d lt. (let above = split.0 k d (omega arith) lt in omega (arith, above)))
+    (λ k d ge lt. (let below = split.1 k d ge lt in omega (arith, below)))
+
+-- a list of the first ones
+pub few_ranked : (n : ℕ) (hits : List ReleaseHitValue) → IsRanked hits → IsRanked (take n hits) × (length (take n hits) ≤ n)
+few_ranked n hits up = (IsNonDecreasingBy-take (λ f. rank_limit - rank_of f) n hits up, (let size = length-take n hits in omega (arith, size)))
 
 -- ---- one hit more in the order of ranks
 
@@ -245,6 +278,16 @@ inserted : (high low : List ReleaseHitValue) (found : ReleaseHitValue) → inser
 inserted high low found =
     let none : length high - length high ≡ 0 = omega arith in
     insert-append_right high low (length high) (length high) found refl (omega arith) ∙ ap (λ k. high ++ insert low k found) none
+
+-- a hit that ranks below a full list is none of the first ones
+pub full : (hits : List ReleaseHitValue) (found : ReleaseHitValue) (place : ℕ) → place ≤ length hits → length hits ≤ shown_limit → shown_limit ≤ place
+    → hits ≡ take shown_limit (insert hits place found)
+full hits found place le most all =
+    let same : place ≡ length hits = omega (arith, le, most, all) in
+    let size : shown_limit ≡ length hits = omega (arith, le, most, all) in
+    sym (ap (λ n. take n (insert hits place found)) size ∙ ap (λ p. take (length hits) (insert hits p found)) same
+    ∙ ap (λ l. take (length hits) (insert l (length hits) found)) (sym (append-nil hits)) ∙ ap (take (length hits)) (inserted hits [] found)
+    ∙ take-append_seam hits (found ∷ []))
 
 -- a hit that is placed among the first ones
 with_more : (high low : List ReleaseHitValue) (found : ReleaseHitValue) → AllAbove (rank_of found) high → AllBelow (rank_of found) low

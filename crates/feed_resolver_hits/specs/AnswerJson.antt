@@ -2,7 +2,7 @@
 -- is covered and whose volume is not.
 use Rattle.std.specs.Prelude.{ℕ, List, [], ◌∷◌, ◌++◌, codes, drop}
 use Rattle.std.specs.List.{flat_map}
-use Rattle.json.specs.Json.{Json, Members, object, array, string, member, no_members}
+use Rattle.json.specs.Json.{Json, Members, object, array, member, no_members}
 use Rattle.json.specs.Value.{items_of}
 use Rattle.feed_openurl.specs.CitationParts.{name_of}
 use Rattle.feed_openurl.specs.Citations.{CitationValue, text_at}

@@ -157,11 +157,12 @@ first_rank is_first = if is_first then 1 else 0
 
 -- the rank of a hit: by whether it is a book that comes first, then by its availability, then by its grade, then by its depth
 -- and access, then by the order of the site
+abbrev pub rank_by : Bool → Availability → Grade → RowValue → ℕ → ℕ
+rank_by is_first availability grade row place =
+    65536 * (36 * first_rank is_first + (9 * availability_rank availability + 3 * grade_rank grade + text_rank row)) + place_rank place
+
 abbrev pub rank_of : ReleaseHitValue → ℕ
-rank_of found =
-    65536 * (36 * first_rank found.is_first
-    + (9 * availability_rank found.availability + 3 * grade_rank found.hit.grade + text_rank found.hit.row))
-    + place_rank found.place
+rank_of found = rank_by found.is_first found.availability found.hit.grade found.hit.row found.place
 
 -- the rank and the link of a hit that may be linked to
 pub record LinkValue : Type 0 where

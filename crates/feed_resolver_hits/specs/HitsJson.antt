@@ -1,5 +1,5 @@
 -- The hits of a query as JSON.
-use Rattle.std.specs.Prelude.{ℕ, ◌==◌, Bool, true, false, if◌then◌else◌, List, [], ◌∷◌, ◌++◌, length, map, codes}
+use Rattle.std.specs.Prelude.{ℕ, Bool, true, false, if◌then◌else◌, List, [], ◌∷◌, ◌++◌, length, map, codes}
 use Rattle.std.specs.Fmt.{decimal}
 use Rattle.json.specs.Json.{Json, object, string, number, Members, member, no_members}
 use Rattle.feed_names.specs.ReleaseName.{Name}
@@ -14,7 +14,7 @@ use Rattle.feed_site.specs.Hosts.{shown_host}
 use Rattle.feed_resolver_hits.specs.Coverages.{day_text, days_words, volume_text, volumes_words}
 use Rattle.feed_resolver_hits.specs.EmbargoWords.{embargo_words}
 use Rattle.feed_resolver_hits.specs.Hits.{ReleaseHitValue, link_text, name_text}
-use Rattle.feed_resolver_hits.specs.Tallies.{TallyValue, left_out}
+use Rattle.feed_resolver_hits.specs.Tallies.{TallyValue, left_out, shows_all}
 
 -- the beginning of an object: the members that identify a release
 unfoldable pub release_members : Name → List ℕ
@@ -86,10 +86,10 @@ more_start false = codes "{\"more_at_least\":"
 unfoldable pub more_object : ℕ → Bool → List ℕ
 more_object n is_whole = joined (more_start is_whole ∷ decimal n ∷ codes "}" ∷ [])
 
--- this object as the last item, if hits are left out
+-- this object as the last item, unless all hits are shown
 abbrev pub more_items : TallyValue → List ℕ
 more_items tally =
-    if left_out tally == 0 then [] else comma_before (length tally.top) ++ more_object (left_out tally) tally.is_whole
+    if shows_all tally then [] else comma_before (length tally.top) ++ more_object (left_out tally) tally.is_whole
 
 -- the hits that are shown, as a JSON list of objects with this end
 unfoldable pub list_json : List ℕ → TallyValue → List ℕ
@@ -142,10 +142,10 @@ abbrev pub more_value : ℕ → Bool → Json
 more_value n true = object (member (codes "more") (number (decimal n)) no_members)
 more_value n false = object (member (codes "more_at_least") (number (decimal n)) no_members)
 
--- the values of the items: the hits that are shown, and the object if hits are left out
+-- the values of the items: the hits that are shown, and the object unless these are all
 abbrev pub values_with : (ReleaseHitValue → Json) → TallyValue → List Json
 values_with value tally =
-    map value tally.top ++ (if left_out tally == 0 then [] else more_value (left_out tally) tally.is_whole ∷ [])
+    map value tally.top ++ (if shows_all tally then [] else more_value (left_out tally) tally.is_whole ∷ [])
 
 abbrev pub item_values : TallyValue → List Json
 item_values tally = values_with hit_value tally

@@ -7,7 +7,7 @@ use Rattle.feed_answer.specs.Answers.{head_line, hit_line}
 use Rattle.feed_resolver_hits.specs.Hits.{ReleaseHitValue}
 use Rattle.feed_resolver_hits.specs.Tallies.{TallyValue}
 
--- the line before the hits of a release if not all of them were counted
+-- the line before the hits of a release if not all rows were looked at
 unfoldable pub cut_head_line : List ℕ → ℕ → List ℕ
 cut_head_line name count = codes "release " ++ (name ++ (codes " hits at least " ++ (decimal count ++ codes "\n")))
 

@@ -1,5 +1,5 @@
 -- The laws of redirects and of hits in JSON.
-use Rattle.std.specs.Prelude.{◌≡◌, ◌↔◌, ◌<◌, ◌^◌, ℕ, List, [], ◌∷◌, Some, true, All}
+use Rattle.std.specs.Prelude.{◌≡◌, ◌↔◌, ◌<◌, ◌≤◌, ◌^◌, ℕ, List, [], ◌∷◌, Option, Some, true, All, length}
 use Rattle.json.specs.Json.{document, array}
 use Rattle.json.specs.Value.{items_of}
 use Rattle.feed_names.specs.ReleaseName.{Name}
@@ -14,12 +14,15 @@ use Rattle.feed_answer.specs.declared.grade.Grade.TheVariants.{Inside}
 use Rattle.feed_resolver_hits.specs.AnswerJson.{answer_json, answer_value}
 use Rattle.feed_resolver_hits.specs.Asks.{AskValue}
 use Rattle.feed_site.specs.Hosts.{is_link}
-use Rattle.feed_resolver_hits.specs.Hits.{ReleaseHitValue, best_link, is_free, is_full_text, link_text, rank_of, release_hit}
+use Rattle.feed_answer.specs.Answers.{answer_of}
+use Rattle.feed_kbart.specs.HoldingsValue.{HoldingsValue}
+use Rattle.feed_resolver_hits.specs.Hits.{ReleaseHitValue, best_link, is_free, is_full_text, library_hits, link_text, rank_of, release_hit}
+use Rattle.feed_resolver_hits.specs.Looks.{found_in, looks_in, row_limit}
 use Rattle.feed_resolver_hits.specs.HitsJson.{hits_json, item_values}
-use Rattle.feed_resolver_hits.specs.Searches.{SearchValue}
+use Rattle.feed_resolver_hits.specs.Searches.{SearchValue, compared}
 use Rattle.feed_resolver_hits.specs.Ranks.{IsBestLink, IsPreferred}
 use Rattle.feed_resolver_hits.specs.Tallies.{TallyValue, sole_link, tally_of, text_limit, text_size}
-use Rattle.feed_resolver_hits.specs.Tallying.{no_hits, with_hits, tally_from}
+use Rattle.feed_resolver_hits.specs.Tallying.{no_hits, with_looks, tally_from}
 
 -- a redirect goes to a URL of `http` or `https` in visible ASCII, within the limit of a link
 abbrev pub RedirectsToLink : Type 0
@@ -46,11 +49,12 @@ BooksComeFirst = (site : site_file.SiteValue) (today : TodayValue) (search : Sea
     → search.is_book_first ≡ true → kind book.row.identifiers ≡ Book → kind serial.row.identifiers ≡ Serial
     → rank_of (release_hit site today search other_name serial) < rank_of (release_hit site today search name book)
 
--- the hits are a single one: all days that are asked for are open, it covers the whole of what is asked for, in full text,
--- the library has all those days, and it may be linked to, by this link
-pub record IsSoleHit (hits : List ReleaseHitValue) (url : List ℕ) : Type 0 where
+-- all rows are looked at, and have a single hit: all days that are asked for are open, it covers the whole of what is asked
+-- for, in full text, the library has all those days, and it may be linked to, by this link
+pub record IsSoleHit (looks : List (Option ReleaseHitValue)) (url : List ℕ) : Type 0 where
   pub found : ReleaseHitValue
-  pub sole : hits ≡ found ∷ []
+  pub all : length looks ≤ row_limit
+  pub sole : found_in looks ≡ found ∷ []
   pub available : found.availability ≡ Available
   pub inside : found.hit.grade ≡ Inside
   pub full : is_full_text found.hit.row ≡ true
@@ -60,13 +64,19 @@ pub record IsSoleHit (hits : List ReleaseHitValue) (url : List ℕ) : Type 0 whe
 
 -- a sole link is that of such a hit; and such a hit has one, if its texts are within the limit of a reply
 abbrev pub SoleLinkIsOfSoleHit : Type 0
-SoleLinkIsOfSoleHit = (hits : List ReleaseHitValue) (url : List ℕ)
-    → (sole_link (tally_of hits) ≡ Some url → IsSoleHit hits url)
-    × ((is : IsSoleHit hits url) → text_size is.found < text_limit → sole_link (tally_of hits) ≡ Some url)
+SoleLinkIsOfSoleHit = (looks : List (Option ReleaseHitValue)) (url : List ℕ)
+    → (sole_link (tally_of looks) ≡ Some url → IsSoleHit looks url)
+    × ((is : IsSoleHit looks url) → text_size is.found < text_limit → sole_link (tally_of looks) ≡ Some url)
 
--- what a tally says after the hits of a list were added one after another
+-- what a tally says after the rows of a list were added one after another
 abbrev pub TallyTellsOfHits : Type 0
-TallyTellsOfHits = (hits : List ReleaseHitValue) → tally_from (with_hits no_hits hits) ≡ tally_of hits
+TallyTellsOfHits = (looks : List (Option ReleaseHitValue)) → tally_from (with_looks no_hits looks) ≡ tally_of looks
+
+-- all rows of a release that have one of a search's identifiers have the hits of the core that are searched for and that the
+-- library has, in their order
+abbrev pub LooksAreOfAnswer : Type 0
+LooksAreOfAnswer = (site : site_file.SiteValue) (today : TodayValue) (search : SearchValue) (name : Name) (holdings : HoldingsValue)
+    → found_in (looks_in site today search name holdings.rows) ≡ library_hits site today search name (answer_of holdings (compared search))
 
 -- the hits in JSON are, by its grammar (RFC 8259), an array with one object for each that is shown, in their order, and
 -- one more if others are left out; numbers fit in 64 bits

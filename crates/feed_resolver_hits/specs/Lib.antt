@@ -1,6 +1,8 @@
 pub mod Hits
 pub mod Ranks
 pub mod Searches
+pub mod Looks
+pub mod Merging
 pub mod Tallies
 pub mod Tallying
 pub mod EmbargoWords

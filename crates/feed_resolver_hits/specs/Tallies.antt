@@ -1,12 +1,9 @@
 -- The hits of a query that a reply counts, shows and chooses from.
-use Rattle.std.specs.Prelude.{ℕ, ◌+◌, ◌-◌, ◌==◌, ◌&&◌, nat_lt, nat_le, Bool, if◌then◌else◌, List, [], ◌∷◌, length, take, Option, None}
+use Rattle.std.specs.Prelude.{ℕ, ◌+◌, ◌-◌, ◌==◌, ◌&&◌, nat_lt, nat_le, Bool, if◌then◌else◌, List, [], ◌∷◌, length, Option, None}
 use Rattle.feed_site.specs.Proxies.{room_of}
 use Rattle.feed_resolver_hits.specs.Hits.{ReleaseHitValue, name_text, best_link, is_certain}
+use Rattle.feed_resolver_hits.specs.Looks.{counted, row_limit}
 use Rattle.feed_resolver_hits.specs.Ranks.{ranked}
-
--- the most hits of a query that are counted
-abbrev pub count_limit : ℕ
-count_limit = 1000000
 
 -- the most hits that a reply shows
 abbrev pub shown_limit : ℕ
@@ -30,10 +27,6 @@ first_within places bytes (found ∷ more) =
     then found ∷ first_within (places - 1) (bytes - text_size found) more
     else []
 
--- the hits that are counted
-abbrev pub counted : List ReleaseHitValue → List ReleaseHitValue
-counted hits = take count_limit hits
-
 -- what a reply needs to know of the hits of a query: text shows the first ones, JSON and a page those of the highest ranks
 pub record TallyValue : Type 0 where
   pub count : ℕ
@@ -42,15 +35,15 @@ pub record TallyValue : Type 0 where
   pub top : List ReleaseHitValue
   pub best : Option (List ℕ)
 
--- the tally of hits: how many are counted, whether all are, the first ones, those of the highest ranks, and the best link
--- among those counted
-abbrev pub tally_of : List ReleaseHitValue → TallyValue
-tally_of hits = record {
-  count = length (counted hits);
-  is_whole = nat_le (length hits) count_limit;
-  shown = first_within shown_limit text_limit (counted hits);
-  top = first_within shown_limit text_limit (ranked (counted hits));
-  best = best_link (counted hits);
+-- the tally of what a search finds in the rows that have one of its identifiers: how many hits are in those that are looked
+-- at, whether all rows are, the first hits, those of the highest ranks, and the best link among them
+abbrev pub tally_of : List (Option ReleaseHitValue) → TallyValue
+tally_of looks = record {
+  count = length (counted looks);
+  is_whole = nat_le (length looks) row_limit;
+  shown = first_within shown_limit text_limit (counted looks);
+  top = first_within shown_limit text_limit (ranked (counted looks));
+  best = best_link (counted looks);
 }
 
 -- a link, if a reader may be sent to the first of some hits without a choice
@@ -58,10 +51,14 @@ abbrev pub link_if_certain : List ReleaseHitValue → Option (List ℕ) → Opti
 link_if_certain [] link = None
 link_if_certain (found ∷ more) link = if is_certain found then link else None
 
--- the link of the sole hit, if there is only one and a reader may be sent there without a choice
+-- the link of the sole hit, if all rows are looked at, there is only one and a reader may be sent there without a choice
 abbrev pub sole_link : TallyValue → Option (List ℕ)
-sole_link tally = if tally.count == 1 then link_if_certain tally.shown tally.best else None
+sole_link tally = if tally.is_whole && (tally.count == 1) then link_if_certain tally.shown tally.best else None
 
 -- how many of the counted hits JSON and a page do not show
 abbrev pub left_out : TallyValue → ℕ
 left_out tally = tally.count - length tally.top
+
+-- JSON and a page show all hits
+abbrev pub shows_all : TallyValue → Bool
+shows_all tally = tally.is_whole && (left_out tally == 0)

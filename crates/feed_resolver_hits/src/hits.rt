@@ -7,11 +7,11 @@ ghost use Rattle.feed_site.specs.Packages.{package_place};
 ghost use Rattle.feed_kbart.specs.Identifiers.{kind};
 ghost use Rattle.feed_resolver_hits.specs.Hits.{days_asked, holds_day, holds_days, is_certain, is_found, is_held};
 ghost use Rattle.feed_resolver_hits.specs.Hits.{is_held_dated, link_text};
-ghost use Rattle.feed_resolver_hits.specs.Hits.{name_text, release_hit};
+ghost use Rattle.feed_resolver_hits.specs.Hits.{name_text, rank_of, release_hit};
 ghost use Rattle.feed_resolver_hits.specs.Searches.{whole_titles};
 
 use crate::coverage_grade::is_dated;
-use crate::rank::{is_free, is_full_text};
+use crate::rank::{is_free, is_full_text, rank_by};
 use crate::search::{Scope, Search};
 use feed_answer::{Grade, Hit, Query};
 use feed_dates::DayRange;
@@ -36,11 +36,13 @@ pub struct ReleaseHit<'a> {
     place: usize,
     is_held_whole: bool,
     is_first: bool,
+    // Computed once, since it is compared with those of many other hits.
+    rank: u32,
 }
 
 impl<'a> Model for ReleaseHit<'a> {
-    ghost use Rattle.std.specs.Prelude.{option_copied};
-    ghost use Rattle.feed_resolver_hits.specs.Hits.{ReleaseHitValue};
+    ghost use Rattle.std.specs.Prelude.{◌≡◌, option_copied};
+    ghost use Rattle.feed_resolver_hits.specs.Hits.{ReleaseHitValue, rank_by};
 
     ghost Value = { ReleaseHitValue };
 
@@ -53,6 +55,8 @@ impl<'a> Model for ReleaseHit<'a> {
       is_held_whole = f.is_held_whole;
       is_first = f.is_first;
     } };
+
+    ghost invariant = { λ f. f.rank ≡ rank_by f.is_first f.availability f.grade f.row.now f.place };
 }
 
 impl<'a> ReleaseHit<'a> {
@@ -70,15 +74,18 @@ impl<'a> ReleaseHit<'a> {
     {
         let row = hit.row;
         let (first, last) = (row.first_day(), row.last_day());
+        let availability = availability_of(today, row.embargo(), first, last, search.days());
+        let is_first = search.is_first(row.kind());
         ReleaseHit {
             name,
             row,
             grade: hit.grade,
-            availability: availability_of(today, row.embargo(), first, last, search.days()),
+            availability,
             prefix: prefix_for(site, row.url(), is_free(row)),
             place: site_place,
             is_held_whole: holds_days(site, name, row, days_asked(row.kind(), search.days())),
-            is_first: search.is_first(row.kind()),
+            is_first,
+            rank: rank_by(is_first, availability, hit.grade, row, site_place),
         }
     }
 
@@ -95,6 +102,7 @@ impl<'a> ReleaseHit<'a> {
             place: self.place,
             is_held_whole: self.is_held_whole,
             is_first: self.is_first,
+            rank: self.rank,
         }
     }
 
@@ -112,18 +120,11 @@ impl<'a> ReleaseHit<'a> {
         self.prefix
     }
 
-    /// Returns the place of the package in the order of the site.
-    pub(crate) fn place(&self) -> usize
-        ensures { result ≡ self.now.place }
+    /// Returns the rank of the hit.
+    pub(crate) fn rank(&self) -> u32
+        ensures { result ≡ rank_of self.now }
     {
-        self.place
-    }
-
-    /// Returns whether the hit is a book that comes before its series.
-    pub(crate) fn is_first(&self) -> bool
-        ensures { result ≡ self.now.is_first }
-    {
-        self.is_first
+        self.rank
     }
 
     /// Returns the name of the release.

@@ -240,12 +240,11 @@ fn put_more_object(out: &mut Vec<u8>, left_out: u64, is_whole: bool) -> Result<(
 fn put_more(out: &mut Vec<u8>, tally: &Tally<'_>) -> Result<(), AllocError>
     ensures { OnOk result (out.new.items ≡ out.old.items ++ more_items (tally_from tally.now)) }
 {
-    let left_out = tally.left_out();
-    if left_out == 0 {
+    if tally.shows_all() {
         return Ok(());
     }
     put_comma(out, tally.top().len())?;
-    put_more_object(out, left_out as u64, tally.is_whole())
+    put_more_object(out, tally.left_out() as u64, tally.is_whole())
 }
 
 // Writes the hits that a tally shows as a list of objects with this end. If others are left out, the last item says how

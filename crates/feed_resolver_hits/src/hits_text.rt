@@ -2,11 +2,9 @@
 ghost use Rattle.std.specs.Prelude.{◌≡◌, ◌++◌, OnOk, drop, true};
 ghost use Rattle.std.specs.List.{flat_map};
 ghost use Rattle.feed_names.specs.ReleaseName.{text_of};
-ghost use Rattle.feed_answer.specs.Answers.{answer_of};
-ghost use Rattle.feed_resolver_hits.specs.Hits.{library_hits};
 ghost use Rattle.feed_resolver_hits.specs.HitsText.{cut_head_line, release_head_line, release_hit_line, release_text};
-ghost use Rattle.feed_resolver_hits.specs.Searches.{compared};
-ghost use Rattle.feed_resolver_hits.specs.Tallying.{with_hits, tally_from};
+ghost use Rattle.feed_resolver_hits.specs.Looks.{looks_in};
+ghost use Rattle.feed_resolver_hits.specs.Tallying.{tally_from, with_looks};
 
 use crate::hits::ReleaseHit;
 use crate::lookup::Lookup;
@@ -99,8 +97,7 @@ pub fn put_release<'a>(
     lookup: &Lookup,
 ) -> Result<(), AllocError>
     ensures tally { OnOk result (tally.new
-        ≡ with_hits tally.old (library_hits site.now today.now lookup.now name.now
-        (answer_of holdings.now (compared lookup.now)))) }
+        ≡ with_looks tally.old (looks_in site.now today.now lookup.now name.now holdings.now.rows)) }
     ensures text { OnOk result (out.new.items
         ≡ out.old.items ++ release_text (tally_from tally.old) (tally_from tally.new) name.now) }
 {

@@ -1,5 +1,6 @@
 //! Laws of hits, each stated as the contract of a function with an empty body.
 ghost use Rattle.feed_resolver_hits.specs.Laws.{AnswerIsJson, BestLinkRanksHighest, BooksComeFirst, HitsAreJson};
+ghost use Rattle.feed_resolver_hits.specs.Laws.{LooksAreOfAnswer};
 ghost use Rattle.feed_resolver_hits.specs.Laws.{LinksAreProxied, RanksInOrder, RedirectsToLink, SoleLinkIsOfSoleHit};
 ghost use Rattle.feed_resolver_hits.specs.Laws.{TallyTellsOfHits};
 
@@ -31,16 +32,22 @@ pub fn books_come_first()
     ensures { BooksComeFirst }
 {}
 
-/// A sole link is that of the only hit, which is available and covers the whole of what is asked for, in full text, and
-/// all of whose days that are asked for the library has; and such a hit has one.
+/// A sole link is that of the only hit in all rows, which is available and covers the whole of what is asked for, in
+/// full text, and all of whose days that are asked for the library has; and such a hit has one.
 pub fn sole_link_is_of_sole_hit()
     ensures { SoleLinkIsOfSoleHit }
 {}
 
-/// A tally that is made hit by hit says how many hits there are, up to 1,000,000, the first ones, those of the highest
-/// ranks, and the best link.
+/// A tally that is made row by row says how many hits there are in the rows that are looked at, the first ones, those
+/// of the highest ranks, and the best link.
 pub fn tally_tells_of_hits()
     ensures { TallyTellsOfHits }
+{}
+
+/// All rows of a release that have one of a search's identifiers have the hits of the core that are searched for and
+/// that the library has, in their order.
+pub fn looks_are_of_answer()
+    ensures { LooksAreOfAnswer }
 {}
 
 /// The hits in JSON are, by its grammar (RFC 8259), an array with one object for each hit that is shown, in their

@@ -3,7 +3,6 @@ ghost use Rattle.std.specs.Prelude.{◌≡◌, None, OnOk, option_copied, option
 ghost use Rattle.feed_resolver_hits.specs.Tallying.{with_link};
 
 use crate::hits::ReleaseHit;
-use crate::rank::rank_of;
 use feed_site::is_link;
 use std::alloc::{AllocError, Global};
 use std::marker::Model;
@@ -41,7 +40,7 @@ impl Links {
     pub(crate) fn add(&mut self, alloc: Global, found: &ReleaseHit<'_>) -> Result<(), AllocError>
         ensures { OnOk result (self.new ≡ with_link self.old found.now) }
     {
-        let rank = rank_of(found);
+        let rank = found.rank();
         if self.link.is_some() && self.rank >= rank {
             return Ok(());
         }

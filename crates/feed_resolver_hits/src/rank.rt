@@ -1,9 +1,8 @@
 //! The rank of a hit among those of a query.
 ghost use Rattle.std.specs.Prelude.{◌≡◌, ◌<◌};
 ghost use Rattle.feed_resolver_hits.specs.Hits.{availability_rank, grade_rank, is_free, is_full_text, is_word};
-ghost use Rattle.feed_resolver_hits.specs.Hits.{first_rank, place_rank, rank_of, text_rank};
+ghost use Rattle.feed_resolver_hits.specs.Hits.{first_rank, place_rank, rank_by, text_rank};
 
-use crate::hits::ReleaseHit;
 use feed_answer::Grade;
 use feed_embargo::Availability;
 use feed_identifiers::trim_spaces;
@@ -84,11 +83,15 @@ fn first_rank(is_first: bool) -> u32
 
 /// Returns the rank of a hit: by whether it is a book that comes before its series, then by its availability, then by
 /// its grade, then by its depth and access, then by the place of its package in the order of the site.
-pub(crate) fn rank_of(found: &ReleaseHit<'_>) -> u32
-    ensures { result ≡ rank_of found.now }
+pub(crate) fn rank_by(
+    is_first: bool,
+    availability: Availability,
+    grade: Grade,
+    row: &Row,
+    place: usize,
+) -> u32
+    ensures { result ≡ rank_by is_first availability grade row.now place }
 {
-    let quality = 9 * availability_rank(found.availability())
-        + 3 * grade_rank(found.grade())
-        + text_rank(found.row());
-    65_536 * (36 * first_rank(found.is_first()) + quality) + place_rank(found.place())
+    let quality = 9 * availability_rank(availability) + 3 * grade_rank(grade) + text_rank(row);
+    65_536 * (36 * first_rank(is_first) + quality) + place_rank(place)
 }

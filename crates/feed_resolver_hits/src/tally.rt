@@ -1,22 +1,19 @@
 //! The tally of a query's hits: how many there are, the first ones, those of the highest ranks, and the best link.
-//! It is made hit by hit.
-ghost use Rattle.std.specs.Prelude.{◌≡◌, ◌-◌, ◌∷◌, [], OnOk, length, option_copied};
-ghost use Rattle.std.specs.List.{filter_map};
-ghost use Rattle.feed_answer.specs.Answers.{answer_of};
-ghost use Rattle.feed_answer.specs.HitValue.{hit_of};
+//! It is made row by row.
+ghost use Rattle.std.specs.Prelude.{◌≡◌, [], OnOk, option_copied};
 ghost use Rattle.feed_answer.specs.Places.{hit_at};
 ghost use Rattle.feed_site.specs.Packages.{package_place};
-ghost use Rattle.feed_resolver_hits.specs.Hits.{library_hits};
+ghost use Rattle.feed_resolver_hits.specs.Looks.{hit_found, looks_in};
 ghost use Rattle.feed_resolver_hits.specs.Searches.{compared};
-ghost use Rattle.feed_resolver_hits.specs.Tallies.{left_out, sole_link};
-ghost use Rattle.feed_resolver_hits.specs.Tallying.{no_hits, with_hit, with_hits, tally_from};
+ghost use Rattle.feed_resolver_hits.specs.Tallies.{left_out, shows_all, sole_link};
+ghost use Rattle.feed_resolver_hits.specs.Tallying.{looks_at, no_hits, tally_from, with_look, with_looks};
 
 use crate::hits::{ReleaseHit, is_found};
 use crate::links::Links;
+use crate::row_places::first_places;
 use crate::search::Search;
 use crate::shown::Shown;
 use crate::top::Top;
-use feed_answer::places_of;
 use feed_embargo::Today;
 use feed_kbart::{Holdings, Row};
 use feed_names::ReleaseName;
@@ -24,21 +21,24 @@ use feed_site::{SiteFile, package_place};
 use std::alloc::{AllocError, Global};
 use std::marker::Model;
 
-// The most hits of a query that are counted.
-const COUNT_LIMIT: usize = 1_000_000;
+// The most rows that are looked at for a query, in all releases together. That many hits take some 20 ms.
+const ROW_LIMIT: usize = 20_000;
 
 /// The tally of the hits of a query so far.
 #[derive(Drop)]
 pub struct Tally<'a> {
-    // How many more hits are counted.
+    // How many more rows are looked at.
     left: usize,
     is_whole: bool,
+    count: usize,
     shown: Shown<'a>,
     top: Top<'a>,
     links: Links,
 }
 
 impl<'a> Model for Tally<'a> {
+    ghost use Rattle.std.specs.Prelude.{◌+◌, ◌≤◌};
+    ghost use Rattle.feed_resolver_hits.specs.Looks.{row_limit};
     ghost use Rattle.feed_resolver_hits.specs.Tallying.{RunningValue};
 
     ghost Value = { RunningValue };
@@ -46,10 +46,38 @@ impl<'a> Model for Tally<'a> {
     ghost view = { λ t. record {
       left = t.left;
       is_whole = t.is_whole;
+      count = t.count;
       shown = t.shown;
       top = t.top;
       link = t.links;
     } };
+
+    ghost invariant = { λ t. t.count + t.left ≤ row_limit };
+}
+
+// Returns what a search finds in the row at a place.
+fn hit_found<'a>(
+    site: &'a SiteFile,
+    today: &Today,
+    name: &'a ReleaseName,
+    site_place: usize,
+    rows: &'a [Row],
+    place: u32,
+    search: &Search<'_>,
+) -> Option<ReleaseHit<'a>>
+    requires { site_place ≡ package_place site.now name.now.stem }
+    ensures { result ≡ hit_found site.now today.now search.now name.now (hit_at (compared search.now) rows.now place) }
+{
+    match search.hit_at(rows, place) {
+        Some(hit) => {
+            if is_found(site, search, name, &hit) {
+                Some(ReleaseHit::new(site, today, search, name, site_place, &hit))
+            } else {
+                None
+            }
+        }
+        None => None,
+    }
 }
 
 impl<'a> Tally<'a> {
@@ -58,22 +86,23 @@ impl<'a> Tally<'a> {
         ensures { result ≡ no_hits }
     {
         Tally {
-            left: COUNT_LIMIT,
+            left: ROW_LIMIT,
             is_whole: true,
+            count: 0,
             shown: Shown::new(alloc),
             top: Top::new(alloc),
             links: Links::new(),
         }
     }
 
-    /// Returns the number of hits that were counted, at most 1,000,000.
+    /// Returns the number of hits in the rows that were looked at.
     pub fn count(&self) -> usize
         ensures { result ≡ (tally_from self.now).count }
     {
-        COUNT_LIMIT.saturating_sub(self.left)
+        self.count
     }
 
-    /// Returns whether these are all hits.
+    /// Returns whether all rows were looked at, so that these are all hits.
     pub fn is_whole(&self) -> bool
         ensures { result ≡ (tally_from self.now).is_whole }
     {
@@ -101,6 +130,13 @@ impl<'a> Tally<'a> {
         self.count().saturating_sub(self.top().len())
     }
 
+    /// Returns whether a reply in JSON and a page show all hits.
+    pub fn shows_all(&self) -> bool
+        ensures { result ≡ shows_all (tally_from self.now) }
+    {
+        self.is_whole && self.left_out() == 0
+    }
+
     /// Returns the link of the hit with the highest rank that has one; of equals the first.
     pub fn best_link(&self) -> Option<&[u8]>
         ensures { option_copied result ≡ (tally_from self.now).best }
@@ -108,12 +144,12 @@ impl<'a> Tally<'a> {
         self.links.best()
     }
 
-    /// Returns the link of the sole hit, if there is only one, a reader may be sent there without a choice, and it has
-    /// a link.
+    /// Returns the link of the sole hit, if all rows were looked at, there is only one, a reader may be sent there
+    /// without a choice, and it has a link.
     pub fn sole_link(&self) -> Option<&[u8]>
         ensures { option_copied result ≡ sole_link (tally_from self.now) }
     {
-        if self.count() != 1 {
+        if !self.is_whole || self.count != 1 {
             return None;
         }
         let (found, _) = self.shown().split_first()?;
@@ -124,23 +160,8 @@ impl<'a> Tally<'a> {
         }
     }
 
-    fn count_hit(&mut self, alloc: Global, found: ReleaseHit<'a>) -> Result<(), AllocError>
-        ensures { OnOk result (self.new ≡ with_hit self.old found.entry) }
-    {
-        if !self.is_whole {
-            return Ok(());
-        }
-        if self.left == 0 {
-            self.is_whole = false;
-            return Ok(());
-        }
-        self.left -= 1;
-        self.links.add(alloc, &found)?;
-        self.shown.add(found.again())?;
-        self.top.add(found)
-    }
-
-    fn add_hit_at(
+    // Looks at the row at a place, unless no more rows are looked at.
+    fn look_at(
         &mut self,
         alloc: Global,
         site: &'a SiteFile,
@@ -153,23 +174,29 @@ impl<'a> Tally<'a> {
     ) -> Result<(), AllocError>
         requires { site_place ≡ package_place site.now name.now.stem }
         ensures { OnOk result (self.new
-            ≡ with_hits self.old (library_hits site.now today.now search.now name.now
-            (filter_map (hit_at (compared search.now) rows.now) (place ∷ [])))) }
+            ≡ with_look self.old (hit_found site.now today.now search.now name.now
+            (hit_at (compared search.now) rows.now place))) }
     {
-        match search.hit_at(rows, place) {
-            Some(hit) => {
-                if is_found(site, search, name, &hit) {
-                    let found = ReleaseHit::new(site, today, search, name, site_place, &hit);
-                    self.count_hit(alloc, found)
-                } else {
-                    Ok(())
-                }
+        if !self.is_whole {
+            return Ok(());
+        }
+        if self.left == 0 {
+            self.is_whole = false;
+            return Ok(());
+        }
+        self.left -= 1;
+        match hit_found(site, today, name, site_place, rows, place, search) {
+            Some(found) => {
+                self.count += 1;
+                self.links.add(alloc, &found)?;
+                self.shown.add(found.again())?;
+                self.top.add(found)
             }
             None => Ok(()),
         }
     }
 
-    fn add_hits_at(
+    fn look_at_each(
         &mut self,
         alloc: Global,
         site: &'a SiteFile,
@@ -182,20 +209,16 @@ impl<'a> Tally<'a> {
     ) -> Result<(), AllocError>
         requires { site_place ≡ package_place site.now name.now.stem }
         ensures { OnOk result (self.new
-            ≡ with_hits self.old (library_hits site.now today.now search.now name.now
-            (filter_map (hit_at (compared search.now) rows.now) places.now))) }
+            ≡ with_looks self.old (looks_at site.now today.now search.now name.now rows.now places.now)) }
     {
         for place in places {
-            if !self.is_whole {
-                return Ok(());
-            }
-            self.add_hit_at(alloc, site, today, name, site_place, rows, *place, search)?;
+            self.look_at(alloc, site, today, name, site_place, rows, *place, search)?;
         }
         Ok(())
     }
 
-    /// Adds the hits of a search in a release that the library has. Looks at each row that has one of its identifiers,
-    /// in file order, until more hits are found than are counted.
+    /// Looks at the rows of a release that have one of the identifiers of a search, in file order, and adds the hits
+    /// that the library has. Stops at the row behind the last one that is looked at.
     pub fn add_release(
         &mut self,
         alloc: Global,
@@ -206,12 +229,14 @@ impl<'a> Tally<'a> {
         search: &Search<'_>,
     ) -> Result<(), AllocError>
         ensures { OnOk result (self.new
-            ≡ with_hits self.old (library_hits site.now today.now search.now name.now
-            (answer_of holdings.now (compared search.now)))) }
+            ≡ with_looks self.old (looks_in site.now today.now search.now name.now holdings.now.rows)) }
     {
+        if !self.is_whole {
+            return Ok(());
+        }
         let site_place = package_place(site, name.package());
-        let found = places_of(alloc, holdings, search.query())?;
+        let found = first_places(alloc, holdings, search.query(), self.left + 1)?;
         let (rows, places) = (holdings.rows(), found.as_slice());
-        self.add_hits_at(alloc, site, today, name, site_place, rows, places, search)
+        self.look_at_each(alloc, site, today, name, site_place, rows, places, search)
     }
 }

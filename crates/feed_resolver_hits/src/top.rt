@@ -1,10 +1,9 @@
 //! The hits of the highest ranks.
 ghost use Rattle.std.specs.Prelude.{◌≡◌, ◌≤◌, [], OnOk, length};
 ghost use Rattle.feed_resolver_hits.specs.Tallies.{first_within, shown_limit, text_limit};
-ghost use Rattle.feed_resolver_hits.specs.Tallying.{kept_above, with_top};
+ghost use Rattle.feed_resolver_hits.specs.Tallying.{IsPlaceOf, IsRanked, kept_above, with_top};
 
 use crate::hits::ReleaseHit;
-use crate::rank::rank_of;
 use crate::shown::{SHOWN_LIMIT, first_within};
 use std::alloc::{AllocError, Global};
 use std::marker::Model;
@@ -16,29 +15,26 @@ pub(crate) struct Top<'a> {
 }
 
 impl<'a> Model for Top<'a> {
-    ghost use Rattle.std.specs.Prelude.{List};
+    ghost use Rattle.std.specs.Prelude.{◌≤◌, List, length};
     ghost use Rattle.feed_resolver_hits.specs.Hits.{ReleaseHitValue};
+    ghost use Rattle.feed_resolver_hits.specs.Tallies.{shown_limit};
+    ghost use Rattle.feed_resolver_hits.specs.Tallying.{IsRanked};
 
     ghost Value = { List ReleaseHitValue };
 
     ghost view = { λ t. t.hits.items };
+
+    ghost invariant = { λ t. IsRanked t.hits.items × (length t.hits.items ≤ shown_limit) };
 }
 
 // The place behind the last hit that does not rank below a rank.
 fn place_of(hits: &[ReleaseHit<'_>], rank: u32) -> usize
+    requires { IsRanked hits.now }
+    ensures split { IsPlaceOf rank hits.now result }
     ensures value { result ≡ length (kept_above rank hits.now) }
     ensures bound { result ≤ length hits.now }
 {
-    match hits.split_last() {
-        Some((last, front)) => {
-            if rank_of(last) < rank {
-                place_of(front, rank)
-            } else {
-                hits.len()
-            }
-        }
-        None => 0,
-    }
+    hits.partition_point(|found| found.rank() >= rank)
 }
 
 impl<'a> Top<'a> {
@@ -61,7 +57,10 @@ impl<'a> Top<'a> {
     pub(crate) fn add(&mut self, found: ReleaseHit<'a>) -> Result<(), AllocError>
         ensures { OnOk result (self.new ≡ with_top self.old found.entry) }
     {
-        let place = place_of(&self.hits, rank_of(&found));
+        let place = place_of(&self.hits, found.rank());
+        if place >= SHOWN_LIMIT {
+            return Ok(());
+        }
         self.hits.insert(place, found)?;
         self.hits.truncate(SHOWN_LIMIT);
         Ok(())

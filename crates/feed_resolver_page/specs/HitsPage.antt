@@ -9,7 +9,7 @@ use Rattle.feed_resolver_reply.specs.Escapes.{escaped}
 use Rattle.feed_resolver_reply.specs.Pieces.{joined}
 use Rattle.feed_resolver_hits.specs.Asks.{AskValue}
 use Rattle.feed_resolver_hits.specs.Hits.{ReleaseHitValue}
-use Rattle.feed_resolver_hits.specs.Tallies.{TallyValue, left_out}
+use Rattle.feed_resolver_hits.specs.Tallies.{TallyValue, left_out, shows_all}
 use Rattle.feed_resolver_page.specs.Cards.{card}
 use Rattle.feed_openurl.specs.Citations.{text_at}
 use Rattle.feed_openurl.specs.declared.part.Part.TheVariants as part
@@ -51,30 +51,38 @@ more_text site n is_whole = joined (
     codes "<p>" ∷ escaped (text_of site (least is_whole)) ∷ codes " " ∷ decimal n ∷ codes ". "
     ∷ escaped (text_of site text.NotShownHint) ∷ codes "</p>\n" ∷ [])
 
--- the same, if any are
+-- the same, unless all hits are shown
 abbrev pub more_part : site_file.SiteValue → TallyValue → List ℕ
-more_part site tally = if left_out tally == 0 then [] else more_text site (left_out tally) tally.is_whole
+more_part site tally = if shows_all tally then [] else more_text site (left_out tally) tally.is_whole
 
 -- a statement about what was found
 unfoldable pub paragraph : site_file.SiteValue → Text → List ℕ
 paragraph site name = joined (codes "<p class=\"note\">" ∷ escaped (text_of site name) ∷ codes "</p>\n" ∷ [])
 
+-- all rows are looked at, and none is a hit
+abbrev pub has_no_hits : TallyValue → Bool
+has_no_hits tally = tally.is_whole && (tally.count == 0)
+
 -- that the library has the titles for another date or volume alone
-abbrev pub held_part : site_file.SiteValue → ℕ → List ℕ
-held_part site count = if count == 0 then paragraph site text.HeldOther else []
+abbrev pub held_part : site_file.SiteValue → TallyValue → List ℕ
+held_part site tally = if has_no_hits tally then paragraph site text.HeldOther else []
 
 unfoldable pub cards_part : site_file.SiteValue → List ℕ → TallyValue → TallyValue → TallyValue → List ℕ
 cards_part site cited tally also others =
-    held_part site tally.count ++ (cards site cited tally.top also.top others.top ++ more_part site tally)
+    held_part site tally ++ (cards site cited tally.top also.top others.top ++ more_part site tally)
 
 -- no card is shown
 abbrev pub is_none : TallyValue → TallyValue → TallyValue → Bool
 is_none tally also others = (tally.count == 0) && ((also.count == 0) && (others.count == 0))
 
+-- that no holdings match, or that more rows may
+abbrev pub none_part : site_file.SiteValue → TallyValue → List ℕ
+none_part site tally = if tally.is_whole then paragraph site text.NoHoldings else more_part site tally
+
 -- the cards, or that there are none
 abbrev pub found_part : site_file.SiteValue → List ℕ → TallyValue → TallyValue → TallyValue → List ℕ
 found_part site cited tally also others =
-    if is_none tally also others then paragraph site text.NoHoldings else cards_part site cited tally also others
+    if is_none tally also others then none_part site tally else cards_part site cited tally also others
 
 -- the citation of the query, and what was found
 unfoldable pub answer_part : site_file.SiteValue → List (List ℕ × List ℕ) → AskValue → TallyValue → TallyValue → TallyValue → List ℕ
@@ -123,14 +131,14 @@ page_foot site = help_part site ++ page_end
 unfoldable pub page_bottom : site_file.SiteValue → List (List ℕ × List ℕ) → AskValue → List ℕ
 page_bottom site pairs ask = request_part site ask pairs ++ (search_part site pairs ++ page_foot site)
 
--- the heading, by the number of hits
-abbrev pub page_name : ℕ → Text
-page_name count = if count == 0 then text.NoFullText else text.FullText
+-- the heading, by the hits
+abbrev pub page_name : TallyValue → Text
+page_name tally = if has_no_hits tally then text.NoFullText else text.FullText
 
 -- the page of the hits of a query with these pairs, and of two other tallies
 unfoldable pub page_of_hits : site_file.SiteValue → List (List ℕ × List ℕ) → AskValue → TallyValue → TallyValue → TallyValue → List ℕ
 page_of_hits site pairs ask tally also others =
-    page_top site (page_name tally.count) ++ (answer_part site pairs ask tally also others ++ page_bottom site pairs ask)
+    page_top site (page_name tally) ++ (answer_part site pairs ask tally also others ++ page_bottom site pairs ask)
 
 -- the same of a query as it is sent
 abbrev pub hits_page : site_file.SiteValue → List ℕ → AskValue → TallyValue → TallyValue → TallyValue → List ℕ

@@ -3,7 +3,8 @@ ghost use Rattle.std.specs.Prelude.{◌≡◌, ◌++◌, OnOk, option_copied};
 ghost use Rattle.std.specs.List.{flat_map};
 ghost use Rattle.feed_resolver_hits.specs.Tallying.{tally_from};
 ghost use Rattle.feed_resolver_page.specs.HitsPage.{also_card, answer_part, cards, cards_part, cited_of, found_part};
-ghost use Rattle.feed_resolver_page.specs.HitsPage.{held_part, help_part, hit_card, hits_page, is_none, least};
+ghost use Rattle.feed_resolver_page.specs.HitsPage.{has_no_hits, held_part, help_part, hit_card, hits_page, is_none};
+ghost use Rattle.feed_resolver_page.specs.HitsPage.{least, none_part};
 ghost use Rattle.feed_resolver_page.specs.HitsPage.{link_part, link_to, more_part, more_text};
 ghost use Rattle.feed_resolver_page.specs.HitsPage.{other_card, page_bottom, page_foot};
 ghost use Rattle.feed_resolver_page.specs.HitsPage.{page_name, page_of_hits, paragraph, request_part, request_section};
@@ -135,15 +136,14 @@ fn put_more_text(
     )
 }
 
-// Writes how many hits are left out, if any are.
+// Writes how many hits are left out, unless all are shown.
 fn put_more(out: &mut Vec<u8>, site: &SiteFile, tally: &Tally<'_>) -> Result<(), AllocError>
     ensures { OnOk result (out.new.items ≡ out.old.items ++ more_part site.now (tally_from tally.now)) }
 {
-    let left_out = tally.left_out();
-    if left_out == 0 {
+    if tally.shows_all() {
         return Ok(());
     }
-    put_more_text(out, site, left_out as u64, tally.is_whole())
+    put_more_text(out, site, tally.left_out() as u64, tally.is_whole())
 }
 
 #[tactic(auto, unfolding(crate::specs::HitsPage::paragraph))]
@@ -184,14 +184,22 @@ fn put_cards(
     put(out, LIST_END)
 }
 
-// Writes that the library has the titles for another date or volume alone, if nothing was hit.
-fn put_held(out: &mut Vec<u8>, site: &SiteFile, count: usize) -> Result<(), AllocError>
-    ensures { OnOk result (out.new.items ≡ out.old.items ++ held_part site.now count) }
+// Returns whether all rows were looked at, and none is a hit.
+fn has_no_hits(tally: &Tally<'_>) -> bool
+    ensures { result ≡ has_no_hits (tally_from tally.now) }
 {
-    if count > 0 {
-        return Ok(());
+    tally.is_whole() && tally.count() == 0
+}
+
+// Writes that the library has the titles for another date or volume alone, if nothing was hit.
+fn put_held(out: &mut Vec<u8>, site: &SiteFile, tally: &Tally<'_>) -> Result<(), AllocError>
+    ensures { OnOk result (out.new.items ≡ out.old.items ++ held_part site.now (tally_from tally.now)) }
+{
+    if has_no_hits(tally) {
+        put_paragraph(out, site, Text::HeldOther)
+    } else {
+        Ok(())
     }
-    put_paragraph(out, site, Text::HeldOther)
 }
 
 #[tactic(auto, unfolding(crate::specs::HitsPage::cards_part))]
@@ -207,7 +215,7 @@ fn put_cards_part(
         ≡ out.old.items
         ++ cards_part site.now cited.now (tally_from tally.now) (tally_from also.now) (tally_from others.now)) }
 {
-    put_held(out, site, tally.count())?;
+    put_held(out, site, tally)?;
     put_cards(out, site, cited, tally.top(), also.top(), others.top())?;
     put_more(out, site, tally)
 }
@@ -216,6 +224,17 @@ fn is_none(tally: &Tally<'_>, also: &Tally<'_>, others: &Tally<'_>) -> bool
     ensures { result ≡ is_none (tally_from tally.now) (tally_from also.now) (tally_from others.now) }
 {
     tally.count() == 0 && (also.count() == 0 && others.count() == 0)
+}
+
+// Writes that no holdings match, or that rows which were not looked at may.
+fn put_none(out: &mut Vec<u8>, site: &SiteFile, tally: &Tally<'_>) -> Result<(), AllocError>
+    ensures { OnOk result (out.new.items ≡ out.old.items ++ none_part site.now (tally_from tally.now)) }
+{
+    if tally.is_whole() {
+        put_paragraph(out, site, Text::NoHoldings)
+    } else {
+        put_more(out, site, tally)
+    }
 }
 
 fn put_found(
@@ -231,7 +250,7 @@ fn put_found(
         ++ found_part site.now cited.now (tally_from tally.now) (tally_from also.now) (tally_from others.now)) }
 {
     if is_none(tally, also, others) {
-        put_paragraph(out, site, Text::NoHoldings)
+        put_none(out, site, tally)
     } else {
         put_cards_part(out, site, cited, tally, also, others)
     }
@@ -387,10 +406,10 @@ pub fn put_page_foot(out: &mut Vec<u8>, site: &SiteFile) -> Result<(), AllocErro
     put_page_end(out)
 }
 
-fn page_name(count: usize) -> Text
-    ensures { result ≡ page_name count }
+fn page_name(tally: &Tally<'_>) -> Text
+    ensures { result ≡ page_name (tally_from tally.now) }
 {
-    if count == 0 {
+    if has_no_hits(tally) {
         Text::NoFullText
     } else {
         Text::FullText
@@ -414,7 +433,7 @@ fn put_page(
         ++ page_of_hits site.now pairs.now ask.now (tally_from tally.now) (tally_from also.now)
         (tally_from others.now)) }
 {
-    put_page_top(out, site, page_name(tally.count()))?;
+    put_page_top(out, site, page_name(tally))?;
     put_answer(out, site, pairs, ask, tally, also, others)?;
     put_bottom(alloc, out, site, pairs, ask)
 }

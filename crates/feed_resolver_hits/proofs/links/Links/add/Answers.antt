@@ -8,4 +8,4 @@ use Rattle.feed_resolver_hits.proofs.links.Links.add.Goals as goal
 pub returns-then-self-rank : goal.returns-then-self-rank
 returns-then-self-rank c = subst (λ (l : Option LinkValue). l ≡ with_link l c.args.found.now) c.self.view_is
     (link_kept (λ t. t.items) c.self.inside.rank c.self.inside.link c.args.found.now (sym c.is_some.ensures ∙ c.if-is_some.true)
-    (grind (arith, nat_tests, c.rank_of-rank.ensures, c.if-self-rank.true)))
+    (grind (arith, nat_tests, c.rank-rank.ensures, c.if-self-rank.true)))

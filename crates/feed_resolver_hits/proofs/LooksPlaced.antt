@@ -1,0 +1,129 @@
+-- What a search finds at the places of a query's identifiers.
+use Rattle.std.proofs.Common.{◌≡◌, ◌+◌, ℕ, zero, suc, Bool, true, false, List, [], ◌∷◌, ◌++◌, Option, Some, None, refl, sym, ap, ◌∙◌, arith, length, take, map, append_assoc}
+use Rattle.std.specs.Prelude.{if◌then◌else◌, filter, option_map, slice_get}
+use Rattle.std.specs.List.{cons_option, enumerate_from, filter_map}
+use Rattle.std.specs.Option.{option_and_then}
+use Rattle.feed_embargo.specs.Today.{TodayValue}
+use Rattle.feed_kbart.specs.HoldingsValue.{HoldingsValue}
+use Rattle.feed_kbart.specs.Identifiers.{kind}
+use Rattle.feed_kbart.specs.Places.{place_by, places_by}
+use Rattle.feed_kbart.specs.RowValue.{RowValue}
+use Rattle.feed_kbart.specs.declared.identifiers.Kind.{Kind}
+use Rattle.feed_kbart.specs.declared.identifiers.Kind.TheVariants.{Serial, Book}
+use Rattle.feed_names.specs.ReleaseName.{Name}
+use Rattle.feed_site.specs.Site as site_file
+use Rattle.feed_answer.specs.Answers.{answer_of, hit_by}
+use Rattle.feed_answer.specs.Grades.{grade_by}
+use Rattle.feed_answer.specs.HitValue.{HitValue}
+use Rattle.feed_answer.specs.QueryValue.{QueryValue}
+use Rattle.feed_answer.specs.declared.grade.Grade.{Grade}
+use Rattle.feed_resolver_hits.specs.Hits.{ReleaseHitValue, is_found, library_hits, release_hit}
+use Rattle.feed_resolver_hits.specs.Laws.{LooksAreOfAnswer}
+use Rattle.feed_resolver_hits.specs.Looks.{asked_places, asked_rows, found_in, hit_found, look_at, looks_in}
+use Rattle.feed_resolver_hits.specs.Searches.{SearchValue, compared, compared_as, is_asked, is_asked_as}
+use Rattle.feed_resolver_hits.specs.Tallying.{RunningValue, looks_at, with_looks}
+use Rattle.feed_resolver_hits.specs.declared.search.Scope.{Scope}
+use Rattle.feed_resolver_hits.specs.declared.search.Scope.TheVariants.{Hits, Dated, Others}
+use Rattle.feed_resolver_hits.proofs.Tallies.{front_looks}
+
+-- ---- the elements at the places of those that pass a test
+
+at_seam : {X : Type 0} → (front : List X) (x : X) (xs : List X) (place : ℕ) → place ≡ length front → slice_get (front ++ x ∷ xs) place ≡ Some x
+at_seam {X} [] x xs zero same = refl
+at_seam {X} [] x xs (suc place) same = absurd (omega (arith, same))
+at_seam {X} (y ∷ front) x xs zero same = absurd (omega (arith, same))
+at_seam {X} (y ∷ front) x xs (suc place) same = at_seam front x xs place (omega (arith, same))
+
+longer : {X : Type 0} → (front : List X) (x : X) → length (front ++ x ∷ []) ≡ length front + 1
+longer {X} [] x = refl
+longer {X} (y ∷ front) x = let rest = longer front x in omega (arith, rest)
+
+placed_from : {B : Type 0} → (f : Option RowValue → B) (test : RowValue → Bool) (front rows : List RowValue) (base : ℕ) → base ≡ length front
+    → map (λ place. f (slice_get (front ++ rows) place)) (filter_map (place_by test) (enumerate_from base rows)) ≡ map (λ row. f (Some row)) (filter test rows)
+placed_from {B} f test front [] base same = refl
+placed_from {B} f test front (row ∷ rows) base same =
+    go (test row)
+    (ap (λ (all : List RowValue). map (λ place. f (slice_get all place)) (filter_map (place_by test) (enumerate_from (base + 1) rows))) (sym (append_assoc front (row ∷ []) rows))
+    ∙ placed_from f test (front ++ row ∷ []) rows (base + 1) (let more = longer front row in omega (arith, same, more)))
+  where
+    at : ℕ → B
+    at place = f (slice_get (front ++ row ∷ rows) place)
+
+    go : (b : Bool) → map at (filter_map (place_by test) (enumerate_from (base + 1) rows)) ≡ map (λ row. f (Some row)) (filter test rows)
+        → map at (cons_option (if b then Some base else None) (filter_map (place_by test) (enumerate_from (base + 1) rows)))
+        ≡ map (λ row. f (Some row)) (if b then row ∷ filter test rows else filter test rows)
+    go true rest = ap (λ l. at base ∷ l) rest ∙ ap (λ o. f o ∷ map (λ row. f (Some row)) (filter test rows)) (at_seam front row rows base same)
+    go false rest = rest
+
+looks_placed : (site : site_file.SiteValue) (today : TodayValue) (search : SearchValue) (name : Name) (rows : List RowValue)
+    → looks_at site today search name rows (asked_places search.query rows) ≡ looks_in site today search name rows
+unfolding places_by
+looks_placed site today search name rows =
+    placed_from (λ row. hit_found site today search name (option_and_then (hit_by (compared search)) row)) (is_asked search.query) [] rows 0 refl
+
+front_map : {X Y : Type 0} → (f : X → Y) (n : ℕ) (xs : List X) → map f (take n xs) ≡ take n (map f xs)
+front_map {X} {Y} f zero xs = refl
+front_map {X} {Y} f (suc n) [] = refl
+front_map {X} {Y} f (suc n) (x ∷ xs) = ap (λ l. f x ∷ l) (front_map f n xs)
+
+-- the rows at the first places of a release are as many as a tally looks at
+pub release_added : (site : site_file.SiteValue) (today : TodayValue) (search : SearchValue) (name : Name) (holdings : HoldingsValue)
+    (running new : RunningValue) (query : QueryValue) (rows : List RowValue) (places found : List ℕ)
+    → running.is_whole ≡ true → query ≡ search.query → rows ≡ holdings.rows → places ≡ found → found ≡ take (running.left + 1) (asked_places query holdings.rows)
+    → new ≡ with_looks running (looks_at site today search name rows places)
+    → new ≡ with_looks running (looks_in site today search name holdings.rows)
+release_added site today search name holdings running new query rows places found whole asks same listed front is =
+    is ∙ ap (λ (rs : List RowValue). with_looks running (looks_at site today search name rs places)) same
+    ∙ ap (λ ps. with_looks running (looks_at site today search name holdings.rows ps)) (listed ∙ front ∙ ap (λ (q : QueryValue). take (running.left + 1) (asked_places q holdings.rows)) asks)
+    ∙ ap (with_looks running) (front_map _ (running.left + 1) (asked_places search.query holdings.rows)
+    ∙ ap (take (running.left + 1)) (looks_placed site today search name holdings.rows))
+    ∙ front_looks running (looks_in site today search name holdings.rows) whole
+
+-- ---- the hits in all rows
+
+unasked_by : (of : Kind) (query : QueryValue) (row : RowValue) (f : Grade → HitValue) → is_asked_as of query row ≡ false → option_map f (grade_by of query row) ≡ None
+unasked_by Serial query row f miss = rw miss refl
+unasked_by Book query row f miss = rw miss refl
+
+same_asked : (scope : Scope) (of : Kind) (query : QueryValue) (row : RowValue) → is_asked_as of (compared_as scope query) row ≡ is_asked_as of query row
+same_asked Hits of query row = refl
+same_asked Dated Serial query row = refl
+same_asked Dated Book query row = refl
+same_asked Others Serial query row = refl
+same_asked Others Book query row = refl
+
+unasked : (search : SearchValue) (row : RowValue) → is_asked search.query row ≡ false → hit_by (compared search) row ≡ None
+unasked search row miss =
+    unasked_by (kind row.identifiers) (compared search) row _ (same_asked search.scope (kind row.identifiers) search.query row ∙ miss)
+
+module _ (site : site_file.SiteValue) (today : TodayValue) (search : SearchValue) (name : Name) where
+  hits_of : List HitValue → List ReleaseHitValue
+  hits_of hits = library_hits site today search name hits
+
+  in_rows : (rows : List RowValue) → found_in (looks_in site today search name rows) ≡ library_hits site today search name (filter_map (hit_by (compared search)) rows)
+  in_rows [] = refl
+  in_rows (row ∷ rows) = by_asked (is_asked search.query row) refl (in_rows rows)
+    where
+      by_found : (b : Bool) (hit : HitValue) → found_in (looks_in site today search name rows) ≡ library_hits site today search name (filter_map (hit_by (compared search)) rows)
+          → cons_option (if b then Some (release_hit site today search name hit) else None) (found_in (looks_in site today search name rows))
+          ≡ map (release_hit site today search name) (if b then hit ∷ filter (is_found site search name) (filter_map (hit_by (compared search)) rows)
+          else filter (is_found site search name) (filter_map (hit_by (compared search)) rows))
+      by_found true hit rest = ap (λ l. release_hit site today search name hit ∷ l) rest
+      by_found false hit rest = rest
+
+      by_hit : (o : Option HitValue) → found_in (looks_in site today search name rows) ≡ library_hits site today search name (filter_map (hit_by (compared search)) rows)
+          → cons_option (hit_found site today search name o) (found_in (looks_in site today search name rows))
+          ≡ library_hits site today search name (cons_option o (filter_map (hit_by (compared search)) rows))
+      by_hit None rest = rest
+      by_hit (Some hit) rest = by_found (is_found site search name hit) hit rest
+
+      by_asked : (b : Bool) → is_asked search.query row ≡ b
+          → found_in (looks_in site today search name rows) ≡ library_hits site today search name (filter_map (hit_by (compared search)) rows)
+          → found_in (map (look_at site today search name) (if b then row ∷ asked_rows search.query rows else asked_rows search.query rows))
+          ≡ library_hits site today search name (filter_map (hit_by (compared search)) (row ∷ rows))
+      by_asked true is rest = by_hit (hit_by (compared search) row) rest
+      by_asked false is rest = rest ∙ ap (λ o. library_hits site today search name (cons_option o (filter_map (hit_by (compared search)) rows))) (sym (unasked search row is))
+
+pub of_answer : LooksAreOfAnswer
+unfolding answer_of
+of_answer site today search name holdings = in_rows site today search name holdings.rows

@@ -1,0 +1,46 @@
+-- The rows that a search looks at, and what it finds in them.
+use Rattle.std.specs.Prelude.{ℕ, if◌then◌else◌, List, Option, Some, None, filter, map, take}
+use Rattle.std.specs.List.{filter_map}
+use Rattle.feed_embargo.specs.Today.{TodayValue}
+use Rattle.feed_kbart.specs.Places.{places_by}
+use Rattle.feed_kbart.specs.RowValue.{RowValue}
+use Rattle.feed_names.specs.ReleaseName.{Name}
+use Rattle.feed_site.specs.Site as site_file
+use Rattle.feed_answer.specs.Answers.{hit_by}
+use Rattle.feed_answer.specs.HitValue.{HitValue}
+use Rattle.feed_answer.specs.QueryValue.{QueryValue}
+use Rattle.feed_resolver_hits.specs.Hits.{ReleaseHitValue, is_found, release_hit}
+use Rattle.feed_resolver_hits.specs.Searches.{SearchValue, compared, is_asked}
+
+-- the most rows that are looked at for a query, in all releases together
+abbrev pub row_limit : ℕ
+row_limit = 20000
+
+-- the rows that have one of the identifiers of a query, in file order, and their places
+abbrev pub asked_rows : QueryValue → List RowValue → List RowValue
+asked_rows query rows = filter (is_asked query) rows
+
+abbrev pub asked_places : QueryValue → List RowValue → List ℕ
+asked_places query rows = places_by (is_asked query) rows
+
+-- a hit of the core in this release, if it is searched for and the library has it
+abbrev pub hit_found : site_file.SiteValue → TodayValue → SearchValue → Name → Option HitValue → Option ReleaseHitValue
+hit_found site today search name None = None
+hit_found site today search name (Some hit) =
+    if is_found site search name hit then Some (release_hit site today search name hit) else None
+
+-- what a search finds in a row of this release
+abbrev pub look_at : site_file.SiteValue → TodayValue → SearchValue → Name → RowValue → Option ReleaseHitValue
+look_at site today search name row = hit_found site today search name (hit_by (compared search) row)
+
+-- what it finds in each of the rows of this release that have one of its identifiers
+abbrev pub looks_in : site_file.SiteValue → TodayValue → SearchValue → Name → List RowValue → List (Option ReleaseHitValue)
+looks_in site today search name rows = map (look_at site today search name) (asked_rows search.query rows)
+
+-- the hits that are found
+abbrev pub found_in : List (Option ReleaseHitValue) → List ReleaseHitValue
+found_in looks = filter_map (λ look. look) looks
+
+-- those in the rows that are looked at
+abbrev pub counted : List (Option ReleaseHitValue) → List ReleaseHitValue
+counted looks = found_in (take row_limit looks)
