@@ -4,8 +4,9 @@ resolver_random.py [--cases N] [--seed N]
 
 The model is written from docs/RESOLVER.md, docs/KBART.md and docs/OPENURL.md alone. It goes through all rows of all
 lists for each request. Each world has up to three packages with a few rows, a site file or none, and a day; it gets
-twenty requests. Compared are the status, the address of a redirect, the whole text, the hits and `also` of JSON with
-most members, and the links of a page, in their order. `feed_test_http` gives the replies."""
+twenty requests. In some worlds a list has about as many rows of one ISSN as a query looks at. Compared are the status,
+the address of a redirect, the whole text, the hits and `also` of JSON with most members, the links of a page, in their
+order, and how many hits are left out. `feed_test_http` gives the replies."""
 import argparse
 import calendar
 import datetime
@@ -19,6 +20,9 @@ import sys
 import urllib.parse
 
 WORLD = 20
+# Every so many worlds one has a long list. A query looks at the first ROWS rows that have one of its identifiers, and a
+# reply shows SHOWN hits at most.
+LONG, ROWS, SHOWN = 25, 20_000, 1_000
 LABELS = ["publication_title", "print_identifier", "online_identifier", "date_first_issue_online",
           "num_first_vol_online", "date_last_issue_online", "num_last_vol_online", "title_url", "title_id",
           "embargo_info", "coverage_depth", "access_type", "publication_type"]
@@ -243,32 +247,47 @@ class Hit:
 class World:
     """Lists, a site file and a day."""
 
-    def __init__(self, dice):
-        self.dice = dice
+    def __init__(self, dice, is_long):
+        self.dice, self.is_long = dice, is_long
         self.today = datetime.date(2024, 5, 17) + datetime.timedelta(days=dice.randrange(400))
         names = dice.sample(["Acme", "Basic_All", "Coast", "Delta"], dice.randint(1, 3))
-        self.lists = {name: self.random_list(name) for name in sorted(names)}
+        long = dice.choice(names) if is_long else None
+        self.lists = {name: self.random_list(name, name == long) for name in sorted(names)}
         self.packages, self.titles, self.proxy, self.except_hosts, self.redirects = [], [], "", [], False
         self.has_site = dice.random() < 0.7
         if self.has_site:
             self.random_site(names)
 
-    def random_list(self, package):
-        rows = []
-        for number in range(2, 2 + self.dice.randint(0, 12)):
-            pick = self.dice.choice
-            kind = pick(["", "serial", "Serial", "monograph", "database"])
-            known = ISBNS if kind == "monograph" else ISSNS
-            cells = dict(zip(LABELS, [
-                pick(["Acta", "Beta <b>", "Gamma & \"Delta\"", "Straße"]),
-                pick([*known, known[0], ""]), pick([*known, "", "x"]),
-                pick(FIRSTS), pick(VOLUMES), pick(LASTS), pick(VOLUMES),
-                pick(["", "javascript:alert(1)", f"http://{pick(ODD_HOSTS)}/{number}"]
-                     + [f"https://{host}/{number}?a=1&b=2" for host in HOSTS * 2]),
-                f"id{number}", pick(EMBARGOES), pick(["", "fulltext", "fulltext", "abstracts"]),
-                pick(["", "F", "P"]), kind]))
-            rows.append(Row(package, number, cells))
-        return rows
+    def random_list(self, package, is_long):
+        records = [self.random_record(number) for number in range(self.dice.randint(0, 12))]
+        if is_long:
+            at = self.dice.randint(0, len(records))
+            records[at:at] = self.equal_records(ROWS - self.dice.randint(0, 6))
+        return [Row(package, number, cells) for number, cells in enumerate(records, 2)]
+
+    def random_record(self, number):
+        pick = self.dice.choice
+        kind = pick(["", "serial", "Serial", "monograph", "database"])
+        known = ISBNS if kind == "monograph" else ISSNS
+        return dict(zip(LABELS, [
+            pick(["Acta", "Beta <b>", "Gamma & \"Delta\"", "Straße"]),
+            pick([*known, known[0], ""]), pick([*known, "", "x"]),
+            pick(FIRSTS), pick(VOLUMES), pick(LASTS), pick(VOLUMES),
+            pick(["", "javascript:alert(1)", f"http://{pick(ODD_HOSTS)}/{number}"]
+                 + [f"https://{host}/{number}?a=1&b=2" for host in HOSTS * 2]),
+            f"id{number}", pick(EMBARGOES), pick(["", "fulltext", "fulltext", "abstracts"]),
+            pick(["", "F", "P"]), kind]))
+
+    def equal_records(self, count):
+        """Returns so many records of one journal. Most of them are equal, and match every query or few dates. They have
+        few bytes, since feed_test_http takes lists of less than 1 MiB."""
+        journal = {"print_identifier": ISSNS[0], "online_identifier": "", "date_first_issue_online": "",
+                   "date_last_issue_online": "", "publication_type": ""}
+        most = dict.fromkeys(LABELS, "") | journal | self.dice.choice([
+            {"title_url": "https://a.example/", "coverage_depth": "fulltext"},
+            {"date_first_issue_online": "1950", "date_last_issue_online": "1951", "coverage_depth": "fulltext"}])
+        others = [self.random_record("long") | journal for _ in range(2)]
+        return self.dice.choices([most, *others], [98, 1, 1], k=count)
 
     def random_site(self, names):
         chance = self.dice.random
@@ -280,9 +299,9 @@ class World:
             if chance() < 0.5:
                 self.packages.append({"id": name, **self.random_held()})
         for name in names:
-            for row in self.lists[name]:
+            for title in dict.fromkeys(row.cells["title_id"] for row in self.lists[name]):
                 if chance() < 0.15:
-                    self.titles.append({"package": name, "id": row.cells["title_id"], **self.random_held()})
+                    self.titles.append({"package": name, "id": title, **self.random_held()})
         self.dice.shuffle(self.packages)
 
     def random_held(self):
@@ -340,18 +359,32 @@ class World:
         days = self.library_days(row)
         return days is not None and meet(days, row.coverage())
 
+    def looked_at(self, query, packages):
+        """Returns the rows by package at which a query looks."""
+        found, left = {}, ROWS
+        for package in packages:
+            found[package] = self.rows_with(query, package)[:left]
+            left -= len(found[package])
+        return found
+
+    def rows_with(self, query, package):
+        return [it for it in self.lists[package] if not it.aside and it.identifiers & query.identifiers]
+
+    def is_whole(self, query, packages):
+        """Returns whether a query looks at all rows of some packages that have one of its identifiers."""
+        return sum(len(self.rows_with(query, package)) for package in packages) <= ROWS
+
     def hits(self, query, packages):
         """Returns the hits of a query by package, in the order of the files."""
         found = {}
-        for package in packages:
-            rows = [it for it in self.lists[package] if not it.aside]
+        for package, rows in self.looked_at(query, packages).items():
             graded = [(it, grade_of(it, query)) for it in rows]
             found[package] = [Hit(row, grade, query, self) for row, grade in graded if grade and self.has(row, query)]
         return found
 
     def dated(self, query, packages):
         """Returns the rows that cover the date of a query and do not have its volume, in the order of their ranks."""
-        rows = [it for package in packages for it in self.lists[package] if not it.aside]
+        rows = [it for rows in self.looked_at(query, packages).values() for it in rows]
         graded = [(it, dated_grade_of(it, query)) for it in rows]
         found = [Hit(row, grade, query, self) for row, grade in graded if grade and self.has(row, query)]
         return sorted(found, key=lambda it: it.rank(self))
@@ -371,8 +404,9 @@ class Request:
         self.pairs = []
         formats = [f"info:ofi/fmt:kev:mtx:{it}" for it in ("journal", "book", "patent")]
         dates = ["1996", "1999-12", "200103", "1985", *self.recent_dates()]
+        known = [*ISSNS, "x", *[ISSNS[0]] * 12 * world.is_long]
         for key, values, chance in (
-                ("url_ver", ["Z39.88-2004", "Z39.88-2004", ""], 0.3), ("rft.issn", ISSNS + ["x"], 0.8),
+                ("url_ver", ["Z39.88-2004", "Z39.88-2004", ""], 0.3), ("rft.issn", known, 0.8),
                 ("rft_val_fmt", formats, 0.2), ("rft.eissn", ISSNS, 0.2), ("rft.isbn", ISBNS, 0.4),
                 ("rft.jtitle", ["Acta"], 0.2), ("rft.date", dates, 0.7), ("rft.volume", ["3", "007", "12"], 0.3),
                 ("rft.genre", ["article", "Journal", "book", "bookitem", ""], 0.4)):
@@ -380,7 +414,7 @@ class Request:
                 self.pairs.append((key, pick(values)))
         dice.shuffle(self.pairs)
         self.path = pick(["/resolve"] * 6 + ["/go"] * 3 + ["/resolve/" + pick(["Acme", "Basic_All", "Coast"])] * 2 +
-                         ["/status", "/nothing", "/titles"])
+                         ["/status", "/nothing"] + ["/titles"] * (not world.is_long))
         self.method = pick(["GET"] * 8 + ["HEAD", "POST", "PUT"])
         if self.path == "/titles":
             self.pairs = [("q", pick(["a", "ACTA", "ä", "<B>", "delta\"", " beta ", "STRASSE", "z", " "]))]
@@ -434,10 +468,10 @@ class Request:
             best = next((it for it in ranked if it.is_link), None)
             if best:
                 return 302, best.link, None
-            return 404, None, self.body(found, ranked, self.world.dated(query, packages))
-        if self.format == "html" and self.world.redirects and self.is_sole(ranked, query):
+            return 404 if self.world.is_whole(query, packages) else 200, None, self.body(query, packages, found, ranked)
+        if self.format == "html" and self.world.redirects and self.is_sole(query, packages, ranked):
             return 302, ranked[0].link, None
-        return 200, None, self.body(found, ranked, self.world.dated(query, packages))
+        return 200, None, self.body(query, packages, found, ranked)
 
     def wanted_titles(self):
         """Returns the same for the titles that contain a text. No list here is long enough for a limit of a reply."""
@@ -454,28 +488,46 @@ class Request:
         """Returns the body of a fault, a line of text. Other representations are not compared."""
         return f"{text}\n" if self.format == "text" else None
 
-    def is_sole(self, ranked, query):
-        if len(ranked) != 1:
+    def is_sole(self, query, packages, ranked):
+        if len(ranked) != 1 or not self.world.is_whole(query, packages):
             return False
         hit = ranked[0]
         return (hit.availability == "available" and hit.grade == "inside" and hit.is_link
                 and hit.row.cells["coverage_depth"] == "fulltext" and query.days is not None
                 and lies_in(query.days, self.world.library_days(hit.row)))
 
-    def body(self, found, ranked, dated):
+    def body(self, query, packages, found, ranked):
         """Returns the text, or the hits of JSON or the links of a page and those of the rows whose date is covered."""
         if self.format == "text":
-            lines = []
-            for package, hits in found.items():
-                lines.append(f"release {name_of(package)} hits {len(hits)}")
-                for it in hits:
-                    labels = ("title_id", "coverage_depth", "embargo_info", "access_type")
-                    cells = [it.row.cells["publication_title"], it.url, *[it.row.cells[label] for label in labels]]
-                    lines.append("\t".join([str(it.row.number), it.grade, *cells]))
-            return "".join(f"{it}\n" for it in lines)
+            return self.text_body(query, packages, found)
+        dated, is_whole = self.world.dated(query, packages), self.world.is_whole(query, packages)
         if self.format == "json":
-            return [json_of(it) for it in ranked], [json_of(it) | {"why": "volume"} for it in dated]
-        return [it.link for it in ranked if it.is_link], [it.link for it in dated if it.is_link], not ranked
+            # Rows whose date is covered are looked for only if the query has a volume too.
+            is_all = is_whole or query.days is None or query.volume is None
+            return [[json_of(it) for it in ranked[:SHOWN]] + left_out(ranked, is_whole),
+                    [json_of(it) | {"why": "volume"} for it in dated[:SHOWN]] + left_out(dated, is_all)]
+        shown = [[it.link for it in hits[:SHOWN] if it.is_link] for hits in (ranked, dated)]
+        return *shown, not ranked, left_out(ranked, is_whole)
+
+    def text_body(self, query, packages, found):
+        lines, left = [], SHOWN
+        for at, (package, hits) in enumerate(found.items(), 1):
+            least = "" if self.world.is_whole(query, packages[:at]) else "at least "
+            lines.append(f"release {name_of(package)} hits {least}{len(hits)}")
+            for it in hits[:left]:
+                labels = ("title_id", "coverage_depth", "embargo_info", "access_type")
+                cells = [it.row.cells["publication_title"], it.url, *[it.row.cells[label] for label in labels]]
+                lines.append("\t".join([str(it.row.number), it.grade, *cells]))
+            left -= len(hits[:left])
+        return "".join(f"{it}\n" for it in lines)
+
+
+def left_out(hits, is_whole):
+    """Returns the last item of a list in JSON, which says how many hits are left out, or none."""
+    count = max(len(hits) - SHOWN, 0)
+    if not is_whole:
+        return [{"more_at_least": count}]
+    return [{"more": count}] if count else []
 
 
 def json_of(hit):
@@ -542,22 +594,24 @@ def differences(request, line):
         return None if found == body else f"titles {found} in place of {body}"
     if request.format == "json":
         answer = json.loads(bytes_given)
-        found = tuple([{key: it[key] for key in rows[0]} if rows else it for it in given]
-                      for rows, given in zip(body, (answer["hits"], answer["also"])))
-        return None if found == body else f"hits {found} in place of {body}"
+        found = [[{key: it[key] for key in wanted if key in it} for it, wanted in zip(given, rows)] + given[len(rows):]
+                 for rows, given in zip(body, (answer["hits"], answer["also"]))]
+        return None if found == body else f"hits {found[:3]} in place of {body[:3]}"
     if request.format == "html":
-        found, (hits, dated, is_none) = Links(bytes_given.decode()).found, body
+        text, (hits, dated, is_none, left) = bytes_given.decode(), body
+        found, words = Links(text).found, re.findall(r"<p>Not shown: ([^.]*)\.", text)
         # Without hits for the date, a page then shows those of other dates, which have no place in this model.
         wanted = hits + dated
         shown = found[:len(wanted)] if is_none else found
-        return None if shown == wanted else f"links {found} in place of {body}"
+        counts = [str(it["more"]) if "more" in it else f"at least {it['more_at_least']}" for it in left]
+        return None if shown == wanted and words == counts else f"links {found}, {words} in place of {body}"
     text = bytes_given.decode()
     return None if text == body else f"{text!r} in place of {body!r}"
 
 
-def run_world(dice, count):
+def run_world(dice, count, is_long):
     """Runs some requests in a new world, prints those whose reply differs, and returns how many do."""
-    world, lines = World(dice), []
+    world, lines = World(dice, is_long), []
     lines.append(f"today {world.today}")
     site = f" {escaped(world.site_text().encode())}" if world.has_site else ""
     lines.append(f"site v 0{site}")
@@ -582,7 +636,7 @@ def run_world(dice, count):
             differ += 1
             print(f"{request.text()[0].splitlines()[0]} {request.text()[1] or ''} ({request.format}): {why}")
             print(f"  on {world.today}, site {world.site_text() if world.has_site else None!r}")
-            print("".join(f"  {it}:\n{world.list_text(it)}" for it in world.lists))
+            print("".join(f"  {it}:\n{world.list_text(it)[:10000]}" for it in world.lists))
     return differ
 
 
@@ -593,7 +647,7 @@ def main():
     given = asked.parse_args()
     dice, differ = random.Random(given.seed), 0
     for tried in range(0, given.cases, WORLD):
-        differ += run_world(dice, min(WORLD, given.cases - tried))
+        differ += run_world(dice, min(WORLD, given.cases - tried), tried // WORLD % LONG == 0)
     print(f"{given.cases} requests: {differ or 'none'} differ")
     return 1 if differ else 0
 

@@ -7,13 +7,14 @@ use Rattle.std.specs.Str.{bytes_eq, str_eq_ignore_ascii_case}
 use Rattle.std.specs.Cmp.Lexicographic.{bytes_decides}
 use Rattle.form_urlencoded.specs.Form as form
 use Rattle.feed_identifiers.specs.Text.{trimmed}
-use Rattle.feed_kbart.specs.Columns.{cell, columns_of}
+use Rattle.feed_kbart.specs.Columns.{columns_of, field_of}
 use Rattle.feed_kbart.specs.Coverage.{book_coverage, book_reason, serial_coverage, serial_reason}
 use Rattle.feed_kbart.specs.Files.{holdings_in, holdings_of}
 use Rattle.feed_kbart.specs.Holdings.{holdings_from, row_at}
 use Rattle.feed_text.specs.Records.{records_of}
 use Rattle.feed_kbart.specs.Rows.{texts_of}
 use Rattle.feed_kbart.specs.RowValue.{RowValue, row_with}
+use Rattle.feed_kbart.specs.declared.label.Label.TheVariants.{PublicationType}
 use Rattle.feed_answer.specs.Answers.{answer_of, hit_by}
 use Rattle.feed_answer.specs.Grades.{book_grade, serial_grade}
 use Rattle.feed_answer.specs.HitValue.{HitValue}
@@ -58,11 +59,11 @@ is_monograph text = str_eq_ignore_ascii_case (trimmed text) (codes "monograph")
 record_kept : (old : SerialQuery) (isbns : List (List ℕ)) (header : List (List ℕ)) (number : ℕ) (fields : List (List ℕ))
     → IsKept old (with_isbns old isbns) (row_at (columns_of header) (number, fields)) (serial_row_at header (number, fields))
 record_kept old isbns header number fields =
-    go (is_serial_type (cell (columns_of header).publication_type fields)) (is_monograph (cell (columns_of header).publication_type fields))
+    go (is_serial_type (field_of (columns_of header) PublicationType fields)) (is_monograph (field_of (columns_of header) PublicationType fields))
     (is_none (serial_reason (columns_of header) fields)) (is_none (book_reason (columns_of header) fields)) refl refl refl refl
   where
-    go : (serial monograph row book : Bool) → is_serial_type (cell (columns_of header).publication_type fields) ≡ serial
-        → is_monograph (cell (columns_of header).publication_type fields) ≡ monograph
+    go : (serial monograph row book : Bool) → is_serial_type (field_of (columns_of header) PublicationType fields) ≡ serial
+        → is_monograph (field_of (columns_of header) PublicationType fields) ≡ monograph
         → is_none (serial_reason (columns_of header) fields) ≡ row → is_none (book_reason (columns_of header) fields) ≡ book
         → IsKept old (with_isbns old isbns) (row_at (columns_of header) (number, fields)) (serial_row_at header (number, fields))
     go true monograph true book s m r b hits =

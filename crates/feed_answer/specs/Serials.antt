@@ -5,7 +5,7 @@ use Rattle.std.specs.Str.{str_eq_ignore_ascii_case}
 use Rattle.form_urlencoded.specs.Form as form
 use Rattle.feed_dates.specs.declared.day_range.DayRange.{DayRange}
 use Rattle.feed_identifiers.specs.Text.{trimmed}
-use Rattle.feed_kbart.specs.Columns.{cell, columns_of}
+use Rattle.feed_kbart.specs.Columns.{columns_of, field_of}
 use Rattle.feed_kbart.specs.Coverage as coverage
 use Rattle.feed_kbart.specs.Coverage.{serial_coverage, serial_reason}
 use Rattle.feed_kbart.specs.Files.{holdings_of}
@@ -15,6 +15,7 @@ use Rattle.feed_kbart.specs.Rows.{texts_of}
 use Rattle.feed_kbart.specs.RowValue.{RowValue, row_with}
 use Rattle.feed_kbart.specs.declared.identifiers.Kind.{Kind}
 use Rattle.feed_kbart.specs.declared.identifiers.Kind.TheVariants.{Serial, Book}
+use Rattle.feed_kbart.specs.declared.label.Label.TheVariants.{PublicationType}
 use Rattle.feed_answer.specs.Answers.{answer_of}
 use Rattle.feed_answer.specs.Grades.{both_grades, days_grade, is_named, volume_grade}
 use Rattle.feed_answer.specs.HitValue.{HitValue}
@@ -30,7 +31,7 @@ is_serial_type text = coverage.is_empty (trimmed text) || str_eq_ignore_ascii_ca
 -- the row of a numbered record under a header, unless it was skipped
 abbrev pub serial_row_at : List (List ℕ) → ℕ × List (List ℕ) → Option RowValue
 serial_row_at header numbered =
-    if is_serial_type (cell (columns_of header).publication_type numbered.1) && is_none (serial_reason (columns_of header) numbered.1)
+    if is_serial_type (field_of (columns_of header) PublicationType numbered.1) && is_none (serial_reason (columns_of header) numbered.1)
     then Some (row_with numbered.0 (serial_coverage (columns_of header) numbered.1) (texts_of (columns_of header) numbered.1)) else None
 
 -- the rows of records after the header, which is the first

@@ -1,6 +1,6 @@
 //! Grades: how well a row covers the days or the volume that a query asks for.
 ghost use Rattle.std.specs.Prelude.{◌≡◌, Some};
-ghost use Rattle.feed_answer.specs.Grades.{has_begun_by, book_grade, days_grade, grade_of, is_named};
+ghost use Rattle.feed_answer.specs.Grades.{book_grade, both_grades, days_grade, grade_of, has_begun_by, is_named};
 ghost use Rattle.feed_answer.specs.Grades.{has_not_ended_before, serial_grade, volume_grade};
 
 use crate::query::Query;
@@ -48,8 +48,8 @@ fn has_not_ended_before(last: Option<i32>, day: i32) -> bool
     last.is_none_or(|last| day <= last)
 }
 
-// The grade by the dates alone, or `None` if the days are not covered at all.
-fn days_grade(row: &Row, days: Option<DayRange>) -> Option<Grade>
+/// Returns the grade of a row by its dates alone, or `None` if the days are not covered at all.
+pub fn days_grade(row: &Row, days: Option<DayRange>) -> Option<Grade>
     ensures { result ≡ days_grade row.now.first_day row.now.last_day days }
 {
     let Some(days) = days else {
@@ -67,8 +67,8 @@ fn days_grade(row: &Row, days: Option<DayRange>) -> Option<Grade>
     }
 }
 
-// The grade by the volumes alone, or `None` if the volume is outside. A missing side is open.
-fn volume_grade(row: &Row, volume: Option<u32>) -> Option<Grade>
+/// Returns the grade of a row by its volumes alone, or `None` if the volume is outside. A missing side is open.
+pub fn volume_grade(row: &Row, volume: Option<u32>) -> Option<Grade>
     ensures { result ≡ volume_grade row.now.first_volume row.now.last_volume volume }
 {
     let Some(volume) = volume else {
@@ -81,6 +81,18 @@ fn volume_grade(row: &Row, volume: Option<u32>) -> Option<Grade>
         Some(Grade::Inside)
     } else {
         None
+    }
+}
+
+/// Returns the grade by both, if both pass: that of the dates if they were compared, otherwise that of the volumes.
+pub fn both_grades(by_days: Option<Grade>, by_volume: Option<Grade>) -> Option<Grade>
+    ensures { result ≡ both_grades by_days by_volume }
+{
+    let by_days = by_days?;
+    let by_volume = by_volume?;
+    match by_days {
+        Grade::Untested => Some(by_volume),
+        _ => Some(by_days),
     }
 }
 
@@ -105,12 +117,10 @@ fn serial_grade(row: &Row, query: &Query) -> Option<Grade>
     if !is_issn_named(row.print(), query.issns()) && !is_issn_named(row.online(), query.issns()) {
         return None;
     }
-    let by_days = days_grade(row, query.days())?;
-    let by_volume = volume_grade(row, query.volume())?;
-    match by_days {
-        Grade::Untested => Some(by_volume),
-        _ => Some(by_days),
-    }
+    both_grades(
+        days_grade(row, query.days()),
+        volume_grade(row, query.volume()),
+    )
 }
 
 // The grade of a book's row: one of its ISBNs is asked for. Dates and volumes are not tested.

@@ -16,7 +16,7 @@ mod row_places;
 
 pub use crate::decode::{decode_pairs, decode_text};
 pub use crate::fault::{QueryFault, WriteFault};
-pub use crate::grade::Grade;
+pub use crate::grade::{Grade, both_grades, days_grade, volume_grade};
 pub use crate::hits::{Answer, Hit, write_head, write_hit};
 pub use crate::laws::{
     grades_follow_days, serial_answers_are_unchanged, set_has_exactly_its_identifiers, sets_ascend,

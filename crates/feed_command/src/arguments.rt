@@ -1,36 +1,42 @@
 //! Parses the names and queries of arguments, and reports invalid ones.
-use crate::faults::{FAILED, Faults, REFUSED};
+use crate::console::Console;
+use crate::faults::{FAILED, REFUSED};
 use feed_answer::{Query, QueryFault};
 use feed_names::{NameFault, ReleaseName};
-use std::alloc::Global;
 use std::io::Write;
 
 /// Parses the name of a release. Otherwise it reports the fault and returns the exit status: `status` for an invalid
 /// name, `FAILED` for running out of memory.
-pub fn parse_name<F: Write + Drop>(
-    alloc: Global,
+pub fn parse_name<O: Write, F: Write + Drop>(
     text: &str,
     status: u8,
-    faults: &mut Faults<F>,
+    console: &mut Console<'_, O, F>,
 ) -> Result<ReleaseName, u8> {
-    match ReleaseName::parse(alloc, text.as_bytes()) {
+    match ReleaseName::parse(console.rt.alloc(), text.as_bytes()) {
         Ok(name) => Ok(name),
-        Err(NameFault::Memory) => Err(faults.report(NameFault::Memory, FAILED)),
-        Err(fault) => Err(faults.report_with(fault, text, cause_of_name(fault), status)),
+        Err(NameFault::Memory) => Err(console.faults.report(NameFault::Memory, FAILED)),
+        Err(fault) => Err(
+            console
+                .faults
+                .report_with(fault, text, cause_of_name(fault), status),
+        ),
     }
 }
 
 /// Parses a query. Otherwise it reports the fault and returns the exit status: `REFUSED` for an invalid query, `FAILED`
 /// for running out of memory.
-pub fn parse_query<F: Write + Drop>(
-    alloc: Global,
+pub fn parse_query<O: Write, F: Write + Drop>(
     text: &str,
-    faults: &mut Faults<F>,
+    console: &mut Console<'_, O, F>,
 ) -> Result<Query, u8> {
-    match Query::read(alloc, text.as_bytes()) {
+    match Query::read(console.rt.alloc(), text.as_bytes()) {
         Ok(query) => Ok(query),
-        Err(QueryFault::Memory) => Err(faults.report(QueryFault::Memory, FAILED)),
-        Err(fault) => Err(faults.report_with(fault, text, cause_of_query(fault), REFUSED)),
+        Err(QueryFault::Memory) => Err(console.faults.report(QueryFault::Memory, FAILED)),
+        Err(fault) => Err(
+            console
+                .faults
+                .report_with(fault, text, cause_of_query(fault), REFUSED),
+        ),
     }
 }
 

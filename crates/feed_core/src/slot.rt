@@ -24,14 +24,14 @@ const TEXT_ROOM: usize = 256;
 
 /// A node over a keeper.
 #[derive(Drop)]
-pub enum Slot<K: Keep + Drop> {
+pub enum Slot<K: Keep> {
     /// It is up: a feed.
     Up(Feed<K>),
     /// It is down: the keeper of a feed that could not be opened again.
     Down(K),
 }
 
-impl<K: Keep + Drop> Slot<K> {
+impl<K: Keep> Slot<K> {
     /// Starts a node on an empty keeper. The error returns a keeper that is not empty.
     pub fn start(alloc: Global, keeper: K) -> Result<Slot<K>, OpenFault<K>>
         ensures ok { IfOk result (λ s. HasSlotState K.content K.listed s true []) }
@@ -77,7 +77,7 @@ impl<K: Keep + Drop> Slot<K> {
 }
 
 // Opens a keeper, and returns why the node is down if this fails.
-fn open_slot<K: Keep + Drop>(alloc: Global, keeper: K) -> (Slot<K>, Result<(), KeepFault>)
+fn open_slot<K: Keep>(alloc: Global, keeper: K) -> (Slot<K>, Result<(), KeepFault>)
     ensures clean { IsSlotClean K.clean result.0 → K.clean keeper }
     ensures same { (h : History) → IsSlotClean K.clean result.0 → IsContent (K.content keeper) h
         → ∥ K.listed keeper ∥₁ → IsReopened (HasSlotState K.content K.listed result.0) h result.1 }
@@ -90,7 +90,7 @@ fn open_slot<K: Keep + Drop>(alloc: Global, keeper: K) -> (Slot<K>, Result<(), K
     }
 }
 
-impl<K: Keep + Drop> Node for Slot<K> {
+impl<K: Keep> Node for Slot<K> {
     ghost clean = { IsSlotClean K.clean };
 
     ghost has_state = { HasSlotState K.content K.listed };
@@ -140,7 +140,7 @@ impl<K: Keep + Drop> Node for Slot<K> {
 }
 
 // Returns the text of a feed's answer. An error of the query takes precedence.
-fn answer_text<K: Keep + Drop>(
+fn answer_text<K: Keep>(
     alloc: Global,
     feed: &Feed<K>,
     package: &[u8],

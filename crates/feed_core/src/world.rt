@@ -40,7 +40,7 @@ pub enum ReplayFault<K: Drop> {
 
 /// Replays events over nodes on these keepers, and shows each event by a line. Opens each keeper once, in order,
 /// before the first event.
-pub fn replay<K: Keep + Drop>(
+pub fn replay<K: Keep>(
     alloc: Global,
     keepers: Vec<K>,
     events: &[WorldEvent],
@@ -75,7 +75,7 @@ pub fn replay<K: Keep + Drop>(
 }
 
 // Starts nodes on empty keepers.
-fn start_all<K: Keep + Drop>(alloc: Global, keepers: Vec<K>) -> Result<Vec<Slot<K>>, ReplayFault<K>>
+fn start_all<K: Keep>(alloc: Global, keepers: Vec<K>) -> Result<Vec<Slot<K>>, ReplayFault<K>>
     ensures count { IfOk result (λ nodes. length nodes.items ≡ vec_len keepers) }
     ensures started { IfOk result (λ nodes. (chosen : ℕ → Bool) → AreNodes chosen (HasSlotState K.content K.listed)
         nodes.items (start (length nodes.items)).nodes) }
@@ -101,7 +101,7 @@ fn start_all<K: Keep + Drop>(alloc: Global, keepers: Vec<K>) -> Result<Vec<Slot<
 }
 
 // Returns why the node with this number did not start.
-fn start_fault<K: Keep + Drop>(fault: OpenFault<K>, node: usize) -> ReplayFault<K>
+fn start_fault<K: Keep>(fault: OpenFault<K>, node: usize) -> ReplayFault<K>
     ensures { ((fault.cause ≡ KeepFault.Memory) × (result ≡ ReplayFault.Memory))
         ⊎ ((fault.cause ≢ KeepFault.Memory) × (result ≡ ReplayFault.Start node fault.keeper)) }
 {
@@ -115,7 +115,7 @@ fn start_fault<K: Keep + Drop>(fault: OpenFault<K>, node: usize) -> ReplayFault<
 }
 
 // Returns the keepers of the nodes, in their order, in the vector that was reserved for them.
-fn collect_keepers<K: Keep + Drop>(room: Vec<K>, nodes: Vec<Slot<K>>) -> Vec<K>
+fn collect_keepers<K: Keep>(room: Vec<K>, nodes: Vec<Slot<K>>) -> Vec<K>
     requires empty { room.items ≡ [] }
     requires room { vec_len nodes ≤ vec_capacity room }
     ensures clean { (chosen : ℕ → Bool) → AllClean chosen K.clean result.items

@@ -4,30 +4,29 @@
 mod database_file;
 
 use crate::database_file::DatabaseFile;
-use feed_command::Faults;
-use feed_node_commands::{Command, run_command};
+use feed_command::Console;
+use feed_node_commands::run_command;
+use feed_options::NodeCommand;
 use std::io::Write;
 
 // A command that ends soon keeps a file of up to 128 MiB in memory while it runs, so that SQLite reads each page twice
 // and not six times. A node runs on, and leaves the memory to its lists.
 const CACHE_LIMIT: u64 = 134_217_728;
 
-/// Runs a command on the database file at a path, prints its output to `out`, and returns the exit status.
+/// Runs a command on the database file at a path, prints its output to the console, and returns the exit status.
 pub fn run_at<O: Write, F: Write + Drop>(
-    rt: &HostRuntime,
     path: &str,
-    command: Command<'_>,
-    out: &mut O,
-    faults: &mut Faults<F>,
+    command: NodeCommand<'_>,
+    console: &mut Console<'_, O, F>,
 ) -> u8 {
     let cache_limit = match command {
-        Command::Node { .. } => 0,
-        Command::Database(_) => CACHE_LIMIT,
+        NodeCommand::Run(_) => 0,
+        NodeCommand::Database(_) => CACHE_LIMIT,
     };
     let database = DatabaseFile {
-        rt,
+        rt: console.rt,
         path,
         cache_limit,
     };
-    run_command(rt, &database, command, out, faults)
+    run_command(&database, command, console)
 }

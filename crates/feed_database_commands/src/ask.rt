@@ -1,10 +1,9 @@
 //! `kbfeed ask`: what a node answers to a query.
 use crate::database::{Database, close_keeper, open_existing_feed, report_no_release};
 use feed_answer::{Query, WriteFault};
-use feed_command::{DONE, FAILED, Faults, parse_query};
+use feed_command::{Console, DONE, FAILED, parse_query};
 use feed_keep::Keep;
 use feed_releases::{AnswerFault, Feed};
-use std::alloc::Global;
 use std::io::Write;
 
 /// Parses the query, opens the database and its feed, and prints the feed's answer for the package to `out`. The first
@@ -12,43 +11,40 @@ use std::io::Write;
 /// without an active release (`NoRelease`), and a database that is not ours or damaged, 3 for a failing device or print
 /// and for running out of memory.
 pub fn print_answer<D: Database, O: Write, F: Write + Drop>(
-    alloc: Global,
     database: &D,
     package: &str,
     query: &str,
-    out: &mut O,
-    faults: &mut Faults<F>,
+    console: &mut Console<'_, O, F>,
 ) -> u8 {
-    let query = match parse_query(alloc, query, faults) {
+    let query = match parse_query(query, console) {
         Ok(query) => query,
         Err(status) => return status,
     };
-    let feed = match open_existing_feed(alloc, database, faults) {
+    let feed = match open_existing_feed(database, console) {
         Ok(feed) => feed,
         Err(status) => return status,
     };
-    let status = print_feed_answer(&feed, package, &query, out, faults);
-    close_keeper(database, feed.restart(), faults);
+    let status = print_feed_answer(&feed, package, &query, console);
+    close_keeper(database, feed.restart(), console);
     status
 }
 
-fn print_feed_answer<K: Keep + Drop, O: Write, F: Write + Drop>(
+fn print_feed_answer<K: Keep, O: Write, F: Write + Drop>(
     feed: &Feed<K>,
     package: &str,
     query: &Query,
-    out: &mut O,
-    faults: &mut Faults<F>,
+    console: &mut Console<'_, O, F>,
 ) -> u8 {
     let answer = match feed.answer(package.as_bytes(), query) {
         Ok(answer) => answer,
-        Err(AnswerFault::Memory) => return faults.report(AnswerFault::Memory, FAILED),
-        Err(AnswerFault::NoRelease) => return report_no_release(faults, package),
+        Err(AnswerFault::Memory) => return console.faults.report(AnswerFault::Memory, FAILED),
+        Err(AnswerFault::NoRelease) => return report_no_release(package, console),
     };
     let Some(name) = feed.report(package.as_bytes()) else {
-        return report_no_release(faults, package);
+        return report_no_release(package, console);
     };
-    match answer.write(out, name) {
-        Ok(()) => faults.check_print(out.flush(), DONE),
-        Err(WriteFault::Write) => faults.report_unprinted(out),
+    match answer.write(&mut console.out, name) {
+        Ok(()) => console.faults.check_print(console.out.flush(), DONE),
+        Err(WriteFault::Write) => console.faults.report_unprinted(&mut console.out),
     }
 }

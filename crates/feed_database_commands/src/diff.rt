@@ -1,8 +1,9 @@
 //! `kbfeed diff --db`: what a new list changes in the release that a node answers from.
 use crate::database::{Database, close_keeper, open_existing_feed, report_no_release};
-use feed_command::{FAILED, Faults};
-use feed_file_commands::{Diff, compare_with};
+use feed_command::{Console, FAILED};
+use feed_file_commands::compare_with;
 use feed_keep::Keep;
+use feed_options::DiffOptions;
 use feed_releases::Feed;
 use feed_report::NamedList;
 use std::io::Write;
@@ -13,32 +14,28 @@ use std::io::Write;
 /// one that is bad or too long, and one that passes a bound; 3 for a failing device, read or print and for running out
 /// of memory.
 pub fn compare_active<D: Database, O: Write, F: Write + Drop>(
-    rt: &HostRuntime,
     database: &D,
     package: &str,
-    diff: Diff<'_>,
-    out: &mut O,
-    faults: &mut Faults<F>,
+    options: DiffOptions<'_>,
+    console: &mut Console<'_, O, F>,
 ) -> u8 {
-    let feed = match open_existing_feed(rt.alloc(), database, faults) {
+    let feed = match open_existing_feed(database, console) {
         Ok(feed) => feed,
         Err(status) => return status,
     };
-    let status = compare_with_feed(rt, &feed, package, diff, out, faults);
-    close_keeper(database, feed.restart(), faults);
+    let status = compare_with_feed(&feed, package, options, console);
+    close_keeper(database, feed.restart(), console);
     status
 }
 
-fn compare_with_feed<K: Keep + Drop, O: Write, F: Write + Drop>(
-    rt: &HostRuntime,
+fn compare_with_feed<K: Keep, O: Write, F: Write + Drop>(
     feed: &Feed<K>,
     package: &str,
-    diff: Diff<'_>,
-    out: &mut O,
-    faults: &mut Faults<F>,
+    options: DiffOptions<'_>,
+    console: &mut Console<'_, O, F>,
 ) -> u8 {
     let Ok(actives) = feed.actives() else {
-        return faults.report("Memory", FAILED);
+        return console.faults.report("Memory", FAILED);
     };
     for active in &actives {
         if active.name().package() == package.as_bytes() {
@@ -47,8 +44,8 @@ fn compare_with_feed<K: Keep + Drop, O: Write, F: Write + Drop>(
                 rows: active.holdings().rows(),
                 aside: active.holdings().aside(),
             };
-            return compare_with(rt, old, diff, out, faults);
+            return compare_with(old, options, console);
         }
     }
-    report_no_release(faults, package)
+    report_no_release(package, console)
 }

@@ -1,6 +1,6 @@
 //! `kbfeed export --scholar`: the holdings of a node as the XML of Google Scholar's library links.
 use crate::database::{Database, close_keeper, open_existing_feed};
-use feed_command::{DONE, FAILED, Faults};
+use feed_command::{Console, DONE, FAILED};
 use feed_keep::Keep;
 use feed_releases::{ActiveRelease, Feed};
 use feed_scholar::{LeftOut, count_left_out, write_end, write_items, write_start};
@@ -13,33 +13,32 @@ use std::{fmt, io};
 /// the exit status: 1 for a database that is not there (`NoRelease`), is not ours or is damaged, 3 for a failing device
 /// or print and for running out of memory.
 pub fn export_holdings<D: Database, O: Write, F: Write + Drop>(
-    alloc: Global,
     database: &D,
-    out: &mut O,
-    faults: &mut Faults<F>,
+    console: &mut Console<'_, O, F>,
 ) -> u8 {
-    let feed = match open_existing_feed(alloc, database, faults) {
+    let feed = match open_existing_feed(database, console) {
         Ok(feed) => feed,
         Err(status) => return status,
     };
-    let status = export_feed(alloc, &feed, database.name(), out, faults);
-    close_keeper(database, feed.restart(), faults);
+    let status = export_feed(&feed, database.name(), console);
+    close_keeper(database, feed.restart(), console);
     status
 }
 
-fn export_feed<K: Keep + Drop, O: Write, F: Write + Drop>(
-    alloc: Global,
+fn export_feed<K: Keep, O: Write, F: Write + Drop>(
     feed: &Feed<K>,
     database: &str,
-    out: &mut O,
-    faults: &mut Faults<F>,
+    console: &mut Console<'_, O, F>,
 ) -> u8 {
     let Ok(actives) = feed.actives() else {
-        return faults.report("Memory", FAILED);
+        return console.faults.report("Memory", FAILED);
     };
-    note_left_out(&actives, LeftOut::Book, database, faults);
-    note_left_out(&actives, LeftOut::OtherEmbargo, database, faults);
-    faults.check_print(print_releases(alloc, out, &actives), DONE)
+    note_left_out(&actives, LeftOut::Book, database, console);
+    note_left_out(&actives, LeftOut::OtherEmbargo, database, console);
+    console.faults.check_print(
+        print_releases(console.rt.alloc(), &mut console.out, &actives),
+        DONE,
+    )
 }
 
 fn print_releases<O: Write>(
@@ -78,17 +77,17 @@ impl fmt::Display for LeftOutRows {
 }
 
 // Notes how many rows are left out for a reason, if there are any.
-fn note_left_out<F: Write + Drop>(
+fn note_left_out<O: Write, F: Write + Drop>(
     actives: &[ActiveRelease<'_>],
     why: LeftOut,
     database: &str,
-    faults: &mut Faults<F>,
+    console: &mut Console<'_, O, F>,
 ) {
     let mut count = 0usize;
     for active in actives {
         count = count.saturating_add(count_left_out(active.holdings().rows(), why));
     }
     if count > 0 {
-        faults.note(database, LeftOutRows { count, why });
+        console.faults.note(database, LeftOutRows { count, why });
     }
 }

@@ -12,5 +12,5 @@ mod progress;
 mod status;
 mod why;
 
-pub use command::{DatabaseCommand, run_database_command};
+pub use command::run_database_command;
 pub use database::{Database, DatabaseFault, begin_feed, close_keeper, open_feed, report_keeper};

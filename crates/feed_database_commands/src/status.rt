@@ -1,8 +1,7 @@
 //! `kbfeed status`: the releases that a node has recorded.
 use crate::database::{Database, close_keeper, open_feed};
-use feed_command::{DONE, FAILED, Faults};
+use feed_command::{Console, DONE, FAILED};
 use feed_releases::ReleaseStatus;
-use std::alloc::Global;
 use std::io;
 use std::io::Write;
 
@@ -11,24 +10,24 @@ use std::io::Write;
 /// broken one, with a tab between each two. Returns the exit status: 1 for a database that is not ours or
 /// damaged, 3 for a failing device or print and for running out of memory.
 pub fn print_status<D: Database, O: Write, F: Write + Drop>(
-    alloc: Global,
     database: &D,
-    out: &mut O,
-    faults: &mut Faults<F>,
+    console: &mut Console<'_, O, F>,
 ) -> u8 {
     if !database.is_there() {
-        faults.note(database.name(), "it is not there");
+        console.faults.note(database.name(), "it is not there");
         return DONE;
     }
-    let feed = match open_feed(alloc, database, faults) {
+    let feed = match open_feed(database, console) {
         Ok(feed) => feed,
         Err(status) => return status,
     };
     let status = match feed.statuses() {
-        Ok(statuses) => faults.check_print(print_statuses(out, &statuses), DONE),
-        Err(_) => faults.report("Memory", FAILED),
+        Ok(statuses) => console
+            .faults
+            .check_print(print_statuses(&mut console.out, &statuses), DONE),
+        Err(_) => console.faults.report("Memory", FAILED),
     };
-    close_keeper(database, feed.restart(), faults);
+    close_keeper(database, feed.restart(), console);
     status
 }
 

@@ -30,7 +30,7 @@ pub enum FetchEnd {
 /// Returns the exit status that `kbfeed fetch` has after such an end: 0 if the release or a later one is reported, 1
 /// because of the peer or the file, 3 if a connection or device failed, or memory ran out. It is 4 if the node ended
 /// the fetch: the bytes received are kept, and another fetch continues.
-pub fn status_after<K: Keep + Drop>(feed: &Feed<K>, name: &ReleaseName, end: FetchEnd) -> u8
+pub fn status_after<K: Keep>(feed: &Feed<K>, name: &ReleaseName, end: FetchEnd) -> u8
     ensures { (h : History) → IsContent (recorded feed.now) h → IsEndStatus name.now end result h }
 {
     match end {
@@ -43,7 +43,7 @@ pub fn status_after<K: Keep + Drop>(feed: &Feed<K>, name: &ReleaseName, end: Fet
 
 /// Prints the last lines of the reply: the fault, if there is one, or why a release is broken that was complete before,
 /// and then the exit status, which it returns.
-pub fn print_end<K: Keep + Drop, O: Write>(
+pub fn print_end<K: Keep, O: Write>(
     feed: &Feed<K>,
     name: &ReleaseName,
     end: FetchEnd,

@@ -72,7 +72,7 @@ fn send<D: Dial>(
 
 /// Fetches the file of a release: runs a new `Fetch` over a dial, with one connection for each request. Prints each
 /// answer of the feed to `out`, as a line.
-pub fn fetch_file<D: Dial, K: Keep + Drop, O: Write>(
+pub fn fetch_file<D: Dial, K: Keep, O: Write>(
     alloc: Global,
     dial: &mut D,
     feed: &mut Feed<K>,
@@ -104,7 +104,7 @@ pub fn fetch_file<D: Dial, K: Keep + Drop, O: Write>(
 }
 
 /// Returns whether the release is the active one of its package.
-pub fn is_reported<K: Keep + Drop>(feed: &Feed<K>, name: &ReleaseName) -> bool
+pub fn is_reported<K: Keep>(feed: &Feed<K>, name: &ReleaseName) -> bool
     ensures reported { (h : History) → IsContent (recorded feed.now) h → IsTrue result → IsReported name.now h }
     ensures found { (h : History) → IsContent (recorded feed.now) h → IsReported name.now h → IsTrue result }
     ensures good { (h : History) → IsContent (recorded feed.now) h → ¬ (IsPassed h name.now)
@@ -139,7 +139,7 @@ pub fn print_stop<F: Write>(stop: Stop, faults: &mut Printer<F>) -> u8
 /// and its name. Returns the exit status: 0 if the release, or a later one, is then reported; 1 because of the peer or
 /// the file; 3 if a connection, device or print failed, or memory ran out. The bytes received are stored, and a further
 /// fetch resumes from there.
-pub fn fetch_with<D: Dial, K: Keep + Drop, O: Write, F: Write>(
+pub fn fetch_with<D: Dial, K: Keep, O: Write, F: Write>(
     alloc: Global,
     dial: &mut D,
     feed: &mut Feed<K>,

@@ -15,7 +15,7 @@ use crate::printer::Printer;
 use crate::replies::{handle_piece, take_length, take_range};
 use crate::stop::{RequestFault, Stop};
 use feed_dial::DialFault;
-use feed_http::Got;
+use feed_http::{FilePart, Got};
 use feed_keep::Keep;
 use feed_names::ReleaseName;
 use feed_releases::Feed;
@@ -95,7 +95,7 @@ impl Fetch {
     }
 
     /// Returns what the fetch of this release needs next.
-    pub fn next<K: Keep + Drop>(&self, feed: &Feed<K>, name: &ReleaseName) -> Next
+    pub fn next<K: Keep>(&self, feed: &Feed<K>, name: &ReleaseName) -> Next
         ensures { (h : History) → IsContent (recorded feed.now) h
             → IsNextStep name.now self.now.piece self.now.phase h result }
     {
@@ -110,7 +110,7 @@ impl Fetch {
     }
 
     // Submits the events of a reply to the feed.
-    fn submit<K: Keep + Drop, O: Write>(
+    fn submit<K: Keep, O: Write>(
         self,
         feed: &mut Feed<K>,
         name: &ReleaseName,
@@ -134,7 +134,7 @@ impl Fetch {
 
     /// Takes the reply to the last request, or why there is none: submits its events to the feed, and prints them and
     /// the feed's answers. Returns why the fetch stops, if it does.
-    pub fn take<K: Keep + Drop, O: Write>(
+    pub fn take<K: Keep, O: Write>(
         &mut self,
         feed: &mut Feed<K>,
         name: &ReleaseName,
@@ -157,27 +157,30 @@ impl Fetch {
     }
 
     /// Takes a part of a whole file whose length the reply stated, before the rest of it has arrived: submits it to the
-    /// feed as a piece from the place `first`, and prints the feed's answer. Returns whether the part had new bytes, or
-    /// why the fetch stops.
-    pub fn take_part<K: Keep + Drop, O: Write>(
+    /// feed as a piece, and prints the feed's answer. Returns whether the part had new bytes, or why the fetch stops.
+    pub fn take_part<K: Keep, O: Write>(
         &mut self,
         feed: &mut Feed<K>,
         name: &ReleaseName,
-        first: u64,
-        length: u64,
-        bytes: &[u8],
+        part: &FilePart<'_>,
         out: &mut Printer<O>,
     ) -> Result<bool, Stop>
-        ensures extends { (file : List ℕ) → IsArrivedPart file first length bytes.now
+        ensures extends { (file : List ℕ) → IsArrivedPart file part.now.first part.now.length part.now.bytes.now
             → IsExtension (IsTakenFrom name.now (Got.Whole file))
             (λ k. IfErr result (λ stop. IsStoppedAt name.now stop k)) (recorded feed.old) (recorded feed.new) }
         ensures right { HasRightAnswer
             (λ answer. (result ≡ piece_result (reply_or_stop answer)) ⊎ (result ≡ Err Stop.Print))
-            (recorded feed.old) (Piece name.now first (Some length) bytes.now) (recorded feed.new) }
+            (recorded feed.old) (Piece name.now part.now.first (Some part.now.length) part.now.bytes.now)
+            (recorded feed.new) }
         ensures caused { IfErr result (λ stop. HasCause (has_failed out.new) None stop) }
         ensures phase { self.new.phase ≡ phase_after_part self.old.phase result }
         ensures piece { self.new.piece ≡ self.old.piece }
     {
+        let FilePart {
+            first,
+            length,
+            bytes,
+        } = *part;
         let taken = handle_piece(feed, name, first, Some(length), bytes, out);
         self.phase = phase_after_part(self.phase, taken);
         taken

@@ -29,7 +29,7 @@ pub struct Order<'a> {
     pub piece: u64,
 }
 
-fn fetch_from<A: Archive, K: Keep + Drop, O: Write, F: Write>(
+fn fetch_from<A: Archive, K: Keep, O: Write, F: Write>(
     alloc: Global,
     archive: &[NamedFile],
     feed: &mut Feed<K>,
@@ -62,7 +62,7 @@ fn fetch_from<A: Archive, K: Keep + Drop, O: Write, F: Write>(
 
 /// Fetches the file of a release with `fetch_with` from a server over these files. If a name appears twice, the first
 /// file counts. Its contract is that of `fetch_with` for a known peer, here without a premise about the peer.
-pub fn fetch_from_memory<K: Keep + Drop, O: Write, F: Write>(
+pub fn fetch_from_memory<K: Keep, O: Write, F: Write>(
     alloc: Global,
     files: &[NamedFile],
     feed: &mut Feed<K>,

@@ -31,7 +31,7 @@ use feed_releases::{Event, Feed};
 use std::io::Write;
 
 /// Passes an event to the feed, and prints its answer.
-pub fn handle_event<K: Keep + Drop, O: Write>(
+pub fn handle_event<K: Keep, O: Write>(
     feed: &mut Feed<K>,
     event: &Event<'_>,
     out: &mut Printer<O>,
@@ -71,7 +71,7 @@ fn has_new_bytes(reply: Reply) -> bool
 }
 
 /// Passes a piece to the feed, and returns whether it had new bytes.
-pub fn handle_piece<K: Keep + Drop, O: Write>(
+pub fn handle_piece<K: Keep, O: Write>(
     feed: &mut Feed<K>,
     name: &ReleaseName,
     first: u64,
@@ -96,7 +96,7 @@ pub fn handle_piece<K: Keep + Drop, O: Write>(
 
 // Passes the whole file to the feed in pieces, in order, up to the first answer that is neither `stored` nor
 // `repeated`.
-fn handle_whole<K: Keep + Drop, O: Write>(
+fn handle_whole<K: Keep, O: Write>(
     feed: &mut Feed<K>,
     name: &ReleaseName,
     bytes: &[u8],
@@ -129,7 +129,7 @@ fn handle_whole<K: Keep + Drop, O: Write>(
 }
 
 /// Passes the result of a GET to the feed, and returns whether it had new bytes.
-pub fn handle_reply<K: Keep + Drop, O: Write>(
+pub fn handle_reply<K: Keep, O: Write>(
     feed: &mut Feed<K>,
     name: &ReleaseName,
     got: &Got,
@@ -162,7 +162,7 @@ pub fn handle_reply<K: Keep + Drop, O: Write>(
 }
 
 // Reports a failed request to the feed, unless there was no connection.
-fn report_loss<K: Keep + Drop, O: Write>(
+fn report_loss<K: Keep, O: Write>(
     feed: &mut Feed<K>,
     name: &ReleaseName,
     why: RequestFault,
@@ -186,7 +186,7 @@ fn report_loss<K: Keep + Drop, O: Write>(
 }
 
 // Offers the release to the feed.
-fn offer_size<K: Keep + Drop, O: Write>(
+fn offer_size<K: Keep, O: Write>(
     feed: &mut Feed<K>,
     name: &ReleaseName,
     size: u64,
@@ -235,7 +235,7 @@ fn print_size<O: Write>(got: &Got, out: &mut Printer<O>) -> Result<u64, Stop>
 }
 
 /// Takes the reply to a HEAD: prints the length that it states, and offers the release to the feed.
-pub fn take_length<K: Keep + Drop, O: Write>(
+pub fn take_length<K: Keep, O: Write>(
     feed: &mut Feed<K>,
     name: &ReleaseName,
     reply: &Result<Got, RequestFault>,
@@ -259,7 +259,7 @@ pub fn take_length<K: Keep + Drop, O: Write>(
 }
 
 /// Takes the reply to a GET: passes the bytes received to the feed.
-pub fn take_range<K: Keep + Drop, O: Write>(
+pub fn take_range<K: Keep, O: Write>(
     feed: &mut Feed<K>,
     name: &ReleaseName,
     reply: &Result<Got, RequestFault>,

@@ -3,7 +3,7 @@ use Rattle.std.specs.Prelude.{◌≡◌, ◌-◌, ◌*◌, ◌++◌, ℕ, Bool, 
 use Rattle.feed_kbart.specs.Files.{bad_of, holdings_of}
 use Rattle.feed_kbart.specs.HoldingsValue.{HoldingsValue}
 use Rattle.feed_kbart.specs.declared.fault.BadFile.{BadFile}
-use Rattle.feed_list_check.specs.Checks.{IsCheckOfList}
+use Rattle.feed_kbart.specs.ListChecks.{IsCheckOfList}
 use Rattle.feed_names.specs.ReleaseName.{Name}
 use Rattle.feed_model.specs.History.{History, IsFile, Reports}
 use Rattle.feed_file_checks.specs.declared.list_counts.ListCounts.{ListCounts}

@@ -16,7 +16,7 @@ use crate::expected_file::ExpectedFile;
 use crate::file_type::has_other_type;
 use crate::front_sum::FrontSum;
 use crate::shrink_gate::{HeldList, Hindrance, ShrinkGate};
-use feed_http::Got;
+use feed_http::{FilePart, Got};
 use feed_keep::Keep;
 use feed_names::ReleaseName;
 use feed_releases::Feed;
@@ -66,53 +66,51 @@ pub struct FileCheck {
     pub(crate) gate: Option<ShrinkGate>,
 }
 
-// Returns how a file differs from one with this sum, by its bytes from the place `first` on and its length.
+// Returns how a file differs from one with this sum, by a part of it.
 fn sum_mismatch(
     front: &mut FrontSum,
     sum: Option<[u8; 32]>,
-    first: u64,
-    size: u64,
-    bytes: &[u8],
+    part: &FilePart<'_>,
 ) -> Option<Mismatch>
     ensures allowed { (wanted seen : List ℕ) → sum ≡ Some wanted → HasSeen front.old seen → result ≡ None
-        → MayTake seen first bytes.now size wanted }
+        → MayTake seen part.now.first part.now.bytes.now part.now.length wanted }
     ensures mismatch { (seen : List ℕ) → ((wanted : List ℕ) → sum ≡ Some wanted → HasSeen front.old seen)
-        → IsSumMismatch sum seen first bytes.now size result }
+        → IsSumMismatch sum seen part.now.first part.now.bytes.now part.now.length result }
     ensures seen { (wanted seen : List ℕ) → sum ≡ Some wanted → HasSeen front.old seen → result ≡ None
-        → HasSeen front.new (seen_with seen first bytes.now) }
+        → HasSeen front.new (seen_with seen part.now.first part.now.bytes.now) }
 {
     let sum = sum?;
-    if front.may_take(first, bytes, size, &sum) {
+    if front.may_take(part.first, part.bytes, part.length, &sum) {
         None
     } else {
         Some(Mismatch::Sum)
     }
 }
 
-// Returns why a list does not pass the gate, by its bytes from the place `first` on and its length.
-fn gate_mismatch<K: Keep + Drop>(
+// Returns why a list does not pass the gate, by a part of it.
+fn gate_mismatch<K: Keep>(
     gate: &mut Option<ShrinkGate>,
     alloc: Global,
     feed: &Feed<K>,
     name: &ReleaseName,
-    first: u64,
-    size: u64,
-    bytes: &[u8],
+    part: &FilePart<'_>,
 ) -> Option<Mismatch>
     ensures passed { (h : History) (before : ShrinkGate) (seen : List ℕ) → IsContent (recorded feed.now) h
         → gate.old ≡ Some before → HasCounted before.rows seen → result ≡ None
-        → IsChecked h name.now.stem before.percent seen first bytes.now size (Ok tt) }
+        → IsChecked h name.now.stem before.percent seen part.now.first part.now.bytes.now part.now.length (Ok tt) }
     ensures counted { (before : ShrinkGate) (seen : List ℕ) → gate.old ≡ Some before → HasCounted before.rows seen
-        → result ≡ None → IfSome gate.new (λ after. HasCounted after.rows (seen_with seen first bytes.now)
+        → result ≡ None → IfSome gate.new (λ after.
+        HasCounted after.rows (seen_with seen part.now.first part.now.bytes.now)
         × (after.percent ≡ before.percent)) }
     ensures received { (seen : List ℕ) → IfSome gate.old (λ before. HasCounted before.rows seen)
-        → result ≡ None → IfSome gate.new (λ after. HasCounted after.rows (seen_with seen first bytes.now)) }
+        → result ≡ None → IfSome gate.new (λ after.
+        HasCounted after.rows (seen_with seen part.now.first part.now.bytes.now)) }
     ensures mismatch { (h : History) (seen : List ℕ) → IsContent (recorded feed.now) h
         → IfSome gate.old (λ before. HasCounted before.rows seen)
-        → IsGateMismatch h name.now.stem gate.old seen first bytes.now size result }
+        → IsGateMismatch h name.now.stem gate.old seen part.now.first part.now.bytes.now part.now.length result }
 {
     let gate = gate.as_mut()?;
-    match gate.check(alloc, feed, name, first, bytes, size) {
+    match gate.check(alloc, feed, name, part) {
         Ok(()) => None,
         Err(Hindrance::Held(held)) => Some(Mismatch::Rows(held)),
         Err(Hindrance::OtherRange) => Some(Mismatch::Range),
@@ -197,7 +195,7 @@ impl FileCheck {
 
     /// Returns how the file differs from what the client and the node expect, by the result of a request for the
     /// release.
-    pub fn mismatch_of<K: Keep + Drop>(
+    pub fn mismatch_of<K: Keep>(
         &mut self,
         alloc: Global,
         feed: &Feed<K>,
@@ -229,11 +227,20 @@ impl FileCheck {
                 if self.read_size().is_some() && *first != self.count() {
                     return Some(self.range_mismatch());
                 }
-                self.part_mismatch(alloc, feed, name, *first, self.size, bytes.as_slice())
+                let part = FilePart {
+                    first: *first,
+                    length: self.size,
+                    bytes: bytes.as_slice(),
+                };
+                self.part_mismatch(alloc, feed, name, &part)
             }
             Got::Whole { bytes } => {
-                let size = bytes.as_slice().len() as u64;
-                self.part_mismatch(alloc, feed, name, 0, size, bytes.as_slice())
+                let part = FilePart {
+                    first: 0,
+                    length: bytes.as_slice().len() as u64,
+                    bytes: bytes.as_slice(),
+                };
+                self.part_mismatch(alloc, feed, name, &part)
             }
             Got::Missing | Got::Unsatisfied { total: _ } => None,
         }
@@ -249,39 +256,39 @@ impl FileCheck {
         }
     }
 
-    /// Returns how the file of a release differs, by its bytes from the place `first` on and its length.
-    pub fn part_mismatch<K: Keep + Drop>(
+    /// Returns how the file of a release differs, by a part of it.
+    pub fn part_mismatch<K: Keep>(
         &mut self,
         alloc: Global,
         feed: &Feed<K>,
         name: &ReleaseName,
-        first: u64,
-        size: u64,
-        bytes: &[u8],
+        part: &FilePart<'_>,
     ) -> Option<Mismatch>
-        ensures size { result ≡ None → has_size self.old.expected.size size ≡ true }
+        ensures size { result ≡ None → has_size self.old.expected.size part.now.length ≡ true }
         ensures sum { (wanted seen : List ℕ) → self.old.expected.sum ≡ Some wanted → HasSeen self.old.front seen
-            → result ≡ None → MayTake seen first bytes.now size wanted }
+            → result ≡ None → MayTake seen part.now.first part.now.bytes.now part.now.length wanted }
         ensures rows { (h : History) (before : ShrinkGate) (seen : List ℕ) → IsContent (recorded feed.now) h
             → self.old.gate ≡ Some before → HasCounted before.rows seen → result ≡ None
-            → IsChecked h name.now.stem before.percent seen first bytes.now size (Ok tt) }
+            → IsChecked h name.now.stem before.percent seen part.now.first part.now.bytes.now part.now.length (Ok tt) }
         ensures counted { (before : ShrinkGate) (seen : List ℕ) → self.old.gate ≡ Some before
             → HasCounted before.rows seen → result ≡ None → IfSome self.new.gate (λ after.
-            HasCounted after.rows (seen_with seen first bytes.now) × (after.percent ≡ before.percent)) }
+            HasCounted after.rows (seen_with seen part.now.first part.now.bytes.now)
+            × (after.percent ≡ before.percent)) }
         ensures mismatch { (h : History) (seen : List ℕ) → IsContent (recorded feed.now) h
-            → HasReceived self.old seen → IsPartMismatch h name.now.stem self.old seen first bytes.now size result }
+            → HasReceived self.old seen → IsPartMismatch h name.now.stem self.old seen
+            part.now.first part.now.bytes.now part.now.length result }
         ensures received { (seen : List ℕ) → HasReceived self.old seen → result ≡ None
-            → HasReceived self.new (seen_with seen first bytes.now) }
+            → HasReceived self.new (seen_with seen part.now.first part.now.bytes.now) }
         ensures expected { self.new.expected ≡ self.old.expected }
         ensures kept_size { self.new.size ≡ self.old.size }
     {
-        if let Some(mismatch) = self.size_mismatch(size) {
+        if let Some(mismatch) = self.size_mismatch(part.length) {
             return Some(mismatch);
         }
         let sum = self.expected.sum;
-        if let Some(mismatch) = sum_mismatch(&mut self.front, sum, first, size, bytes) {
+        if let Some(mismatch) = sum_mismatch(&mut self.front, sum, part) {
             return Some(mismatch);
         }
-        gate_mismatch(&mut self.gate, alloc, feed, name, first, size, bytes)
+        gate_mismatch(&mut self.gate, alloc, feed, name, part)
     }
 }

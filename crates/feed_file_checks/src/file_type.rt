@@ -4,12 +4,11 @@ ghost use Rattle.std.specs.List.{position};
 ghost use Rattle.httparse.specs.Grammar.{Field, ResponseHead};
 ghost use Rattle.httparse.specs.Spans.{IsResponseAt, IsResponseWithin};
 ghost use Rattle.feed_http_heads.specs.Fields.{AreWithin, AreFieldsOf};
-ghost use Rattle.feed_http_heads.specs.ReplyHeads.{is_interim_status};
 ghost use Rattle.feed_file_checks.specs.FileTypes.{ends_media, has_other_type, is_other_media, media_of};
 ghost use Rattle.feed_file_checks.specs.FileTypes.{has_other_name, has_other_part, last_of};
 ghost use Rattle.feed_file_checks.specs.FileTypes.{HasOtherType, has_file, is_of_other_file};
 
-use feed_http_heads::{FIELD_LIMIT, Fields, HEAD_LIMIT};
+use feed_http_heads::{FIELD_LIMIT, Fields, HEAD_LIMIT, is_interim};
 use httparse::Status;
 use httparse::spans::{EMPTY_HEADER_SPAN, HeaderSpan, ResponseSpans, parse_response};
 
@@ -79,12 +78,6 @@ fn states_other_type(fields: &Fields<'_>) -> bool
         Some(value) => is_other_media(media_of(value)),
         None => false,
     }
-}
-
-fn is_interim(code: u16) -> bool
-    ensures { result ≡ is_interim_status code }
-{
-    (100..200).contains(&code)
 }
 
 fn has_file(code: u16) -> bool

@@ -34,7 +34,7 @@ impl ListCounts {
 /// # Errors
 ///
 /// Running out of memory.
-pub fn active_counts<K: Keep + Drop>(
+pub fn active_counts<K: Keep>(
     feed: &Feed<K>,
     package: &[u8],
 ) -> Result<Option<ListCounts>, AllocError>

@@ -1,11 +1,10 @@
 //! Counts the rows of a list from its front on, while its bytes arrive.
 ghost use Rattle.std.specs.Prelude.{◌≡◌, ◌≤◌, ◌+◌, ◌++◌, ℕ, List, [], length, IfOk, IfSome};
-ghost use Rattle.feed_list_check.specs.Checks.{IsCheckOfList};
+ghost use Rattle.feed_kbart.specs.ListChecks.{IsCheckOfList};
 ghost use Rattle.feed_file_checks.specs.RowCounts.{AreCountsOf, HasCounted, seen_with};
 
 use crate::list_counts::ListCounts;
-use feed_kbart::KbartFault;
-use feed_list_check::ListCheck;
+use feed_kbart::{KbartFault, ListCheck};
 use std::alloc::{AllocError, Global};
 
 /// The check of a list up to the first byte that has not arrived. It is gone if memory ran out.

@@ -8,6 +8,7 @@ ghost use Rattle.feed_file_checks.specs.ShrinkGates.{IsChecked, IsGateBy, IsWhol
 
 use crate::list_counts::{ListCounts, active_counts, rows_before};
 use crate::row_count::RowCount;
+use feed_http::FilePart;
 use feed_keep::Keep;
 use feed_names::ReleaseName;
 use feed_releases::Feed;
@@ -69,7 +70,7 @@ impl ShrinkGate {
     }
 
     // Checks a whole list, whose bytes are counted.
-    fn check_whole<K: Keep + Drop>(
+    fn check_whole<K: Keep>(
         &mut self,
         alloc: Global,
         feed: &Feed<K>,
@@ -96,28 +97,30 @@ impl ShrinkGate {
         Ok(())
     }
 
-    /// Counts the rows of the bytes of a list of this length from the place `first` on, before they are submitted to
-    /// the feed as a part of the release.
+    /// Counts the rows of a part of a list, before it is submitted to the feed as a part of the release.
     ///
     /// # Errors
     ///
     /// `Held` if the list ends with them, is good, and has too few rows, `OtherRange`, and `Memory`.
-    pub fn check<K: Keep + Drop>(
+    pub fn check<K: Keep>(
         &mut self,
         alloc: Global,
         feed: &Feed<K>,
         name: &ReleaseName,
-        first: u64,
-        bytes: &[u8],
-        size: u64,
+        part: &FilePart<'_>,
     ) -> Result<(), Hindrance>
         ensures checked { (h : History) (seen : List ℕ) → IsContent (recorded feed.now) h
             → HasCounted self.old.rows seen
-            → IsChecked h name.now.stem self.old.percent seen first bytes.now size result }
+            → IsChecked h name.now.stem self.old.percent seen part.now.first part.now.bytes.now part.now.length result }
         ensures counted { (seen : List ℕ) → HasCounted self.old.rows seen
-            → OnOk result (HasCounted self.new.rows (seen_with seen first bytes.now)) }
+            → OnOk result (HasCounted self.new.rows (seen_with seen part.now.first part.now.bytes.now)) }
         ensures percent { self.new.percent ≡ self.old.percent }
     {
+        let FilePart {
+            first,
+            length: size,
+            bytes,
+        } = *part;
         let Some(end) = first.checked_add(bytes.len() as u64) else {
             return Err(Hindrance::OtherRange);
         };

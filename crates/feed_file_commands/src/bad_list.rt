@@ -1,7 +1,7 @@
 //! Hints on a bad list: what the file probably is, and where its text is not UTF-8.
 ghost use Rattle.std.specs.Prelude.{◌≤◌, length};
 
-use feed_command::Faults;
+use feed_command::Console;
 use feed_kbart::BadFile;
 use feed_limits::FILE_LIMIT;
 use std::alloc::Global;
@@ -52,40 +52,38 @@ impl fmt::Display for Place {
 
 /// Notes what is known of a bad list at a path, which it reads again. It does not read anything but a plain file again,
 /// since that may wait, as it does for a pipe.
-pub fn note_bad_file<F: Write + Drop>(
-    rt: &HostRuntime,
+pub fn note_bad_file<O: Write, F: Write + Drop>(
     path: &str,
     about: &str,
     why: BadFile,
-    faults: &mut Faults<F>,
+    console: &mut Console<'_, O, F>,
 ) {
-    match fs::metadata(rt, path) {
+    match fs::metadata(console.rt, path) {
         Ok(metadata) if metadata.is_file() => {}
         _ => return,
     }
-    if let Ok(file) = File::open(rt, path) {
-        note_bad_list(rt.alloc(), file, about, why, faults);
+    if let Ok(file) = File::open(console.rt, path) {
+        note_bad_list(file, about, why, console);
     }
 }
 
 /// Notes what is known of a bad list: that it is packed or in UTF-16, that its header has commas in place of tabs, or
 /// where it is not UTF-8.
-pub fn note_bad_list<R: Read + Drop, F: Write + Drop>(
-    alloc: Global,
+pub fn note_bad_list<R: Read + Drop, O: Write, F: Write + Drop>(
     list: R,
     about: &str,
     why: BadFile,
-    faults: &mut Faults<F>,
+    console: &mut Console<'_, O, F>,
 ) {
     let mut list = list;
-    let Ok(front) = read_block(alloc, &mut list) else {
+    let Ok(front) = read_block(console.rt.alloc(), &mut list) else {
         return;
     };
     match (hint_of(&front, why), why) {
-        (Some(hint), _) => faults.note(about, hint),
+        (Some(hint), _) => console.faults.note(about, hint),
         (None, BadFile::NotUtf8) => {
-            if let Ok(Some(place)) = first_bad(alloc, front, &mut list) {
-                faults.note(about, place);
+            if let Ok(Some(place)) = first_bad(console.rt.alloc(), front, &mut list) {
+                console.faults.note(about, place);
             }
         }
         _ => {}

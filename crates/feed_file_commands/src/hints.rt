@@ -1,5 +1,5 @@
 //! Hints below the cause of a fault: the name or the address that was probably meant.
-use feed_command::{Faults, parse_name};
+use feed_command::{Console, parse_name};
 use feed_names::ReleaseName;
 use std::alloc::{AllocError, Global};
 use std::fmt;
@@ -55,26 +55,25 @@ impl fmt::Display for LackingPort<'_> {
 
 /// Parses the name of a release, as `parse_name` does. Below the fault of an invalid one, notes the name that was
 /// probably meant.
-pub fn parse_meant_name<F: Write + Drop>(
-    alloc: Global,
+pub fn parse_meant_name<O: Write, F: Write + Drop>(
     text: &str,
     status: u8,
     advice: Advice,
-    faults: &mut Faults<F>,
+    console: &mut Console<'_, O, F>,
 ) -> Result<ReleaseName, u8> {
-    match parse_name(alloc, text, status, faults) {
+    match parse_name(text, status, console) {
         Ok(name) => Ok(name),
         Err(status) => {
-            note_meant_name(alloc, text, advice, faults);
+            note_meant_name(text, advice, console);
             Err(status)
         }
     }
 }
 
 /// Notes that an address has no port, if it has none.
-pub fn note_port<F: Write + Drop>(addr: &str, faults: &mut Faults<F>) {
+pub fn note_port<O: Write, F: Write + Drop>(addr: &str, console: &mut Console<'_, O, F>) {
     if lacks_port(addr) {
-        faults.note(addr, LackingPort { addr });
+        console.faults.note(addr, LackingPort { addr });
     }
 }
 
@@ -91,15 +90,14 @@ fn lacks_port(addr: &str) -> bool {
     }
 }
 
-fn note_meant_name<F: Write + Drop>(
-    alloc: Global,
+fn note_meant_name<O: Write, F: Write + Drop>(
     text: &str,
     advice: Advice,
-    faults: &mut Faults<F>,
+    console: &mut Console<'_, O, F>,
 ) {
-    if let Ok(Some(name)) = meant_name(alloc, text.as_bytes()) {
+    if let Ok(Some(name)) = meant_name(console.rt.alloc(), text.as_bytes()) {
         let name = str::from_utf8(name.text()).unwrap_or("");
-        faults.note(text, MeantName { advice, name });
+        console.faults.note(text, MeantName { advice, name });
     }
 }
 

@@ -11,8 +11,8 @@ mod openurl;
 mod serve;
 
 pub use answer::answer_file;
-pub use check::{Check, check_files};
-pub use diff::{Bounds, Diff, compare_files, compare_with};
+pub use check::check_files;
+pub use diff::{compare_files, compare_with};
 pub use hints::{Advice, note_port, parse_meant_name};
 pub use openurl::explain_query;
 pub use serve::serve_folder;

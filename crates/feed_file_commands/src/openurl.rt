@@ -1,5 +1,5 @@
 //! `kbfeed openurl`: how a query is understood, in lines or as JSON.
-use feed_command::{DONE, FAILED, Faults, REFUSED};
+use feed_command::{Console, DONE, FAILED, REFUSED};
 use feed_openurl::{Citation, Dropped, PARTS, Part, Refusal, Understanding, dropped_keys};
 use std::alloc::{AllocError, Global};
 use std::io;
@@ -19,27 +19,27 @@ struct Reading {
 /// that nobody reads. Returns the exit status: 1 for a query with nothing to look up, whose reason is reported, 3 for a
 /// failing print and for running out of memory.
 pub fn explain_query<O: Write, F: Write + Drop>(
-    rt: &HostRuntime,
     query: &str,
     is_json: bool,
-    out: &mut O,
-    faults: &mut Faults<F>,
+    console: &mut Console<'_, O, F>,
 ) -> u8 {
-    let Ok(reading) = read(rt.alloc(), query) else {
-        return faults.report("Memory", FAILED);
+    let Ok(reading) = read(console.rt.alloc(), query) else {
+        return console.faults.report("Memory", FAILED);
     };
     let printed = if is_json {
-        print_json(rt.alloc(), &reading, out)
+        print_json(console.rt.alloc(), &reading, &mut console.out)
     } else {
-        print_lines(&reading, out)
+        print_lines(&reading, &mut console.out)
     };
     if printed.is_err() {
-        return faults.report_unprinted(out);
+        return console.faults.report_unprinted(&mut console.out);
     }
-    let status = faults.check_print(out.flush(), DONE);
+    let status = console.faults.check_print(console.out.flush(), DONE);
     match reading.understood.refusal() {
         Some(refusal) if status == DONE => {
-            faults.report_with(refusal, query, cause_of(refusal), REFUSED)
+            console
+                .faults
+                .report_with(refusal, query, cause_of(refusal), REFUSED)
         }
         _ => status,
     }

@@ -1,8 +1,9 @@
 //! `kbfeed serve`: a folder of releases for any HTTP client.
 use crate::folder::Folder;
 use crate::hints::note_port;
-use feed_command::{DONE, FAILED, Faults};
+use feed_command::{Console, DONE, FAILED};
 use feed_http::{HttpFault, Shelf, serve_one};
+use feed_options::ServeOptions;
 use feed_tcp::{TimedReader, TimedWriter};
 use std::io;
 use std::io::{ErrorKind, Read, Write};
@@ -19,56 +20,58 @@ const LINGERING_READS: u32 = 16;
 
 const LINGERING_WAIT: u64 = 100;
 
-/// Serves the releases of a folder at an address. It prints `listening` and then serves `count` connections one after
-/// another. Each may take `time` for its request, and as long for its reply. For each it prints `served STATUS` or
-/// `fault NAME` at once. Returns the exit status: 0 once all were served, 3 if the address cannot be bound, a
+/// Serves the releases of a folder at an address. It prints `listening` and then serves connections one after another.
+/// Each may take the time of the options for its request, and as long for its reply. For each it prints `served STATUS`
+/// or `fault NAME` at once. Returns the exit status: 0 once all were served, 3 if the address cannot be bound, a
 /// connection cannot be accepted or a line cannot be printed, which is reported.
 pub fn serve_folder<O: Write, F: Write + Drop>(
-    rt: &HostRuntime,
-    dir: &str,
-    addr: &str,
-    count: u64,
-    time: Duration,
-    out: &mut O,
-    faults: &mut Faults<F>,
+    options: ServeOptions<'_>,
+    console: &mut Console<'_, O, F>,
 ) -> u8 {
-    let listener = match TcpListener::bind(rt, addr) {
+    let ServeOptions { dir, addr, .. } = options;
+    let listener = match TcpListener::bind(console.rt, addr) {
         Ok(listener) => listener,
         Err(error) => {
-            let status = faults.report_with("Bind", addr, error, FAILED);
-            note_port(addr, faults);
+            let status = console.faults.report_with("Bind", addr, error, FAILED);
+            note_port(addr, console);
             return status;
         }
     };
-    let mut folder = Folder::new(rt, dir);
+    let mut folder = Folder::new(console.rt, dir);
     if !folder.is_there() {
-        faults.note(dir, "no such folder, so each name is answered by 404");
+        console
+            .faults
+            .note(dir, "no such folder, so each name is answered by 404");
     }
-    let announced = writeln!(out, "listening").and_then(|()| out.flush());
+    let announced = print_listening(&mut console.out);
     if let Err(error) = announced {
-        return faults.check_print(Err(error), FAILED);
+        return console.faults.check_print(Err(error), FAILED);
     }
-    serve_connections(rt, &listener, &mut folder, count, time, out, faults)
+    serve_connections(&listener, &mut folder, options, console)
+}
+
+fn print_listening<O: Write>(out: &mut O) -> io::Result<()> {
+    writeln!(out, "listening")?;
+    out.flush()
 }
 
 // Serves connections from a shelf, one after another.
 fn serve_connections<S: Shelf, O: Write, F: Write + Drop>(
-    rt: &HostRuntime,
     listener: &TcpListener,
     shelf: &mut S,
-    count: u64,
-    time: Duration,
-    out: &mut O,
-    faults: &mut Faults<F>,
+    options: ServeOptions<'_>,
+    console: &mut Console<'_, O, F>,
 ) -> u8 {
-    for _ in 0..count {
+    for _ in 0..options.count {
         let stream = match accept(listener) {
             Ok(stream) => stream,
-            Err(error) => return faults.report_with("Accept", "the next connection", error, FAILED),
+            Err(error) => return console
+                .faults
+                .report_with("Accept", "the next connection", error, FAILED),
         };
-        let outcome = serve_connection(rt, &stream, shelf, time);
-        if let Err(error) = print_outcome(out, outcome) {
-            return faults.check_print(Err(error), FAILED);
+        let outcome = serve_connection(console.rt, &stream, shelf, options.time);
+        if let Err(error) = print_outcome(&mut console.out, outcome) {
+            return console.faults.check_print(Err(error), FAILED);
         }
     }
     DONE

@@ -8,7 +8,7 @@ mod limits;
 mod serving;
 
 pub use feed_http_heads::HttpFault;
-pub use fetching::got::{Bytes, Got, Method};
+pub use fetching::got::{Bytes, FilePart, Got, Method};
 pub use fetching::reply::read_reply;
 pub use fetching::reply_scan::{ReplyBody, ReplyScan};
 pub use fetching::request_text::{is_host, write_head_request, write_request};

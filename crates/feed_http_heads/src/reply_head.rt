@@ -22,7 +22,8 @@ pub struct ReplyRead {
     pub filled: usize,
 }
 
-fn is_interim(status: u16) -> bool
+/// Returns whether a reply with this status is interim, so that another one follows (RFC 9110, section 15.2).
+pub fn is_interim(status: u16) -> bool
     ensures { result ≡ is_interim_status status }
 {
     (100..200).contains(&status)

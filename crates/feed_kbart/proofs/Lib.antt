@@ -1,6 +1,15 @@
+pub mod Labels
 pub mod Places
+pub mod Headers
+pub mod Lines
+pub mod Cells
+pub mod Singles
+pub mod Longs
+pub mod Cuts
+pub mod Lasts
+pub mod Takes
+pub mod Arrivals
 pub mod Steps
-pub mod Readings
 pub mod Columns
 pub mod Merging
 pub mod Ordered
@@ -9,3 +18,5 @@ pub mod Stored
 pub mod Wholes
 pub mod Drafts
 pub mod Tabled
+pub mod Readings
+pub mod Lists

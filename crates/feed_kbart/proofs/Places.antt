@@ -1,5 +1,5 @@
 -- Looking for a field from its front.
-use Rattle.std.proofs.Common.{◌≡◌, ◌+◌, ℕ, zero, suc, List, [], ◌∷◌, drop, Some, None, refl, arith, Bool, true, false, cond}
+use Rattle.std.proofs.Common.{◌≡◌, ◌+◌, ℕ, zero, suc, List, [], ◌∷◌, ◌++◌, drop, take, length, Some, None, refl, ap, arith, Bool, true, false, cond}
 use Rattle.std.specs.List.{position_from}
 use Rattle.std.specs.List.{count_by}
 use Rattle.std.proofs.lemmas.List.Sums.{sum_by-cons}
@@ -45,3 +45,26 @@ count-next test fields i f e = rw (drop-field_at fields i f e) (sum_by-cons (λ 
 
 pub count-end : (test : List ℕ → Bool) (fields : List (List ℕ)) (i : ℕ) → field_at fields i ≡ None → count_by test (drop i fields) ≡ 0
 count-end test fields i e = rw (drop-no_field fields i e) refl
+
+-- the fields up to a place, and one more
+pub fields-next : (fields : List (List ℕ)) (i : ℕ) (f : List ℕ) → field_at fields i ≡ Some f → take (i + 1) fields ≡ take i fields ++ f ∷ []
+unfolding field_at
+fields-next [] i f e = cc
+fields-next (g ∷ fields) zero f e = cc
+fields-next (g ∷ fields) (suc i) f e =
+    let next : suc i + 1 ≡ suc (i + 1) = omega arith in
+    rw next (ap (λ (xs : List (List ℕ)). g ∷ xs) (fields-next fields i f e))
+
+pub fields-count : (fields : List (List ℕ)) (i : ℕ) (f : List ℕ) → field_at fields i ≡ Some f → length (take i fields) ≡ i
+unfolding field_at
+fields-count [] i f e = cc
+fields-count (g ∷ fields) zero f e = refl
+fields-count (g ∷ fields) (suc i) f e = ap suc (fields-count fields i f e)
+
+-- the fields up to a place behind the last
+pub fields-all : (fields : List (List ℕ)) (i : ℕ) → field_at fields i ≡ None → take i fields ≡ fields
+unfolding field_at
+fields-all [] zero e = refl
+fields-all [] (suc i) e = refl
+fields-all (g ∷ fields) zero e = cc
+fields-all (g ∷ fields) (suc i) e = ap (λ (xs : List (List ℕ)). g ∷ xs) (fields-all fields i e)

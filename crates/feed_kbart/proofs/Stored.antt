@@ -8,13 +8,14 @@ use Rattle.std.proofs.lemmas.Bool.Decides.{nat_tests}
 use Rattle.std.proofs.lemmas.List.{get_or_default}
 use Rattle.std.proofs.lemmas.Nat.{from_le_bytes-to_le_bytes_4}
 use Rattle.csv.specs.Records.{field_at}
-use Rattle.feed_kbart.specs.Columns.{cell}
+use Rattle.feed_kbart.specs.Columns.{field_of}
 use Rattle.feed_kbart.specs.Coverage.{kind_of}
 use Rattle.feed_kbart.specs.Rows.{row_of}
 use Rattle.feed_kbart.specs.Stored.{IsShort, cells_of, cut, days_at, row_at, row_with_cells, split_long, split_text, stored_columns, text_at, text_bytes, texts_in}
 use Rattle.feed_kbart.specs.declared.header.Columns.{Columns}
 use Rattle.feed_kbart.specs.declared.identifiers.Kind.{Kind}
 use Rattle.feed_kbart.specs.declared.identifiers.Kind.TheVariants as of
+use Rattle.feed_kbart.specs.declared.label.Label.TheVariants.{DateFirstIssueOnline, DateLastIssueOnline, PublicationType}
 
 not_mark : (n : ℕ) → ltb n 255 ≡ true → eqb n 255 ≡ false
 not_mark n e = grind (arith, nat_tests)
@@ -51,9 +52,9 @@ text_of_texts (suc n) (suc place) bytes within = text_of_texts n place (split_te
 -- the row of the cells of a record is the row of the record
 pub row_of_cells : (columns : Columns) (number : ℕ) (fields : List (List ℕ)) → row_with_cells number (cells_of columns fields) ≡ row_of columns number fields
 unfolding field_at
-row_of_cells columns number fields = go (kind_of (cell columns.publication_type fields)) refl
+row_of_cells columns number fields = go (kind_of (field_of columns PublicationType fields)) refl
   where
-    go : (kind : Option Kind) → kind_of (cell columns.publication_type fields) ≡ kind
+    go : (kind : Option Kind) → kind_of (field_of columns PublicationType fields) ≡ kind
         → row_with_cells number (cells_of columns fields) ≡ row_of columns number fields
     go None e = rw e refl
     go (Some of.Serial) e = rw e refl
@@ -71,20 +72,20 @@ row_stored before more columns number fields short =
 
 -- the days of a row are those of its cells
 module _ (number : ℕ) (cells : List (List ℕ)) where
-  pub first_day_of_cells : option_map (λ days. days.first) (days_at 3 cells) ≡ (row_with_cells number cells).first_day
-  first_day_of_cells = go (kind_of (cell stored_columns.publication_type cells)) refl
+  pub first_day_of_cells : option_map (λ days. days.first) (days_at DateFirstIssueOnline cells) ≡ (row_with_cells number cells).first_day
+  first_day_of_cells = go (kind_of (field_of stored_columns PublicationType cells)) refl
     where
-      go : (kind : Option Kind) → kind_of (cell stored_columns.publication_type cells) ≡ kind
-          → option_map (λ days. days.first) (days_at 3 cells) ≡ (row_with_cells number cells).first_day
+      go : (kind : Option Kind) → kind_of (field_of stored_columns PublicationType cells) ≡ kind
+          → option_map (λ days. days.first) (days_at DateFirstIssueOnline cells) ≡ (row_with_cells number cells).first_day
       go None e = rw e refl
       go (Some of.Serial) e = rw e refl
       go (Some of.Book) e = rw e refl
 
-  pub last_day_of_cells : option_map (λ days. days.last) (days_at 4 cells) ≡ (row_with_cells number cells).last_day
-  last_day_of_cells = go (kind_of (cell stored_columns.publication_type cells)) refl
+  pub last_day_of_cells : option_map (λ days. days.last) (days_at DateLastIssueOnline cells) ≡ (row_with_cells number cells).last_day
+  last_day_of_cells = go (kind_of (field_of stored_columns PublicationType cells)) refl
     where
-      go : (kind : Option Kind) → kind_of (cell stored_columns.publication_type cells) ≡ kind
-          → option_map (λ days. days.last) (days_at 4 cells) ≡ (row_with_cells number cells).last_day
+      go : (kind : Option Kind) → kind_of (field_of stored_columns PublicationType cells) ≡ kind
+          → option_map (λ days. days.last) (days_at DateLastIssueOnline cells) ≡ (row_with_cells number cells).last_day
       go None e = rw e refl
       go (Some of.Serial) e = rw e refl
       go (Some of.Book) e = rw e refl

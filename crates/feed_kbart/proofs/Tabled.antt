@@ -1,17 +1,12 @@
 -- The holdings of the first records of a list, and of the records after them.
-use Rattle.std.proofs.Common.{◌≡◌, ◌≤◌, ◌+◌, ◌∙◌, ℕ, List, [], ◌∷◌, ◌++◌, length, refl, sym, ap, arith}
-use Rattle.std.specs.Prelude.{Ok}
+use Rattle.std.proofs.Common.{◌≡◌, ◌≤◌, ◌+◌, ◌∙◌, ℕ, List, [], ◌∷◌, ◌++◌, length, refl, ap, arith}
 use Rattle.std.proofs.lemmas.List.{length-append}
+use Rattle.feed_text.specs.Records.{records_of}
 use Rattle.feed_kbart.specs.Columns.{columns_of}
-use Rattle.feed_kbart.specs.Files.{holdings_in}
+use Rattle.feed_kbart.specs.Files.{holdings_in, holdings_of}
 use Rattle.feed_kbart.specs.Holdings.{holdings_from, join_holdings, no_holdings}
-use Rattle.feed_kbart.specs.HoldingsValue.{HoldingsValue}
-use Rattle.feed_kbart.specs.ListRecords.{IsResultOf, IsTableOf}
-use Rattle.feed_kbart.specs.Kept.{IsKept}
-use Rattle.feed_kbart.specs.Store.{AreStoredAndIndexed, stored_rows}
 use Rattle.feed_kbart.specs.declared.header.Columns.{Columns}
-use Rattle.feed_kbart.specs.declared.list_records.Table.{Table}
-use Rattle.feed_kbart.proofs.Readings.{rows_of_store}
+use Rattle.feed_kbart.proofs.Cuts.{length-records_of}
 use Rattle.feed_kbart.proofs.Steps.{holdings_from-cons, holdings_from-nil, joined_assoc, joined_one}
 
 pub holdings_from-append : (columns : Columns) (number : ℕ) (front back : List (List (List ℕ)))
@@ -39,14 +34,11 @@ length-rows columns number (fields ∷ records) =
     rw (← holdings_from-cons columns number fields records)
     (omega (arith, length-append one.rows others.rows, one_row columns number fields, length-rows columns (number + 1) records))
 
--- the rows of a table are not more than its records
-pub few_rows : (records : List (List (List ℕ))) (table : Table) → IsTableOf records table → length (stored_rows table.kept.rows.store) ≤ length records
-few_rows records table t =
-    let rows = (holdings_from (columns_of t.header) 2 t.others).rows in
-    omega (arith, ap length (rows_of_store rows table.kept.rows.store t.kept.0.0), length-rows (columns_of t.header) 2 t.others, ap length t.are)
-
--- the holdings of a table are those of its records
-pub holdings_of_table : (records : List (List (List ℕ))) (table : Table) (holdings : HoldingsValue) → IsTableOf records table
-    → ((held : HoldingsValue) → IsKept AreStoredAndIndexed held table.kept → holdings ≡ held) → IsResultOf records (Ok holdings)
-holdings_of_table records table holdings t is =
-    (rw t.are t.good, is (holdings_from (columns_of t.header) 2 t.others) t.kept ∙ ap holdings_in (sym t.are))
+-- the rows of a list are not more than its bytes
+pub few_rows : (text : List ℕ) → length (holdings_of text).rows ≤ length text
+unfolding holdings_of
+few_rows text = go (records_of text) (length-records_of text)
+  where
+    go : (records : List (List (List ℕ))) → length records ≤ length text → length (holdings_in records).rows ≤ length text
+    go [] few = omega arith
+    go (header ∷ records) few = omega (arith, few, length-rows (columns_of header) 2 records)

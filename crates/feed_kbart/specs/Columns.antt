@@ -1,13 +1,12 @@
 -- The columns of the labels in a header, and the faults of a header.
-use Rattle.std.specs.Prelude.{ℕ, nat_lt, Bool, List, [], Option, Some, None, is_none, unwrap_or, count_by, find}
+use Rattle.std.specs.Prelude.{ℕ, nat_lt, Bool, List, [], Option, Some, None, is_none, unwrap_or, count_by, find, map, slice_index_or}
 use Rattle.std.specs.List.{position_from}
 use Rattle.csv.specs.Records.{field_at}
-use Rattle.feed_kbart.specs.Labels.{is_label, required_labels, used_labels}
+use Rattle.feed_kbart.specs.Labels.{is_label, required_labels, slot, stored_labels, used_labels}
 use Rattle.feed_kbart.specs.declared.header.Columns.{Columns}
 use Rattle.feed_kbart.specs.declared.fault.BadFile.{BadFile}
 use Rattle.feed_kbart.specs.declared.fault.BadFile.TheVariants.{MissingLabel, LabelTwice}
 use Rattle.feed_kbart.specs.declared.label.Label.{Label}
-use Rattle.feed_kbart.specs.declared.label.Label.TheVariants as label
 
 -- the place of the first field that is the label
 abbrev pub column : Label → List (List ℕ) → Option ℕ
@@ -18,23 +17,17 @@ abbrev pub cell : Option ℕ → List (List ℕ) → List ℕ
 cell None fields = []
 cell (Some place) fields = unwrap_or (field_at fields place) []
 
+-- the column of a label
+abbrev pub column_of : Columns → Label → Option ℕ
+column_of columns label = slice_index_or columns.columns (slot label) None
+
+-- the field of a record under a label
+abbrev pub field_of : Columns → Label → List (List ℕ) → List ℕ
+field_of columns label fields = cell (column_of columns label) fields
+
 -- the columns of all labels
 abbrev pub columns_of : List (List ℕ) → Columns
-columns_of header = record {
-  title = column label.PublicationTitle header;
-  print = column label.PrintIdentifier header;
-  online = column label.OnlineIdentifier header;
-  first_date = column label.DateFirstIssueOnline header;
-  first_volume = column label.NumFirstVolOnline header;
-  last_date = column label.DateLastIssueOnline header;
-  last_volume = column label.NumLastVolOnline header;
-  url = column label.TitleUrl header;
-  title_id = column label.TitleId header;
-  embargo = column label.EmbargoInfo header;
-  depth = column label.CoverageDepth header;
-  publication_type = column label.PublicationType header;
-  access = column label.AccessType header;
-}
+columns_of header = record { columns = map (λ label. column label header) stored_labels }
 
 -- the first required label that no field has
 abbrev pub first_missing : List (List ℕ) → Option Label

@@ -6,7 +6,7 @@ use Rattle.feed_kbart.specs.Volumes.{volume_of}
 use Rattle.feed_identifiers.specs.Issn.{issn_of}
 use Rattle.feed_identifiers.specs.Isbn.{isbn_of}
 use Rattle.feed_dates.specs.DayRanges.{days_of}
-use Rattle.feed_kbart.specs.Columns.{cell}
+use Rattle.feed_kbart.specs.Columns.{field_of}
 use Rattle.feed_dates.specs.declared.day_range.DayRange.{DayRange}
 use Rattle.feed_kbart.specs.declared.header.Columns.{Columns}
 use Rattle.feed_kbart.specs.declared.fault.Reason.{Reason}
@@ -15,6 +15,8 @@ use Rattle.feed_kbart.specs.declared.identifiers.Identifiers.{Identifiers}
 use Rattle.feed_kbart.specs.declared.identifiers.Identifiers.TheVariants.{Serial, Book}
 use Rattle.feed_kbart.specs.declared.identifiers.Kind.{Kind}
 use Rattle.feed_kbart.specs.declared.identifiers.Kind.TheVariants as of
+use Rattle.feed_kbart.specs.declared.label.Label.TheVariants.{DateFirstIssueOnline, DateLastIssueOnline, NumFirstVolOnline, NumLastVolOnline}
+use Rattle.feed_kbart.specs.declared.label.Label.TheVariants.{OnlineIdentifier, PrintIdentifier, PublicationType}
 
 -- the identifiers, the days and the volumes that a record covers
 pub record CoverageValue : Type 0 where
@@ -54,15 +56,15 @@ is_reversed (Some begin) None = false
 -- why a serial's record is skipped, or nothing if it is a row
 abbrev pub serial_reason : Columns → List (List ℕ) → Option Reason
 serial_reason columns fields =
-    if is_none (issn_of (cell columns.print fields)) && is_none (issn_of (cell columns.online fields)) then Some NoIssn
-    else if not (is_coverage_date (cell columns.first_date fields) && is_coverage_date (cell columns.last_date fields)) then Some BadDate
-    else if is_reversed (coverage_days (cell columns.first_date fields)) (coverage_days (cell columns.last_date fields)) then Some Reversed
+    if is_none (issn_of (field_of columns PrintIdentifier fields)) && is_none (issn_of (field_of columns OnlineIdentifier fields)) then Some NoIssn
+    else if not (is_coverage_date (field_of columns DateFirstIssueOnline fields) && is_coverage_date (field_of columns DateLastIssueOnline fields)) then Some BadDate
+    else if is_reversed (coverage_days (field_of columns DateFirstIssueOnline fields)) (coverage_days (field_of columns DateLastIssueOnline fields)) then Some Reversed
     else None
 
 -- why a book's record is skipped, or nothing if it is a row
 abbrev pub book_reason : Columns → List (List ℕ) → Option Reason
 book_reason columns fields =
-    if is_none (isbn_of (cell columns.print fields)) && is_none (isbn_of (cell columns.online fields)) then Some NoIsbn else None
+    if is_none (isbn_of (field_of columns PrintIdentifier fields)) && is_none (isbn_of (field_of columns OnlineIdentifier fields)) then Some NoIsbn else None
 
 -- why a record of this kind is skipped; a record of neither kind is skipped because of its type
 abbrev pub reason_by : Option Kind → Columns → List (List ℕ) → Option Reason
@@ -72,7 +74,7 @@ reason_by None columns fields = Some OtherType
 
 -- why a record is skipped, or nothing if it is a row
 abbrev pub reason_of : Columns → List (List ℕ) → Option Reason
-reason_of columns fields = reason_by (kind_of (cell columns.publication_type fields)) columns fields
+reason_of columns fields = reason_by (kind_of (field_of columns PublicationType fields)) columns fields
 
 -- the first and the last volume; neither counts if the first exceeds the last
 abbrev pub volumes : Option ℕ → Option ℕ → Option ℕ × Option ℕ
@@ -83,14 +85,14 @@ volumes (Some first) None = (Some first, None)
 -- the volumes of a record
 abbrev pub coverage_volumes : Columns → List (List ℕ) → Option ℕ × Option ℕ
 coverage_volumes columns fields =
-    volumes (volume_of (trimmed (cell columns.first_volume fields))) (volume_of (trimmed (cell columns.last_volume fields)))
+    volumes (volume_of (trimmed (field_of columns NumFirstVolOnline fields))) (volume_of (trimmed (field_of columns NumLastVolOnline fields)))
 
 -- the ISSNs, the days and the volumes of a serial's record
 abbrev pub serial_coverage : Columns → List (List ℕ) → CoverageValue
 serial_coverage columns fields = record {
-  identifiers = Serial (issn_of (cell columns.print fields)) (issn_of (cell columns.online fields));
-  first_day = option_map (λ days. days.first) (coverage_days (cell columns.first_date fields));
-  last_day = option_map (λ days. days.last) (coverage_days (cell columns.last_date fields));
+  identifiers = Serial (issn_of (field_of columns PrintIdentifier fields)) (issn_of (field_of columns OnlineIdentifier fields));
+  first_day = option_map (λ days. days.first) (coverage_days (field_of columns DateFirstIssueOnline fields));
+  last_day = option_map (λ days. days.last) (coverage_days (field_of columns DateLastIssueOnline fields));
   first_volume = (coverage_volumes columns fields).0;
   last_volume = (coverage_volumes columns fields).1;
 }
@@ -98,7 +100,7 @@ serial_coverage columns fields = record {
 -- the ISBNs of a book's record; its dates and volumes are ignored
 abbrev pub book_coverage : Columns → List (List ℕ) → CoverageValue
 book_coverage columns fields = record {
-  identifiers = Book (isbn_of (cell columns.print fields)) (isbn_of (cell columns.online fields));
+  identifiers = Book (isbn_of (field_of columns PrintIdentifier fields)) (isbn_of (field_of columns OnlineIdentifier fields));
   first_day = None;
   last_day = None;
   first_volume = None;
@@ -113,4 +115,4 @@ coverage_by None columns fields = serial_coverage columns fields
 
 -- the identifiers, the days and the volumes of a record that is a row
 abbrev pub coverage_of : Columns → List (List ℕ) → CoverageValue
-coverage_of columns fields = coverage_by (kind_of (cell columns.publication_type fields)) columns fields
+coverage_of columns fields = coverage_by (kind_of (field_of columns PublicationType fields)) columns fields

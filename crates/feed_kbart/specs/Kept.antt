@@ -2,6 +2,7 @@
 use Rattle.std.specs.Prelude.{◌≡◌, ◌≤◌, ℕ, List, length, None, Some, Result, Ok, Err}
 use Rattle.feed_kbart.specs.Files.{IsFaultOf, bad_of, bad_records, holdings_in, holdings_of}
 use Rattle.feed_kbart.specs.HoldingsValue.{HoldingsValue}
+use Rattle.feed_kbart.specs.Faults.{IsFullOf}
 use Rattle.feed_limits.specs.Limits.{file_limit}
 use Rattle.feed_kbart.specs.RowValue.{RowValue}
 use Rattle.feed_kbart.specs.declared.fault.KbartFault.{KbartFault}
@@ -11,14 +12,6 @@ use Rattle.feed_kbart.specs.declared.holdings.HoldingsBuilder.{HoldingsBuilder}
 -- the builder has exactly these rows and skipped records
 abbrev pub IsKept : {K : Type 0} → (List RowValue → K → Type 0) → HoldingsValue → HoldingsBuilder K → Type 0
 IsKept keeps held kept = keeps held.rows kept.rows × (kept.aside.items ≡ held.aside)
-
--- the builder has some rows and skipped records
-abbrev pub HasKept : {K : Type 0} → (List RowValue → K → Type 0) → HoldingsBuilder K → Type 0
-HasKept keeps kept = (held : HoldingsValue) × IsKept keeps held kept
-
--- the builder has no more rows than a file can have
-abbrev pub HasFewRows : {K : Type 0} → (List RowValue → K → Type 0) → HoldingsBuilder K → Type 0
-HasFewRows keeps kept = (held : HoldingsValue) × IsKept keeps held kept × (length held.rows ≤ file_limit)
 
 -- what reading records may return: the builder for good ones, why they are bad, or a failure
 abbrev pub IsBuilt : {K : Type 0} → (List RowValue → K → Type 0) → List (List (List ℕ)) → Result (HoldingsBuilder K) KbartFault → Type 0
@@ -32,3 +25,8 @@ IsBuilt keeps records (Err Read) = Unit {0}
 abbrev pub IsKeptOf : {K : Type 0} → (List RowValue → K → Type 0) → List ℕ → Result (HoldingsBuilder K) KbartFault → Type 0
 IsKeptOf keeps text (Ok kept) = (length text ≤ file_limit) × (bad_of text ≡ None) × IsKept keeps (holdings_of text) kept
 IsKeptOf keeps text (Err fault) = IsFaultOf text fault
+
+-- what the holdings that are kept may be returned as; `Memory` says nothing about them
+abbrev pub AreHeld : HoldingsValue → Result HoldingsValue KbartFault → Type 0
+AreHeld held (Ok holdings) = holdings ≡ held
+AreHeld held (Err fault) = IsFullOf held.rows fault

@@ -1,5 +1,5 @@
 -- The labels of a file's columns.
-use Rattle.std.specs.Prelude.{◌-◌, ◌==◌, if◌then◌else◌, ℕ, Bool, List, [], ◌∷◌, Option, None, codes, slice_get}
+use Rattle.std.specs.Prelude.{◌-◌, ◌==◌, if◌then◌else◌, ℕ, Bool, List, [], ◌∷◌, ◌++◌, Option, None, codes, slice_get}
 use Rattle.std.specs.Str.{str_eq_ignore_ascii_case}
 use Rattle.feed_identifiers.specs.Text.{trimmed}
 use Rattle.feed_kbart.specs.declared.label.Label.{Label}
@@ -31,10 +31,11 @@ required_labels =
 
 -- the labels in use, in order: first those that a file must have
 abbrev pub used_labels : List Label
-used_labels =
-    PublicationTitle ∷ PrintIdentifier ∷ OnlineIdentifier ∷ DateFirstIssueOnline
-    ∷ NumFirstVolOnline ∷ DateLastIssueOnline ∷ NumLastVolOnline ∷ TitleUrl
-    ∷ TitleId ∷ EmbargoInfo ∷ CoverageDepth ∷ PublicationType ∷ AccessType ∷ []
+used_labels = required_labels ++ (TitleId ∷ EmbargoInfo ∷ CoverageDepth ∷ PublicationType ∷ AccessType ∷ [])
+
+-- the number of labels in use
+abbrev pub label_count : ℕ
+label_count = 13
 
 -- the label at a place in that order, counted from 1
 abbrev pub label_at : ℕ → Option Label
@@ -43,3 +44,25 @@ label_at place = if place == 0 then None else slice_get used_labels (place - 1)
 -- a field is a label if they are equal, ignoring spaces at both ends and the case of ASCII letters
 abbrev pub is_label : Label → List ℕ → Bool
 is_label label field = str_eq_ignore_ascii_case (trimmed field) (label_text label)
+
+-- the labels in the order in which the cells of a record are stored
+abbrev pub stored_labels : List Label
+stored_labels =
+    PrintIdentifier ∷ OnlineIdentifier ∷ PublicationType ∷ DateFirstIssueOnline ∷ DateLastIssueOnline ∷ NumFirstVolOnline ∷ NumLastVolOnline
+    ∷ TitleId ∷ TitleUrl ∷ PublicationTitle ∷ CoverageDepth ∷ EmbargoInfo ∷ AccessType ∷ []
+
+-- the place of a label in that order, from 0
+abbrev pub slot : Label → ℕ
+slot PrintIdentifier = 0
+slot OnlineIdentifier = 1
+slot PublicationType = 2
+slot DateFirstIssueOnline = 3
+slot DateLastIssueOnline = 4
+slot NumFirstVolOnline = 5
+slot NumLastVolOnline = 6
+slot TitleId = 7
+slot TitleUrl = 8
+slot PublicationTitle = 9
+slot CoverageDepth = 10
+slot EmbargoInfo = 11
+slot AccessType = 12

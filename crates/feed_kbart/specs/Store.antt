@@ -4,7 +4,7 @@ use Rattle.feed_limits.specs.Limits.{file_limit}
 use Rattle.feed_kbart.specs.Index.{AreIndexed}
 use Rattle.feed_kbart.specs.RowValue.{RowValue}
 use Rattle.feed_kbart.specs.Stored.{row_at}
-use Rattle.feed_kbart.specs.declared.indexed_store.IndexedStore.{IndexedStore}
+use Rattle.feed_kbart.specs.declared.index_builder.IndexBuilder.{IndexBuilder}
 use Rattle.feed_kbart.specs.declared.row_store.Draft.{Draft}
 use Rattle.feed_kbart.specs.declared.row_store.RowStore.{RowStore}
 
@@ -20,6 +20,6 @@ stored_rows store = store.rows.items ++ map (row_in store.block.items) store.dra
 abbrev pub AreStored : List RowValue → RowStore → Type 0
 AreStored rows store = (more : List ℕ) → store.rows.items ++ map (row_in (store.block.items ++ more)) store.drafts.items ≡ rows
 
--- a store has these rows, and their index if they are not more than a file can have
-abbrev pub AreStoredAndIndexed : List RowValue → IndexedStore → Type 0
-AreStoredAndIndexed rows both = AreStored rows both.store × (length rows ≤ file_limit → AreIndexed rows both.index)
+-- a store has some rows, and an index is theirs if they are not more than a file can have
+abbrev pub HaveRows : RowStore → IndexBuilder → Type 0
+HaveRows store index = (rows : List RowValue) × AreStored rows store × (length rows ≤ file_limit → AreIndexed rows index)

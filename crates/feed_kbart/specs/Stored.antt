@@ -2,13 +2,16 @@
 use Rattle.std.specs.Prelude.{ℕ, zero, suc, ◌<◌, ◌^◌, ◌==◌, nat_lt, List, [], ◌∷◌, ◌++◌, length, take, drop, map, Option, Some, None, if◌then◌else◌}
 use Rattle.std.specs.Int.{from_le_bytes, to_le_bytes, w32}
 use Rattle.feed_dates.specs.declared.day_range.DayRange.{DayRange}
-use Rattle.feed_kbart.specs.Columns.{cell}
+use Rattle.feed_kbart.specs.Columns.{cell, column_of, field_of}
 use Rattle.feed_kbart.specs.Coverage.{coverage_days, kind_of}
+use Rattle.feed_kbart.specs.Labels.{label_count, slot, stored_labels}
 use Rattle.feed_kbart.specs.RowValue.{RowValue}
 use Rattle.feed_kbart.specs.Rows.{row_of}
 use Rattle.feed_kbart.specs.declared.header.Columns.{Columns}
 use Rattle.feed_kbart.specs.declared.identifiers.Kind.{Kind}
 use Rattle.feed_kbart.specs.declared.identifiers.Kind.TheVariants as of
+use Rattle.feed_kbart.specs.declared.label.Label.{Label}
+use Rattle.feed_kbart.specs.declared.label.Label.TheVariants.{PublicationType}
 
 -- a length is one byte, or the byte 255 and four bytes, the lowest first
 abbrev pub length_bytes : ℕ → List ℕ
@@ -51,11 +54,9 @@ unfoldable pub after_texts : ℕ → List ℕ → List ℕ
 after_texts zero bytes = bytes
 after_texts (suc n) bytes = after_texts n (split_text bytes).1
 
--- the columns of the labels in use, in the order in which a record's cells are stored
+-- the columns of labels in the order in which the cells of a record are stored
 abbrev pub in_order : Columns → List (Option ℕ)
-in_order columns =
-    columns.print ∷ columns.online ∷ columns.publication_type ∷ columns.first_date ∷ columns.last_date ∷ columns.first_volume ∷ columns.last_volume
-    ∷ columns.title_id ∷ columns.url ∷ columns.title ∷ columns.depth ∷ columns.embargo ∷ columns.access ∷ []
+in_order columns = map (column_of columns) stored_labels
 
 -- the cells of a record, in that order
 abbrev pub cells_of : Columns → List (List ℕ) → List (List ℕ)
@@ -63,21 +64,7 @@ cells_of columns fields = map (λ column. cell column fields) (in_order columns)
 
 -- the columns of a record that has its cells in this order
 abbrev pub stored_columns : Columns
-stored_columns = record {
-  print = Some 0;
-  online = Some 1;
-  publication_type = Some 2;
-  first_date = Some 3;
-  last_date = Some 4;
-  first_volume = Some 5;
-  last_volume = Some 6;
-  title_id = Some 7;
-  url = Some 8;
-  title = Some 9;
-  depth = Some 10;
-  embargo = Some 11;
-  access = Some 12;
-}
+stored_columns = record { columns = map (λ label. Some (slot label)) stored_labels }
 
 -- the row with these cells
 abbrev pub row_with_cells : ℕ → List (List ℕ) → RowValue
@@ -85,7 +72,7 @@ row_with_cells number cells = row_of stored_columns number cells
 
 -- the row whose cells are at the front of bytes
 abbrev pub row_at : ℕ → List ℕ → RowValue
-row_at number bytes = row_with_cells number (texts_in 13 bytes)
+row_at number bytes = row_with_cells number (texts_in label_count bytes)
 
 -- the days of a date by the kind of its row; those of a book are ignored
 abbrev pub days_by : Option Kind → List ℕ → Option DayRange
@@ -93,6 +80,6 @@ days_by (Some of.Book) date = None
 days_by (Some of.Serial) date = coverage_days date
 days_by None date = coverage_days date
 
--- the days of the date in a cell
-abbrev pub days_at : ℕ → List (List ℕ) → Option DayRange
-days_at place cells = days_by (kind_of (cell stored_columns.publication_type cells)) (cell (Some place) cells)
+-- the days of the date in the cell of a label
+abbrev pub days_at : Label → List (List ℕ) → Option DayRange
+days_at label cells = days_by (kind_of (field_of stored_columns PublicationType cells)) (field_of stored_columns label cells)

@@ -4,6 +4,7 @@ ghost use Rattle.std.specs.Prelude.{◌≡◌, ◌≤◌, ◌<◌, ◌+◌, ◌^
 use crate::header::Columns;
 use crate::holdings::{Aside, HoldingsBuilder, KeepRows};
 use crate::identifiers::Identifiers;
+use crate::long_record::LongRecord;
 use csv::ByteRecord;
 use std::alloc::{AllocError, Global};
 use std::marker::Model;
@@ -32,12 +33,27 @@ pub(crate) struct RowCount {
 impl KeepRows for RowCount {
     ghost keeps = { λ rows c. (c.rows ≤ length rows) × (c.rows + 1 < 2 ^ 32 → c.rows ≡ length rows) };
 
+    fn new(_alloc: Global) -> RowCount {
+        RowCount { rows: 0 }
+    }
+
     fn add(
         &mut self,
         _alloc: Global,
         _number: u32,
         _columns: &Columns,
         _fields: &ByteRecord,
+        _identifiers: &Identifiers,
+    ) -> Result<(), AllocError> {
+        self.rows = self.rows.saturating_add(1);
+        Ok(())
+    }
+
+    fn add_long(
+        &mut self,
+        _alloc: Global,
+        _number: u32,
+        _cells: LongRecord,
         _identifiers: &Identifiers,
     ) -> Result<(), AllocError> {
         self.rows = self.rows.saturating_add(1);

@@ -1,35 +1,61 @@
 //! Reading a whole file: from bytes to holdings, to counts, or to the first reason why the file is bad.
-ghost use Rattle.std.specs.Prelude.{◌≡◌, [], IfOk, IfSome};
+ghost use Rattle.std.specs.Prelude.{◌≡◌, ◌≤◌, ℕ, List, IfSome, Some, length};
 ghost use Rattle.feed_kbart.specs.Files.{IsCountOf, IsReadOf};
-ghost use Rattle.feed_kbart.specs.Kept.{HasFewRows, IsKeptOf};
+ghost use Rattle.feed_kbart.specs.Kept.{IsBuilt, IsKeptOf};
+ghost use Rattle.feed_limits.specs.Limits.{file_limit};
+ghost use Rattle.feed_text.specs.Records.{records_of};
 
 use crate::count::{FileCount, RowCount};
 use crate::fault::KbartFault;
 use crate::file_rows::FileRows;
 use crate::holdings::{Holdings, HoldingsBuilder, KeepRows};
 use crate::indexed_store::IndexedStore;
-use crate::records::read_records;
+use crate::list_text::ListText;
 use crate::row_store::RowStore;
-use feed_text::{Given, TextReader, check_text, record_reader};
+use feed_limits::FILE_LIMIT;
+use feed_text::{Given, TextReader, check_text};
 use std::alloc::Global;
 use std::io::Read;
 use std::marker::Brand;
 
-// Reads the records of a file and checks its bytes on the way. If the header is bad, it still reads to the end.
-fn read_rows<R: Read + Drop, K: KeepRows + Drop, G: Given>(
+// The number of bytes read at once. Each block has a reader of records of its own, which takes some 0.1 ms to make.
+const BLOCK: usize = 262_144;
+
+// Reads a list to its end.
+fn read_list<R: Read, K: KeepRows>(
+    alloc: Global,
+    reader: &mut R,
+) -> Result<HoldingsBuilder<K>, KbartFault>
+    ensures { (text : List ℕ) → R.remaining reader.old ≡ Some text → length text ≤ file_limit
+        → IsBuilt K.keeps (records_of text) result }
+{
+    let mut list = ListText::new(alloc);
+    let mut block = vec![in alloc; 0u8; BLOCK]?;
+    let mut total = 0;
+    while total <= FILE_LIMIT {
+        match reader.read(&mut block) {
+            Ok(0) => return list.finish(alloc),
+            Ok(count) => {
+                list.add(alloc, &block[..count])?;
+                total += count;
+            }
+            Err(_) => return Err(KbartFault::Read),
+        }
+    }
+    Err(KbartFault::TooLong)
+}
+
+// Reads a file and checks its bytes on the way.
+fn read_rows<R: Read + Drop, K: KeepRows, G: Given>(
     alloc: Global,
     reader: R,
-    rows: K,
 ) -> Result<HoldingsBuilder<K>, KbartFault>
-    requires given { G.given ≡ R.remaining reader }
-    requires empty { K.keeps [] rows }
-    ensures kept { IfSome (R.remaining reader) (λ text. IsKeptOf K.keeps text result) }
-    ensures few { IfOk result (HasFewRows K.keeps) }
+    requires { G.given ≡ R.remaining reader }
+    ensures { IfSome (R.remaining reader) (λ text. IsKeptOf K.keeps text result) }
 {
-    let text = TextReader::<R, G>::new(reader);
-    let mut records = record_reader(alloc, text)?;
-    let kept = read_records(alloc, &mut records, rows);
-    records.into_inner().finish(alloc)?;
+    let mut text = TextReader::<R, G>::new(reader);
+    let kept = read_list(alloc, &mut text);
+    text.finish(alloc)?;
     kept
 }
 
@@ -46,15 +72,15 @@ fn read_rows<R: Read + Drop, K: KeepRows + Drop, G: Given>(
 pub fn read_file<R: Read + Drop>(alloc: Global, reader: R) -> Result<Holdings, KbartFault>
     ensures { IfSome (R.remaining reader) (λ text. IsReadOf text result) }
 {
-    let kept = read_rows::<R, IndexedStore, Brand>(alloc, reader, IndexedStore::new(alloc))?;
-    Ok(Holdings::of(alloc, kept)?)
+    let kept = read_rows::<R, IndexedStore, Brand>(alloc, reader)?;
+    Holdings::of(alloc, kept)
 }
 
 /// Reads a file like `read_file`, but builds no index.
 pub fn list_file<R: Read + Drop>(alloc: Global, reader: R) -> Result<FileRows, KbartFault>
     ensures { IfSome (R.remaining reader) (λ text. IsReadOf text result) }
 {
-    let kept = read_rows::<R, RowStore, Brand>(alloc, reader, RowStore::new(alloc))?;
+    let kept = read_rows::<R, RowStore, Brand>(alloc, reader)?;
     Ok(FileRows::of(alloc, kept)?)
 }
 
@@ -63,7 +89,7 @@ pub fn list_file<R: Read + Drop>(alloc: Global, reader: R) -> Result<FileRows, K
 pub fn count_file<R: Read + Drop>(alloc: Global, reader: R) -> Result<FileCount, KbartFault>
     ensures { IfSome (R.remaining reader) (λ text. IsCountOf text result) }
 {
-    let kept = read_rows::<R, RowCount, Brand>(alloc, reader, RowCount { rows: 0 })?;
+    let kept = read_rows::<R, RowCount, Brand>(alloc, reader)?;
     Ok(FileCount::of(kept))
 }
 
@@ -71,11 +97,11 @@ pub fn count_file<R: Read + Drop>(alloc: Global, reader: R) -> Result<FileCount,
 /// the text, and takes the records from the second. It holds at most one block of the text at a time. The error is
 /// `Read` if either reader fails.
 pub fn read_parts<R: Read + Drop>(alloc: Global, check: R, read: R) -> Result<Holdings, KbartFault>
-    requires same { R.remaining check ≡ R.remaining read }
+    requires { R.remaining check ≡ R.remaining read }
     ensures { IfSome (R.remaining check) (λ text. IsReadOf text result) }
 {
     check_text(alloc, check)?;
-    let mut records = record_reader(alloc, read)?;
-    let kept = read_records(alloc, &mut records, IndexedStore::new(alloc))?;
-    Ok(Holdings::of(alloc, kept)?)
+    let mut read = read;
+    let kept = read_list(alloc, &mut read)?;
+    Holdings::of(alloc, kept)
 }

@@ -1,86 +1,190 @@
 //! The header of a file: which column has which label, and what is wrong with it.
-ghost use Rattle.std.specs.Prelude.{◌≡◌, Ok, Err, Some, None, MatchResult, count_by};
+ghost use Rattle.std.specs.Prelude.{◌≡◌, ◌++◌, ℕ, List, [], ◌∷◌, Some, None, MatchResult, is_none, length};
 ghost use Rattle.std.specs.List.{find};
 ghost use Rattle.csv.specs.Records.{fields_of};
-ghost use Rattle.feed_kbart.specs.Columns.{bad_header, cell, column, columns_of, first_missing, first_twice, is_twice};
-ghost use Rattle.feed_kbart.specs.Labels.{is_label};
+ghost use Rattle.feed_kbart.specs.Columns.{bad_header, cell, columns_of, first_missing, first_twice};
 
 use crate::fault::BadFile;
-use crate::label::{Label, OPTIONAL_LABELS, REQUIRED_LABELS};
+use crate::label::{LABEL_COUNT, LABELS, Label, REQUIRED_COUNT};
 use csv::ByteRecord;
+use feed_identifiers::trim_spaces;
 
 /// The columns of the labels in use, counted from 0.
 #[derive(Clone, Copy)]
 pub(crate) struct Columns {
-    pub(crate) title: Option<usize>,
-    pub(crate) print: Option<usize>,
-    pub(crate) online: Option<usize>,
-    pub(crate) first_date: Option<usize>,
-    pub(crate) first_volume: Option<usize>,
-    pub(crate) last_date: Option<usize>,
-    pub(crate) last_volume: Option<usize>,
-    pub(crate) url: Option<usize>,
-    pub(crate) title_id: Option<usize>,
-    pub(crate) embargo: Option<usize>,
-    pub(crate) depth: Option<usize>,
-    pub(crate) publication_type: Option<usize>,
-    pub(crate) access: Option<usize>,
+    // In the order in which the cells of a record are stored.
+    columns: [Option<usize>; LABEL_COUNT],
 }
 
-// The place of the first field that is the label.
-fn column_of(header: &ByteRecord, label: Label) -> Option<usize>
-    ensures { result ≡ column label (fields_of header.now) }
-{
-    let mut place = 0usize;
-    while let Some(field) = header.get(place) {
-        if label.is(field) {
-            return Some(place);
+impl Columns {
+    ghost use Rattle.feed_kbart.specs.Columns.{column_of};
+    ghost use Rattle.feed_kbart.specs.Stored.{in_order, stored_columns};
+
+    /// Returns the columns of a record that has its cells in the order in which they are stored.
+    pub(crate) fn stored() -> Columns
+        ensures { result ≡ stored_columns }
+    {
+        let mut columns = [None; LABEL_COUNT];
+        for label in LABELS {
+            columns[label.slot()] = Some(label.slot());
         }
-        place += 1;
+        Columns { columns }
     }
-    None
+
+    /// Returns the column of a label.
+    pub(crate) fn of(&self, label: Label) -> Option<usize>
+        ensures { result ≡ column_of self.now label }
+    {
+        self.columns[label.slot()]
+    }
+
+    /// Returns the columns in the order in which the cells of a record are stored.
+    pub(crate) fn in_order(&self) -> [Option<usize>; LABEL_COUNT]
+        ensures { result ≡ in_order self.now }
+    {
+        self.columns
+    }
 }
 
-// The number of fields that are the label.
-fn count_of(header: &ByteRecord, label: Label) -> usize
-    ensures { result ≡ count_by (is_label label) (fields_of header.now) }
-{
-    let mut place = 0usize;
-    let mut count = 0usize;
-    while let Some(field) = header.get(place) {
-        if label.is(field) {
-            count += 1;
+// What a header has of a label: the place of the first field that is the label, and whether two fields are.
+#[derive(Clone, Copy)]
+pub(crate) struct Found {
+    label: Label,
+    first: Option<usize>,
+    is_twice: bool,
+}
+
+/// What the fields of a header so far have of each label in use.
+#[derive(Drop)]
+pub(crate) struct HeaderLabels {
+    found: [Found; LABEL_COUNT],
+}
+
+impl Found {
+    ghost use Rattle.feed_identifiers.specs.Text.{trimmed};
+    ghost use Rattle.feed_kbart.specs.HeaderLabels.{found_of, with_field};
+
+    // Nothing, before the first field.
+    fn new(label: Label) -> Found
+        ensures { result ≡ found_of [] label }
+    {
+        Found {
+            label,
+            first: None,
+            is_twice: false,
         }
-        place += 1;
     }
-    count
+
+    // Adds the field at the next place, without the spaces at its ends.
+    fn with_field(self, place: usize, text: &[u8]) -> Found
+        ensures { (field : List ℕ) → text.now ≡ trimmed field → result ≡ with_field place field self }
+    {
+        if !text.eq_ignore_ascii_case(self.label.text()) {
+            return self;
+        }
+        Found {
+            label: self.label,
+            first: self.first.or(Some(place)),
+            is_twice: self.first.is_some(),
+        }
+    }
 }
 
-// The first required label that no field has.
-fn missing_label(header: &ByteRecord) -> Option<Label>
-    ensures { result ≡ first_missing (fields_of header.now) }
+// Returns what was found of the first label that no field is.
+fn first_absent(found: &[Found]) -> Option<Found>
+    ensures { result ≡ find (λ found. is_none found.first) found.now }
 {
-    REQUIRED_LABELS
-        .iter()
-        .copied()
-        .find(|label| column_of(header, *label).is_none())
+    found.iter().copied().find(|found| found.first.is_none())
 }
 
-// The first of the labels that two fields have.
-fn twice_among(header: &ByteRecord, labels: &[Label]) -> Option<Label>
-    ensures { result ≡ find (is_twice (fields_of header.now)) labels.now }
+// Returns what was found of the first label that two fields are.
+fn first_doubled(found: &[Found]) -> Option<Found>
+    ensures { result ≡ find (λ found. found.is_twice) found.now }
 {
-    labels
-        .iter()
-        .copied()
-        .find(|label| count_of(header, *label) > 1)
+    found.iter().copied().find(|found| found.is_twice)
 }
 
-// The first label that two fields have.
-fn double_label(header: &ByteRecord) -> Option<Label>
-    ensures { result ≡ first_twice (fields_of header.now) }
-{
-    twice_among(header, &REQUIRED_LABELS).or(twice_among(header, &OPTIONAL_LABELS))
+impl HeaderLabels {
+    ghost use Rattle.feed_kbart.specs.HeaderLabels.{AreLabelsOf, found_of};
+
+    /// Returns what a header without fields has.
+    pub(crate) fn new() -> HeaderLabels
+        ensures { AreLabelsOf [] result }
+    {
+        HeaderLabels {
+            found: LABELS.map(
+                |label: Label| -> Found
+                    ensures { result ≡ found_of [] label }
+                { Found::new(label) },
+            ),
+        }
+    }
+
+    /// Adds the field at the next place.
+    pub(crate) fn add(&mut self, place: usize, field: &[u8])
+        ensures { (header : List (List ℕ)) → length header ≡ place → AreLabelsOf header self.old
+            → AreLabelsOf (header ++ field.now ∷ []) self.new }
+    {
+        // Most fields of a header that has millions of them are empty.
+        let text = trim_spaces(field);
+        if text.is_empty() {
+            return;
+        }
+        for index in 0..LABEL_COUNT {
+            self.found[index] = self.found[index].with_field(place, text);
+        }
+    }
+
+    // Returns the first required label that no field is.
+    fn missing(&self) -> Option<Label>
+        ensures { (header : List (List ℕ)) → AreLabelsOf header self.now → result ≡ first_missing header }
+    {
+        first_absent(&self.found[..REQUIRED_COUNT]).map(|found| found.label)
+    }
+
+    // Returns the first label that two fields are.
+    fn twice(&self) -> Option<Label>
+        ensures { (header : List (List ℕ)) → AreLabelsOf header self.now → result ≡ first_twice header }
+    {
+        first_doubled(&self.found).map(|found| found.label)
+    }
+
+    /// Returns the columns of a good header, or the first reason why it is bad.
+    pub(crate) fn columns(&self) -> Result<Columns, BadFile>
+        ensures { (header : List (List ℕ)) → AreLabelsOf header self.now → MatchResult result
+            (λ columns. (bad_header header ≡ None) × (columns ≡ columns_of header))
+            (λ why. bad_header header ≡ Some why) }
+    {
+        if let Some(label) = self.missing() {
+            return Err(BadFile::MissingLabel(label));
+        }
+        if let Some(label) = self.twice() {
+            return Err(BadFile::LabelTwice(label));
+        }
+        let mut columns = [None; LABEL_COUNT];
+        for found in self.found {
+            columns[found.label.slot()] = found.first;
+        }
+        Ok(Columns { columns })
+    }
+}
+
+/// A record whose fields are found by their columns.
+pub(crate) trait Cells {
+    /// The fields of the record.
+    ghost fields: { Self → List (List ℕ) };
+
+    /// Returns the field in a column. It is empty if the record is short or the column is absent.
+    fn cell(&self, column: Option<usize>) -> &[u8]
+        ensures { result.now ≡ cell column (fields self.now) };
+}
+
+impl Cells for ByteRecord {
+    ghost fields = { fields_of };
+
+    fn cell(&self, column: Option<usize>) -> &[u8] {
+        cell_of(self, column)
+    }
 }
 
 /// Returns the field in a column. It is empty if the record is short or the column is absent.
@@ -100,25 +204,11 @@ pub(crate) fn read_header(header: &ByteRecord) -> Result<Columns, BadFile>
         × (columns ≡ columns_of (fields_of header.now)))
         (λ why. bad_header (fields_of header.now) ≡ Some why) }
 {
-    if let Some(label) = missing_label(header) {
-        return Err(BadFile::MissingLabel(label));
+    let mut labels = HeaderLabels::new();
+    let mut place = 0usize;
+    while let Some(field) = header.get(place) {
+        labels.add(place, field);
+        place += 1;
     }
-    if let Some(label) = double_label(header) {
-        return Err(BadFile::LabelTwice(label));
-    }
-    Ok(Columns {
-        title: column_of(header, Label::PublicationTitle),
-        print: column_of(header, Label::PrintIdentifier),
-        online: column_of(header, Label::OnlineIdentifier),
-        first_date: column_of(header, Label::DateFirstIssueOnline),
-        first_volume: column_of(header, Label::NumFirstVolOnline),
-        last_date: column_of(header, Label::DateLastIssueOnline),
-        last_volume: column_of(header, Label::NumLastVolOnline),
-        url: column_of(header, Label::TitleUrl),
-        title_id: column_of(header, Label::TitleId),
-        embargo: column_of(header, Label::EmbargoInfo),
-        depth: column_of(header, Label::CoverageDepth),
-        publication_type: column_of(header, Label::PublicationType),
-        access: column_of(header, Label::AccessType),
-    })
+    labels.columns()
 }

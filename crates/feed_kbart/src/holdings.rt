@@ -1,15 +1,16 @@
 //! The holdings of a file: its rows with an index by identifier, and its skipped records.
-ghost use Rattle.std.specs.Prelude.{◌≡◌, ◌≤◌, ◌<◌, ◌++◌, List, [], ◌∷◌, IfOk, OnOk, length};
+ghost use Rattle.std.specs.Prelude.{◌≡◌, ◌≤◌, ◌<◌, ◌++◌, List, [], ◌∷◌, OnOk, length};
 ghost use Rattle.csv.specs.Records.{fields_of};
 ghost use Rattle.feed_kbart.specs.Kept.{IsKept};
 ghost use Rattle.feed_limits.specs.Limits.{file_limit};
 
 use crate::coverage::check_record;
-use crate::fault::Reason;
+use crate::fault::{KbartFault, Reason};
 use crate::header::Columns;
 use crate::identifiers::{Identifiers, isbn_number};
 use crate::index::Index;
 use crate::indexed_store::IndexedStore;
+use crate::long_record::LongRecord;
 use crate::retired::RetiredHoldings;
 use crate::row::Row;
 use csv::ByteRecord;
@@ -45,13 +46,18 @@ impl Model for Holdings {
 }
 
 /// A collector of a file's rows, which are added in file order.
-pub(crate) trait KeepRows {
+pub(crate) trait KeepRows: Drop {
     ghost use Rattle.feed_kbart.specs.Coverage.{coverage_of};
     ghost use Rattle.feed_kbart.specs.RowValue.{RowValue};
     ghost use Rattle.feed_kbart.specs.Rows.{row_of};
+    ghost use Rattle.feed_kbart.specs.Stored.{stored_columns};
 
     /// These rows were added, and no others.
     ghost keeps: { List RowValue → Self → Type 0 };
+
+    /// Returns no rows.
+    fn new(alloc: Global) -> Self
+        ensures { keeps [] result };
 
     fn add(
         &mut self,
@@ -64,6 +70,18 @@ pub(crate) trait KeepRows {
         requires { identifiers.now ≡ (coverage_of columns.now (fields_of fields.now)).identifiers }
         ensures { OnOk result ((rows : List RowValue) → keeps rows self.old
             → keeps (rows ++ row_of columns.now number (fields_of fields.now) ∷ []) self.new) };
+
+    /// Adds the row of a long record.
+    fn add_long(
+        &mut self,
+        alloc: Global,
+        number: u32,
+        cells: LongRecord,
+        identifiers: &Identifiers,
+    ) -> Result<(), AllocError>
+        requires { identifiers.now ≡ (coverage_of stored_columns cells).identifiers }
+        ensures { OnOk result ((rows : List RowValue) → keeps rows self.old
+            → keeps (rows ++ row_of stored_columns number cells ∷ []) self.new) };
 }
 
 /// The rows and the skipped records so far.
@@ -76,13 +94,13 @@ pub(crate) struct HoldingsBuilder<K> {
 impl<K: KeepRows> HoldingsBuilder<K> {
     ghost use Rattle.feed_kbart.specs.Holdings.{holdings_from, join_holdings, no_holdings};
     ghost use Rattle.feed_kbart.specs.HoldingsValue.{HoldingsValue};
+    ghost use Rattle.feed_kbart.specs.Stored.{stored_columns};
 
-    pub(crate) fn new(alloc: Global, rows: K) -> HoldingsBuilder<K>
-        requires { K.keeps [] rows }
+    pub(crate) fn new(alloc: Global) -> HoldingsBuilder<K>
         ensures { IsKept K.keeps no_holdings result }
     {
         HoldingsBuilder {
-            rows,
+            rows: K::new(alloc),
             aside: Vec::new(alloc),
         }
     }
@@ -104,27 +122,44 @@ impl<K: KeepRows> HoldingsBuilder<K> {
         }
         Ok(())
     }
+
+    /// Adds a long record, as a row or as a skipped record.
+    pub(crate) fn add_long(
+        &mut self,
+        alloc: Global,
+        number: u32,
+        cells: LongRecord,
+    ) -> Result<(), AllocError>
+        ensures { OnOk result ((held : HoldingsValue) → IsKept K.keeps held self.old → IsKept K.keeps
+            (join_holdings held (holdings_from stored_columns number (cells ∷ []))) self.new) }
+    {
+        match check_record(&Columns::stored(), &cells) {
+            Ok(identifiers) => self.rows.add_long(alloc, number, cells, &identifiers)?,
+            Err(reason) => self.aside.push(Aside { number, reason })?,
+        }
+        Ok(())
+    }
 }
 
 impl Holdings {
     ghost use Rattle.feed_kbart.specs.HoldingsValue.{HoldingsValue};
-    ghost use Rattle.feed_kbart.specs.Kept.{HasFewRows};
+    ghost use Rattle.feed_kbart.specs.IndexedStores.{AreStoredAndIndexed};
+    ghost use Rattle.feed_kbart.specs.Kept.{AreHeld};
     ghost use Rattle.feed_kbart.specs.Places.{places_with, places_with_isbn};
-    ghost use Rattle.feed_kbart.specs.Store.{AreStoredAndIndexed};
 
     /// Returns the holdings with these rows and skipped records.
+    ///
+    /// # Errors
+    ///
+    /// `Memory`, and `TooLong` if there are more rows than a file can have.
     pub(crate) fn of(
         alloc: Global,
         kept: HoldingsBuilder<IndexedStore>,
-    ) -> Result<Holdings, AllocError>
-        requires { ∥ HasFewRows AreStoredAndIndexed kept ∥₁ }
-        ensures { IfOk result (λ holdings. (held : HoldingsValue) → IsKept AreStoredAndIndexed held kept
-            → holdings ≡ held) }
+    ) -> Result<Holdings, KbartFault>
+        ensures { (held : HoldingsValue) → IsKept AreStoredAndIndexed held kept → AreHeld held result }
     {
         let HoldingsBuilder { rows, aside } = kept;
-        let IndexedStore { store, index } = rows;
-        let rows = store.finish(alloc)?;
-        let index = index.finish(alloc)?;
+        let (rows, index) = rows.finish(alloc)?;
         Ok(Holdings { rows, aside, index })
     }
 

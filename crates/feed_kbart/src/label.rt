@@ -1,11 +1,17 @@
-//! The column labels of a file (NISO RP-9-2014), in the order in which a header is checked for them.
-ghost use Rattle.std.specs.Prelude.{◌≡◌, Some};
+//! The column labels of a file (NISO RP-9-2014): how each is written, and where the cell of its column is stored.
+ghost use Rattle.std.specs.Prelude.{◌≡◌, ◌<◌, Some};
+ghost use Rattle.feed_kbart.specs.Labels.{label_count};
 
 use feed_identifiers::trim_spaces;
 use std::fmt;
 
-/// A column label in use. The variants are in the order in which a header is checked for them. Every file must have
-/// the first eight (NISO RP-9-2014).
+/// The number of labels in use.
+pub const LABEL_COUNT: usize = 13;
+
+/// The number of labels that every file must have. They are the first ones.
+pub const REQUIRED_COUNT: usize = 8;
+
+/// A column label in use. The variants are in the order in which a header is checked for them.
 #[derive(Clone, Copy, Debug, PartialEq, Eq)]
 pub enum Label {
     PublicationTitle,
@@ -23,8 +29,8 @@ pub enum Label {
     AccessType,
 }
 
-/// The labels that every file must have, in order.
-pub const REQUIRED_LABELS: [Label; 8] = [
+/// The labels in use, in their order.
+pub const LABELS: [Label; LABEL_COUNT] = [
     Label::PublicationTitle,
     Label::PrintIdentifier,
     Label::OnlineIdentifier,
@@ -33,10 +39,6 @@ pub const REQUIRED_LABELS: [Label; 8] = [
     Label::DateLastIssueOnline,
     Label::NumLastVolOnline,
     Label::TitleUrl,
-];
-
-/// The labels that a file may have as well, in order.
-pub(crate) const OPTIONAL_LABELS: [Label; 5] = [
     Label::TitleId,
     Label::EmbargoInfo,
     Label::CoverageDepth,
@@ -44,8 +46,27 @@ pub(crate) const OPTIONAL_LABELS: [Label; 5] = [
     Label::AccessType,
 ];
 
+// How each label is written, in their order, and the place of its cell in a stored record. Finding a cell takes longer
+// the higher its place: those that are asked for most come first. The identifiers are at the front, so that a record
+// with nothing else is short.
+static COLUMNS: [(&'static str, usize); LABEL_COUNT] = [
+    ("publication_title", 9),
+    ("print_identifier", 0),
+    ("online_identifier", 1),
+    ("date_first_issue_online", 3),
+    ("num_first_vol_online", 5),
+    ("date_last_issue_online", 4),
+    ("num_last_vol_online", 6),
+    ("title_url", 8),
+    ("title_id", 7),
+    ("embargo_info", 11),
+    ("coverage_depth", 10),
+    ("publication_type", 2),
+    ("access_type", 12),
+];
+
 impl Label {
-    ghost use Rattle.feed_kbart.specs.Labels.{is_label, label_at, label_text};
+    ghost use Rattle.feed_kbart.specs.Labels.{is_label, label_at, label_text, slot};
 
     /// Returns the label as it is written, in lower case.
     pub fn text(self) -> &'static [u8]
@@ -57,50 +78,29 @@ impl Label {
     fn name(self) -> &'static str
         ensures { result.now ≡ label_text self }
     {
-        match self {
-            Label::PublicationTitle => "publication_title",
-            Label::PrintIdentifier => "print_identifier",
-            Label::OnlineIdentifier => "online_identifier",
-            Label::DateFirstIssueOnline => "date_first_issue_online",
-            Label::NumFirstVolOnline => "num_first_vol_online",
-            Label::DateLastIssueOnline => "date_last_issue_online",
-            Label::NumLastVolOnline => "num_last_vol_online",
-            Label::TitleUrl => "title_url",
-            Label::TitleId => "title_id",
-            Label::EmbargoInfo => "embargo_info",
-            Label::CoverageDepth => "coverage_depth",
-            Label::PublicationType => "publication_type",
-            Label::AccessType => "access_type",
-        }
+        COLUMNS[self as usize].0
     }
 
-    /// Returns the place of the label in its order, from 1 to 13.
+    /// Returns the place of the label's cell in a stored record.
+    pub(crate) fn slot(self) -> usize
+        ensures slot { result ≡ slot self }
+        ensures within { result < label_count }
+    {
+        COLUMNS[self as usize].1
+    }
+
+    /// Returns the place of the label in its order, counted from 1.
     pub fn place(self) -> u8
         ensures { label_at result ≡ Some self }
     {
         self as u8 + 1
     }
 
-    /// Returns the label at a place from 1 to 13.
+    /// Returns the label at a place in that order, counted from 1.
     pub fn of_place(place: u8) -> Option<Label>
         ensures { result ≡ label_at place }
     {
-        match place {
-            1 => Some(Label::PublicationTitle),
-            2 => Some(Label::PrintIdentifier),
-            3 => Some(Label::OnlineIdentifier),
-            4 => Some(Label::DateFirstIssueOnline),
-            5 => Some(Label::NumFirstVolOnline),
-            6 => Some(Label::DateLastIssueOnline),
-            7 => Some(Label::NumLastVolOnline),
-            8 => Some(Label::TitleUrl),
-            9 => Some(Label::TitleId),
-            10 => Some(Label::EmbargoInfo),
-            11 => Some(Label::CoverageDepth),
-            12 => Some(Label::PublicationType),
-            13 => Some(Label::AccessType),
-            _ => None,
-        }
+        LABELS.get(place.checked_sub(1)? as usize).copied()
     }
 
     /// Returns whether a field of a header is the label, ignoring spaces at both ends and the case of ASCII letters.

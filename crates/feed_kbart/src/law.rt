@@ -1,9 +1,17 @@
-//! A law of files, stated as the contract of a function with an empty body.
-ghost use Rattle.std.specs.Prelude.{◌≡◌, []};
+//! Laws of files, each stated as the contract of a function with an empty body.
+ghost use Rattle.std.specs.Prelude.{◌≡◌, ◌++◌, ℕ, List, []};
 ghost use Rattle.feed_kbart.specs.Files.{bad_of};
+ghost use Rattle.feed_kbart.specs.Windows.{IsCut};
 ghost use Rattle.feed_kbart.specs.declared.fault.BadFile.TheVariants.{NoHeader};
+ghost use Rattle.feed_text.specs.Records.{records_of};
 
 /// A file without bytes has no header.
 pub fn empty_file_is_bad()
     ensures { bad_of [] ≡ Some NoHeader }
+{}
+
+/// The records of a file that is cut before a line end are those of both parts, one after the other.
+pub fn records_are_of_both_parts()
+    ensures { (front back : List ℕ) → IsCut front back
+        → records_of (front ++ back) ≡ records_of front ++ records_of back }
 {}

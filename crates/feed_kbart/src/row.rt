@@ -1,14 +1,12 @@
 //! A row of a file: the holdings of one title.
-ghost use Rattle.std.specs.Prelude.{◌≡◌, ◌<◌};
+ghost use Rattle.std.specs.Prelude.{◌≡◌};
 ghost use Rattle.std.specs.Bool.{OnTrue};
 ghost use Rattle.feed_kbart.specs.Stored.{days_at};
 
 use crate::coverage::{read_days, read_kind, read_volumes};
 use crate::identifiers::Kind;
-use crate::stored_record::{
-    ACCESS, DEPTH, EMBARGO, FIRST_DATE, FIRST_VOLUME, LAST_DATE, LAST_VOLUME, ONLINE, PRINT,
-    PUBLICATION_TYPE, StoredRecord, TITLE, TITLE_ID, URL,
-};
+use crate::label::Label;
+use crate::stored_record::StoredRecord;
 use feed_dates::DayRange;
 use feed_identifiers::{Isbn, Issn};
 use std::marker::Model;
@@ -37,13 +35,12 @@ impl Model for Row {
 }
 
 // Returns the days of the date in a cell of a record. Those of a book are ignored.
-fn days_at(stored: &StoredRecord, place: usize) -> Option<DayRange>
-    requires { place < 13 }
-    ensures { result ≡ days_at place stored.now.cells }
+fn days_at(stored: &StoredRecord, label: Label) -> Option<DayRange>
+    ensures { result ≡ days_at label stored.now.cells }
 {
-    match read_kind(stored.cell(PUBLICATION_TYPE)) {
+    match read_kind(stored.cell(Label::PublicationType)) {
         Some(Kind::Book) => None,
-        Some(Kind::Serial) | None => read_days(stored.cell(place)),
+        Some(Kind::Serial) | None => read_days(stored.cell(label)),
     }
 }
 
@@ -70,14 +67,14 @@ impl Row {
     pub fn title(&self) -> &[u8]
         ensures { result.now ≡ self.now.title }
     {
-        self.record.cell(TITLE)
+        self.record.cell(Label::PublicationTitle)
     }
 
     /// Returns whether the row is a serial's or a book's.
     pub fn kind(&self) -> Kind
         ensures { result ≡ kind self.now.identifiers }
     {
-        match read_kind(self.record.cell(PUBLICATION_TYPE)) {
+        match read_kind(self.record.cell(Label::PublicationType)) {
             Some(Kind::Book) => Kind::Book,
             Some(Kind::Serial) | None => Kind::Serial,
         }
@@ -87,9 +84,9 @@ impl Row {
     pub fn print(&self) -> Option<Issn>
         ensures { result ≡ print_issn self.now.identifiers }
     {
-        match read_kind(self.record.cell(PUBLICATION_TYPE)) {
+        match read_kind(self.record.cell(Label::PublicationType)) {
             Some(Kind::Book) => None,
-            Some(Kind::Serial) | None => Issn::parse(self.record.cell(PRINT)),
+            Some(Kind::Serial) | None => Issn::parse(self.record.cell(Label::PrintIdentifier)),
         }
     }
 
@@ -97,9 +94,9 @@ impl Row {
     pub fn online(&self) -> Option<Issn>
         ensures { result ≡ online_issn self.now.identifiers }
     {
-        match read_kind(self.record.cell(PUBLICATION_TYPE)) {
+        match read_kind(self.record.cell(Label::PublicationType)) {
             Some(Kind::Book) => None,
-            Some(Kind::Serial) | None => Issn::parse(self.record.cell(ONLINE)),
+            Some(Kind::Serial) | None => Issn::parse(self.record.cell(Label::OnlineIdentifier)),
         }
     }
 
@@ -107,8 +104,8 @@ impl Row {
     pub fn print_isbn(&self) -> Option<Isbn>
         ensures { result ≡ print_isbn self.now.identifiers }
     {
-        match read_kind(self.record.cell(PUBLICATION_TYPE)) {
-            Some(Kind::Book) => Isbn::parse(self.record.cell(PRINT)),
+        match read_kind(self.record.cell(Label::PublicationType)) {
+            Some(Kind::Book) => Isbn::parse(self.record.cell(Label::PrintIdentifier)),
             Some(Kind::Serial) | None => None,
         }
     }
@@ -117,8 +114,8 @@ impl Row {
     pub fn online_isbn(&self) -> Option<Isbn>
         ensures { result ≡ online_isbn self.now.identifiers }
     {
-        match read_kind(self.record.cell(PUBLICATION_TYPE)) {
-            Some(Kind::Book) => Isbn::parse(self.record.cell(ONLINE)),
+        match read_kind(self.record.cell(Label::PublicationType)) {
+            Some(Kind::Book) => Isbn::parse(self.record.cell(Label::OnlineIdentifier)),
             Some(Kind::Serial) | None => None,
         }
     }
@@ -128,7 +125,7 @@ impl Row {
     pub fn first_day(&self) -> Option<i32>
         ensures { result ≡ self.now.first_day }
     {
-        days_at(&self.record, FIRST_DATE).map(|days| days.first)
+        days_at(&self.record, Label::DateFirstIssueOnline).map(|days| days.first)
     }
 
     /// Returns the last day of `date_last_issue_online`, counted from 1970-01-01, or `None` if coverage extends to the
@@ -136,18 +133,18 @@ impl Row {
     pub fn last_day(&self) -> Option<i32>
         ensures { result ≡ self.now.last_day }
     {
-        days_at(&self.record, LAST_DATE).map(|days| days.last)
+        days_at(&self.record, Label::DateLastIssueOnline).map(|days| days.last)
     }
 
     // Returns the first and the last volume.
     fn volumes(&self) -> (Option<u32>, Option<u32>)
         ensures { result ≡ (self.now.first_volume, self.now.last_volume) }
     {
-        match read_kind(self.record.cell(PUBLICATION_TYPE)) {
+        match read_kind(self.record.cell(Label::PublicationType)) {
             Some(Kind::Book) => (None, None),
             Some(Kind::Serial) | None => read_volumes(
-                self.record.cell(FIRST_VOLUME),
-                self.record.cell(LAST_VOLUME),
+                self.record.cell(Label::NumFirstVolOnline),
+                self.record.cell(Label::NumLastVolOnline),
             ),
         }
     }
@@ -170,35 +167,35 @@ impl Row {
     pub fn url(&self) -> &[u8]
         ensures { result.now ≡ self.now.url }
     {
-        self.record.cell(URL)
+        self.record.cell(Label::TitleUrl)
     }
 
     /// Returns `title_id`.
     pub fn title_id(&self) -> &[u8]
         ensures { result.now ≡ self.now.title_id }
     {
-        self.record.cell(TITLE_ID)
+        self.record.cell(Label::TitleId)
     }
 
     /// Returns `coverage_depth`.
     pub fn depth(&self) -> &[u8]
         ensures { result.now ≡ self.now.depth }
     {
-        self.record.cell(DEPTH)
+        self.record.cell(Label::CoverageDepth)
     }
 
     /// Returns `embargo_info`.
     pub fn embargo(&self) -> &[u8]
         ensures { result.now ≡ self.now.embargo }
     {
-        self.record.cell(EMBARGO)
+        self.record.cell(Label::EmbargoInfo)
     }
 
     /// Returns `access_type`.
     pub fn access(&self) -> &[u8]
         ensures { result.now ≡ self.now.access }
     {
-        self.record.cell(ACCESS)
+        self.record.cell(Label::AccessType)
     }
 
     /// Returns whether both rows have the same bytes in each column by which a list is read. They are then equal but

@@ -10,6 +10,7 @@ ghost use Rattle.feed_kbart.specs.Store.{AreStored, row_in, stored_rows};
 use crate::header::Columns;
 use crate::holdings::KeepRows;
 use crate::identifiers::Identifiers;
+use crate::long_record::LongRecord;
 use crate::row::Row;
 use crate::stored_record::{StoredRecord, put_cells};
 use csv::ByteRecord;
@@ -51,16 +52,6 @@ fn add_rows(rows: &mut Vec<Row>, drafts: &[Draft], block: &RcSlice<u8>) -> Resul
 }
 
 impl RowStore {
-    pub(crate) fn new(alloc: Global) -> RowStore
-        ensures { AreStored [] result }
-    {
-        RowStore {
-            rows: Vec::new(alloc),
-            block: Vec::new(alloc),
-            drafts: Vec::new(alloc),
-        }
-    }
-
     // Makes rows of the drafts, and begins a new block.
     fn seal(&mut self, alloc: Global) -> Result<(), AllocError>
         ensures rows { OnOk result (self.new.rows.items ≡ stored_rows self.old) }
@@ -113,6 +104,14 @@ impl RowStore {
 impl KeepRows for RowStore {
     ghost keeps = { AreStored };
 
+    fn new(alloc: Global) -> RowStore {
+        RowStore {
+            rows: Vec::new(alloc),
+            block: Vec::new(alloc),
+            drafts: Vec::new(alloc),
+        }
+    }
+
     fn add(
         &mut self,
         alloc: Global,
@@ -125,6 +124,18 @@ impl KeepRows for RowStore {
         let start = self.block.len() as u16;
         put_cells(&mut self.block, columns, fields)?;
         self.drafts.push(Draft { start, number })?;
+        Ok(())
+    }
+
+    fn add_long(
+        &mut self,
+        alloc: Global,
+        number: u32,
+        cells: LongRecord,
+        _identifiers: &Identifiers,
+    ) -> Result<(), AllocError> {
+        self.seal(alloc)?;
+        self.rows.push(Row::of(StoredRecord::long(cells, number)))?;
         Ok(())
     }
 }

@@ -3,44 +3,19 @@ ghost use Rattle.std.specs.Prelude.{◌≡◌, ◌↔◌, ◌<◌, ◌++◌, IfS
 ghost use Rattle.std.specs.List.{All, flat_map};
 ghost use Rattle.std.specs.Rc.{rc_slice_items};
 ghost use Rattle.csv.specs.Records.{fields_of};
-ghost use Rattle.feed_kbart.specs.Columns.{cell};
-ghost use Rattle.feed_kbart.specs.RecordBytes.{bytes_of, number_of};
-ghost use Rattle.feed_kbart.specs.Stored.{IsShort, cells_of, in_order, text_bytes, texts_in};
+ghost use Rattle.feed_kbart.specs.Columns.{cell, field_of};
+ghost use Rattle.feed_kbart.specs.Labels.{label_count};
+ghost use Rattle.feed_kbart.specs.RecordBytes.{cells_in, number_of};
+ghost use Rattle.feed_kbart.specs.Stored.{IsShort, cells_of, in_order, stored_columns, text_bytes, texts_in};
 
-use crate::header::{Columns, cell_of};
+use crate::header::{Cells, Columns, cell_of};
+use crate::label::{LABEL_COUNT, Label};
+use crate::long_record::LongRecord;
 use crate::stored_text::{has_same_texts, put_text, text_at};
 use csv::ByteRecord;
 use std::alloc::AllocError;
 use std::marker::Model;
 use std::rc::RcSlice;
-
-// The places of the cells. Finding one takes longer the higher its place: those that are asked for most come first.
-// The identifiers are at the front, so that a record with nothing else is short.
-pub(crate) const PRINT: usize = 0;
-
-pub(crate) const ONLINE: usize = 1;
-
-pub(crate) const PUBLICATION_TYPE: usize = 2;
-
-pub(crate) const FIRST_DATE: usize = 3;
-
-pub(crate) const LAST_DATE: usize = 4;
-
-pub(crate) const FIRST_VOLUME: usize = 5;
-
-pub(crate) const LAST_VOLUME: usize = 6;
-
-pub(crate) const TITLE_ID: usize = 7;
-
-pub(crate) const URL: usize = 8;
-
-pub(crate) const TITLE: usize = 9;
-
-pub(crate) const DEPTH: usize = 10;
-
-pub(crate) const EMBARGO: usize = 11;
-
-pub(crate) const ACCESS: usize = 12;
 
 // The bytes of a short record. It has room for nothing but an ISSN, printed or online, with its hyphen or without.
 const SHORT_SIZE: usize = 11;
@@ -59,6 +34,11 @@ enum Stored {
         number: u32,
         block: RcSlice<u8>,
     },
+    // The record has its cells for itself, since they may be long.
+    Long {
+        number: u32,
+        cells: LongRecord,
+    },
 }
 
 /// The number of a record, and its cells in their places.
@@ -68,13 +48,12 @@ pub(crate) struct StoredRecord {
 }
 
 impl Model for StoredRecord {
-    ghost use Rattle.feed_kbart.specs.RecordBytes.{bytes_of, number_of};
+    ghost use Rattle.feed_kbart.specs.RecordBytes.{cells_in, number_of};
     ghost use Rattle.feed_kbart.specs.RecordValue.{RecordValue};
-    ghost use Rattle.feed_kbart.specs.Stored.{texts_in};
 
     ghost Value = { RecordValue };
 
-    ghost view = { λ r. record { number = number_of r.stored; cells = texts_in 13 (bytes_of r.stored) } };
+    ghost view = { λ r. record { number = number_of r.stored; cells = cells_in r.stored } };
 }
 
 impl Stored {
@@ -82,25 +61,52 @@ impl Stored {
         ensures { result ≡ number_of self.now }
     {
         match self {
-            Stored::Short { number, .. } | Stored::Shared { number, .. } => *number,
+            Stored::Short { number, .. }
+            | Stored::Shared { number, .. }
+            | Stored::Long { number, .. } => *number,
         }
     }
 
-    // Returns the bytes at whose front the cells are.
-    fn bytes(&self) -> &[u8]
-        ensures { result.now ≡ bytes_of self.now }
+    // Returns the bytes at whose front the cells are. A long record has none.
+    fn bytes(&self) -> Option<&[u8]>
+        ensures { IfSome result (λ bytes. texts_in label_count bytes.now ≡ cells_in self.now) }
     {
         match self {
-            Stored::Short { bytes, .. } => bytes,
-            Stored::Shared { start, block, .. } => rest_of(block, *start as usize),
+            Stored::Short { bytes, .. } => Some(bytes),
+            Stored::Shared { start, block, .. } => Some(rest_of(block, *start as usize)),
+            Stored::Long { .. } => None,
         }
+    }
+
+    // Returns a cell.
+    fn cell(&self, place: usize) -> &[u8]
+        requires { place < label_count }
+        ensures { result.now ≡ cell (Some place) (cells_in self.now) }
+    {
+        match self {
+            Stored::Short { bytes, .. } => text_at(bytes, place),
+            Stored::Shared { start, block, .. } => text_at(rest_of(block, *start as usize), place),
+            Stored::Long { cells, .. } => cells.cell(Some(place)),
+        }
+    }
+
+    // Compares the cells of two records one by one.
+    fn has_cells_alike(&self, other: &Stored) -> bool
+        ensures { IsTrue result ↔ (cells_in self.now ≡ cells_in other.now) }
+    {
+        for place in 0..LABEL_COUNT {
+            if self.cell(place) != other.cell(place) {
+                return false;
+            }
+        }
+        true
     }
 }
 
 impl StoredRecord {
     pub(crate) fn new(block: RcSlice<u8>, start: u16, number: u32) -> StoredRecord
         ensures { result
-            ≡ record { number = number; cells = texts_in 13 (drop start (rc_slice_items block)) } }
+            ≡ record { number = number; cells = texts_in label_count (drop start (rc_slice_items block)) } }
     {
         let stored = match short_record(rest_of(&block, start as usize)) {
             Some(bytes) => Stored::Short { bytes, number },
@@ -113,37 +119,48 @@ impl StoredRecord {
         StoredRecord { stored }
     }
 
+    /// Returns a long record, with its cells as they are.
+    pub(crate) fn long(cells: LongRecord, number: u32) -> StoredRecord
+        ensures { result ≡ record { number = number; cells = cells_of stored_columns cells } }
+    {
+        StoredRecord {
+            stored: Stored::Long { number, cells },
+        }
+    }
+
     pub(crate) fn number(&self) -> u32
         ensures { result ≡ self.now.number }
     {
         self.stored.number()
     }
 
-    /// Returns a cell.
-    pub(crate) fn cell(&self, place: usize) -> &[u8]
-        requires { place < 13 }
-        ensures { result.now ≡ cell (Some place) self.now.cells }
+    /// Returns the cell of a label.
+    pub(crate) fn cell(&self, label: Label) -> &[u8]
+        ensures { result.now ≡ field_of stored_columns label self.now.cells }
     {
-        text_at(self.stored.bytes(), place)
+        self.stored.cell(label.slot())
     }
 
     /// Returns whether another record has the same cells.
     pub(crate) fn has_same_cells(&self, other: &StoredRecord) -> bool
         ensures { IsTrue result ↔ (self.now.cells ≡ other.now.cells) }
     {
-        has_same_texts(self.stored.bytes(), other.stored.bytes(), 13)
+        match (self.stored.bytes(), other.stored.bytes()) {
+            (Some(left), Some(right)) => has_same_texts(left, right, LABEL_COUNT),
+            _ => self.stored.has_cells_alike(&other.stored),
+        }
     }
 }
 
 // Returns the first bytes of a record if it has all its cells in them: those that follow are empty.
 fn short_record(bytes: &[u8]) -> Option<[u8; SHORT_SIZE]>
-    ensures { IfSome result (λ short. texts_in 13 short ≡ texts_in 13 bytes.now) }
+    ensures { IfSome result (λ short. texts_in label_count short ≡ texts_in label_count bytes.now) }
 {
-    // A record has 13 bytes at least. If one of the last two is not 0, no comparison is needed.
+    // A record has a byte for each cell. If one of the two after these is not 0, no comparison is needed.
     match bytes {
         [a, b, c, d, e, f, g, h, i, j, k, 0, 0, ..] => {
             let short = [*a, *b, *c, *d, *e, *f, *g, *h, *i, *j, *k];
-            has_same_texts(&short, bytes, 13).then_some(short)
+            has_same_texts(&short, bytes, LABEL_COUNT).then_some(short)
         }
         _ => None,
     }
@@ -157,29 +174,6 @@ fn rest_of(block: &[u8], start: usize) -> &[u8]
         &block[start..]
     } else {
         &[]
-    }
-}
-
-impl Columns {
-    // The columns in the order of the places of their cells.
-    fn in_order(&self) -> [Option<usize>; 13]
-        ensures { result ≡ in_order self.now }
-    {
-        [
-            self.print,
-            self.online,
-            self.publication_type,
-            self.first_date,
-            self.last_date,
-            self.first_volume,
-            self.last_volume,
-            self.title_id,
-            self.url,
-            self.title,
-            self.depth,
-            self.embargo,
-            self.access,
-        ]
     }
 }
 

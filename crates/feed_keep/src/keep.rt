@@ -48,7 +48,7 @@ pub enum Change<'a> {
 /// Its content is the committed records. A clause about the content holds if the keeper is `clean` at the end of the
 /// call, and then it was clean at its start. Memory is always clean. A file is clean as long as nobody else writes it
 /// and the disk returns what was written.
-pub trait Keep {
+pub trait Keep: Drop {
     /// The records: one for each name, in the store of a feed.
     ghost content: { Self → Content };
 

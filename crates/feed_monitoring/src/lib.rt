@@ -18,7 +18,7 @@ mod target;
 pub use exchange::{put_exchange, record_exchange};
 pub use laws::lines_are_plain;
 pub use log_line::{Exchange, LogPolicy};
-pub use report::{Report, gets_report};
+pub use report::{Report, ReportRequest, gets_report};
 pub use report_reply::respond_about_node;
 pub use report_text::{ReportKind, ReportReply};
 pub use starting::respond_at_start;

@@ -20,6 +20,18 @@ pub enum Report {
     Live,
 }
 
+/// A request, and what decides whether its client gets a report.
+#[derive(Clone, Copy)]
+pub struct ReportRequest<'b> {
+    pub bytes: &'b [u8],
+    /// Whether it came from the same machine.
+    pub is_local: bool,
+    /// Whether reports are open to all.
+    pub is_open: bool,
+    /// Whether the connection persists after the reply.
+    pub keeps: bool,
+}
+
 /// Returns what a path names.
 pub(crate) fn report_at(path: &[u8]) -> Option<Report>
     ensures { result ≡ report_at path.now }

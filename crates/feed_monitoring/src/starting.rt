@@ -3,7 +3,7 @@ ghost use Rattle.std.specs.Prelude.{IfOk, IfSome};
 ghost use Rattle.feed_http_heads.specs.Options.{SaysWhetherItKeeps};
 ghost use Rattle.feed_monitoring.specs.Starting.{IsStartingReply};
 
-use crate::report::gets_report;
+use crate::report::{ReportRequest, gets_report};
 use crate::report_reply::respond_about_node;
 use crate::report_text::ReportReply;
 use feed_metrics::{Gauges, Metrics};
@@ -11,25 +11,24 @@ use std::alloc::{AllocError, Global};
 
 /// Returns the reply of a node that starts, if its client may have reports and the request is for one: the metrics, or
 /// the health of a node without an active release, which is alive and not ready. Returns none for any other request.
-/// `is_local`, `is_open` and `keeps` are those of `gets_report` and `respond_about_node`.
 ///
 /// # Errors
 ///
 /// Running out of memory.
 pub fn respond_at_start(
     alloc: Global,
-    is_local: bool,
-    is_open: bool,
-    bytes: &[u8],
-    keeps: bool,
+    request: &ReportRequest<'_>,
     metrics: &Metrics,
     version: &[u8],
     open: u64,
 ) -> Result<Option<ReportReply>, AllocError>
-    ensures value { IfOk result (IsStartingReply is_local is_open metrics.now bytes.now keeps) }
-    ensures says { IfOk result (λ found. IfSome found (λ reply. SaysWhetherItKeeps keeps reply.bytes.items)) }
+    ensures value { IfOk result
+        (IsStartingReply request.now.is_local request.now.is_open metrics.now request.now.bytes.now
+        request.now.keeps) }
+    ensures says { IfOk result (λ found. IfSome found (λ reply.
+        SaysWhetherItKeeps request.now.keeps reply.bytes.items)) }
 {
-    if !gets_report(is_local, is_open, bytes) {
+    if !gets_report(request.is_local, request.is_open, request.bytes) {
         return Ok(None);
     }
     let gauges = Gauges {
@@ -39,6 +38,6 @@ pub fn respond_at_start(
         releases: &[],
         since_switch: None,
     };
-    let found = respond_about_node(alloc, bytes, keeps, metrics, &gauges, b"")?;
+    let found = respond_about_node(alloc, request.bytes, request.keeps, metrics, &gauges, b"")?;
     Ok(found)
 }

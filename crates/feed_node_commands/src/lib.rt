@@ -7,5 +7,4 @@ mod site;
 mod token;
 mod wanted;
 
-pub use command::{Command, Upstream, run_command};
-pub use feed_node_service::LogSettings;
+pub use command::run_command;

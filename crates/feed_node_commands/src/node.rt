@@ -1,18 +1,18 @@
 //! `kbfeed node`: a link resolver that answers readers over HTTP from the database of a node, and fetches releases.
-use crate::command::Upstream;
 use crate::site::{note_open_prefix, read_site};
 use crate::token::read_token;
 use crate::wanted::{note_missing, read_wanted};
-use feed_command::{DONE, FAILED, Faults, MISUSED, REFUSED, open_plain_file};
+use feed_command::{Console, DONE, FAILED, MISUSED, REFUSED, open_plain_file};
 use feed_database_commands::{Database, begin_feed, close_keeper, open_feed, report_keeper};
 use feed_file_commands::note_port;
 use feed_http::is_host;
 use feed_keep::Keep;
 use feed_node_server::{Server, Settings, TimeLimits};
 use feed_node_service::{
-    End, LogSettings, NodeLog, NodeSetup, NodeState, Source, SourceAddrs, StartFault,
-    WantedPackage, WatchedFile, run, start,
+    End, NodeLog, NodeSetup, NodeState, SourceAddrs, StartFault, WantedPackage, WatchedFile, run,
+    start,
 };
+use feed_options::NodeOptions;
 use feed_range::read_number;
 use feed_releases::{Feed, Opening};
 use std::io;
@@ -21,25 +21,6 @@ use std::net::ToSocketAddrs;
 
 // The fewest clients with which a node starts if it may open too few descriptors for all.
 const MIN_CLIENTS: usize = 16;
-
-/// Where a node listens, how many clients it answers at a time, and how many milliseconds each step of a connection and
-/// the time between two requests may take; and for how many seconds a cache may use an answer without asking again, or
-/// 0. A check only opens all.
-#[derive(Clone, Copy)]
-pub struct Hosting<'a> {
-    pub addr: &'a str,
-    pub clients: usize,
-    pub limit: u64,
-    pub idle: u64,
-    pub max_age: u32,
-    /// The version of the program.
-    pub version: &'a str,
-    pub log: LogSettings,
-    pub is_check: bool,
-    /// The paths of the site file, and of the file with the packages that readers wait for.
-    pub site: Option<&'a str>,
-    pub wanted: Option<&'a str>,
-}
 
 /// Runs a node: opens the feed of a database and answers readers at an address, without end. It listens once the
 /// records of the database are loaded. Until their lists are checked, readers get 503, and while a package of the file
@@ -55,49 +36,39 @@ pub struct Hosting<'a> {
 /// A check answers no reader, and prints `ok` if all is well. It also reports a prefix of a proxy behind which a list
 /// can add parameters (`Prefix`), which is not a fault.
 pub fn run_node<D: Database, O: Write, F: Write + Drop>(
-    rt: &HostRuntime,
     database: &D,
-    hosting: Hosting<'_>,
-    upstream: Option<Upstream<'_>>,
-    out: &mut O,
-    faults: &mut Faults<F>,
+    options: NodeOptions<'_>,
+    console: &mut Console<'_, O, F>,
 ) -> u8 {
-    let mut addrs = SourceAddrs::new(rt);
-    let Some(upstream) = upstream else {
-        return run_server(rt, database, hosting, None, addrs, out, faults);
+    let mut addrs = SourceAddrs::new(console.rt);
+    let Some(source) = options.source else {
+        return run_server(database, options, None, addrs, console);
     };
-    if !is_host(upstream.addr.as_bytes()) || !has_port(upstream.addr.as_bytes()) {
-        return report_source(upstream.addr, faults);
+    if !is_host(source.addr.as_bytes()) || !has_port(source.addr.as_bytes()) {
+        return report_source(source.addr, console);
     }
-    let token = match token_of(rt, upstream.token_file, faults) {
+    let token = match token_of(source.token_file, console) {
         Ok(token) => token,
         Err(status) => return status,
     };
-    let source = Source {
-        addr: upstream.addr,
-        token: &token,
-        piece: upstream.piece,
-        limit: hosting.limit,
-        fetch_limit: upstream.fetch_limit,
-        has_any_type: upstream.has_any_type,
-        max_shrink: upstream.max_shrink,
-    };
-    if let Err(error) = addrs.resolve(rt, upstream.addr) {
-        let _ = faults.report_with("Resolve", upstream.addr, error, DONE);
+    if let Err(error) = addrs.resolve(console.rt, source.addr) {
+        let _ = console
+            .faults
+            .report_with("Resolve", source.addr, error, DONE);
     }
-    run_server(rt, database, hosting, Some(source), addrs, out, faults)
+    run_server(database, options, Some(&token), addrs, console)
 }
 
 // Reports that an address is not one of a source, and returns the exit status.
-fn report_source<F: Write + Drop>(addr: &str, faults: &mut Faults<F>) -> u8 {
-    let status = faults.report_with(
+fn report_source<O: Write, F: Write + Drop>(addr: &str, console: &mut Console<'_, O, F>) -> u8 {
+    let status = console.faults.report_with(
         "Host",
         addr,
         "it is no host and port, as 127.0.0.1:8080",
         MISUSED,
     );
     if is_host(addr.as_bytes()) {
-        note_port(addr, faults);
+        note_port(addr, console);
     }
     status
 }
@@ -114,135 +85,125 @@ fn has_port(host: &[u8]) -> bool {
 }
 
 // Reads the token of a file, or reports the fault and returns the exit status.
-fn token_of<F: Write + Drop>(
-    rt: &HostRuntime,
+fn token_of<O: Write, F: Write + Drop>(
     path: &str,
-    faults: &mut Faults<F>,
+    console: &mut Console<'_, O, F>,
 ) -> Result<Vec<u8>, u8> {
-    let mut file = open_plain_file(rt, path, faults)?;
-    match read_token(rt.alloc(), &mut file) {
+    let mut file = open_plain_file(path, console)?;
+    match read_token(console.rt.alloc(), &mut file) {
         Ok(Some(token)) => Ok(token),
-        Ok(None) => Err(faults.report_with(
-            "Token",
-            path,
-            "its first line is no token: 16 bytes at least, of visible ASCII",
-            REFUSED,
-        )),
-        Err(error) => Err(faults.report_read(path, error)),
+        Ok(None) => Err(
+            console.faults.report_with(
+                "Token",
+                path,
+                "its first line is no token: 16 bytes at least, of visible ASCII",
+                REFUSED,
+            ),
+        ),
+        Err(error) => Err(console.faults.report_read(path, error)),
     }
 }
 
 // Opens the feed and answers readers, until the sockets fail, or the file of the database is gone.
 fn run_server<D: Database, O: Write, F: Write + Drop>(
-    rt: &HostRuntime,
     database: &D,
-    hosting: Hosting<'_>,
-    source: Option<Source<'_>>,
+    options: NodeOptions<'_>,
+    token: Option<&[u8]>,
     addrs: SourceAddrs,
-    out: &mut O,
-    faults: &mut Faults<F>,
+    console: &mut Console<'_, O, F>,
 ) -> u8 {
-    let version = hosting.version.as_bytes();
-    let site = match read_site(rt, hosting.site, version, hosting.max_age, faults) {
+    let site = match read_site(options, console) {
         Ok(site) => site,
         Err(status) => return status,
     };
-    let wanted = match read_wanted(rt, hosting.wanted, faults) {
+    let wanted = match read_wanted(options.wanted, console) {
         Ok(wanted) => wanted,
         Err(status) => return status,
     };
-    if hosting.is_check {
-        note_open_prefix(&site, faults);
-        return check_server(rt, database, hosting, &wanted, out, faults);
+    if options.is_check {
+        note_open_prefix(&site, console);
+        return check_server(database, options, &wanted, console);
     }
-    let Ok(state) = NodeState::new(rt.alloc()) else {
-        return report_end(End::Memory, database.name(), faults);
+    let Ok(state) = NodeState::new(console.rt.alloc()) else {
+        return report_end(End::Memory, database.name(), console);
     };
-    let setup = NodeSetup {
-        source,
-        addrs,
-        site,
-        version: first_line(hosting.version),
-        log: hosting.log,
-        wanted: &wanted,
-        state: &state,
-    };
-    match begin(rt, database, hosting, faults) {
-        Ok((opening, server)) => serve(rt, database, opening, server, setup, faults),
+    match begin(database, options, console) {
+        Ok((opening, server, file)) => {
+            let setup = NodeSetup {
+                options,
+                token,
+                addrs,
+                site,
+                wanted: &wanted,
+                state: &state,
+                file,
+            };
+            serve(database, opening, server, setup, console)
+        }
         Err(status) => status,
     }
 }
 
 // Opens the feed, listens at the address, closes both, and reports that all is well.
 fn check_server<D: Database, O: Write, F: Write + Drop>(
-    rt: &HostRuntime,
     database: &D,
-    hosting: Hosting<'_>,
+    options: NodeOptions<'_>,
     wanted: &[WantedPackage],
-    out: &mut O,
-    faults: &mut Faults<F>,
+    console: &mut Console<'_, O, F>,
 ) -> u8 {
-    let feed = match open_feed(rt.alloc(), database, faults) {
+    let feed = match open_feed(database, console) {
         Ok(feed) => feed,
         Err(status) => return status,
     };
-    note_missing(&feed, wanted, faults);
-    let listening = listen(rt, hosting, faults);
-    close_keeper(database, feed.restart(), faults);
+    note_missing(&feed, wanted, console);
+    let listening = listen(options, console);
+    close_keeper(database, feed.restart(), console);
     match listening {
-        Ok(_server) => faults.check_print(print_ok(out), DONE),
+        Ok(_server) => {
+            let printed = print_ok(&mut console.out);
+            console.faults.check_print(printed, DONE)
+        }
         Err(status) => status,
     }
 }
 
-// Loads the records of a database, and listens at the address.
-fn begin<D: Database, F: Write + Drop>(
-    rt: &HostRuntime,
-    database: &D,
-    hosting: Hosting<'_>,
-    faults: &mut Faults<F>,
-) -> Result<(Opening<D::Keeper>, Server), u8> {
-    let opening = begin_feed(rt.alloc(), database, faults)?;
-    match listen(rt, hosting, faults) {
-        Ok(server) => Ok((opening, server)),
+// Loads the records of a database, listens at the address, and watches the file of the database.
+fn begin<'c: 'd, 'd, D: Database, O: Write, F: Write + Drop>(
+    database: &'d D,
+    options: NodeOptions<'_>,
+    console: &mut Console<'c, O, F>,
+) -> Result<(Opening<D::Keeper>, Server, WatchedFile<'d>), u8> {
+    let opening = begin_feed(database, console)?;
+    match listen(options, console) {
+        Ok(server) => match WatchedFile::new(console.rt, database.name()) {
+            Ok(file) => Ok((opening, server, file)),
+            Err(_) => Err(report_end(End::FileGone, database.name(), console)),
+        },
         Err(status) => {
-            close_keeper(database, opening.into_keeper(), faults);
+            close_keeper(database, opening.into_keeper(), console);
             Err(status)
         }
     }
 }
 
-// Returns the number of the version without what it was proved with.
-fn first_line(version: &str) -> &str {
-    match version.split_once('\n') {
-        Some((line, _)) => line,
-        None => version,
-    }
-}
-
-// Opens the feed of a database and answers readers from it. Reports why the node ends, and returns the exit status.
-fn serve<D: Database, F: Write + Drop>(
-    rt: &HostRuntime,
+// Answers readers from the feed of a database. Reports why the node ends, and returns the exit status.
+fn serve<D: Database, O: Write, F: Write + Drop>(
     database: &D,
     opening: Opening<D::Keeper>,
     mut server: Server,
     setup: NodeSetup<'_>,
-    faults: &mut Faults<F>,
+    console: &mut Console<'_, O, F>,
 ) -> u8 {
-    let file = match WatchedFile::new(rt, database.name()) {
-        Ok(file) => file,
-        Err(_) => return report_end(End::FileGone, database.name(), faults),
-    };
-    match run_with_log(rt, opening, &mut server, setup, file, faults) {
-        Ok((end, keeper)) => end_node(database, keeper, end, faults),
-        Err(StartFault::Ended(end)) => report_end(end, database.name(), faults),
-        Err(StartFault::Keeper(cause)) => report_keeper(faults, cause, database.name()),
+    match run_with_log(opening, &mut server, setup, console) {
+        Ok((end, keeper)) => end_node(database, keeper, end, console),
+        Err(StartFault::Ended(end)) => report_end(end, database.name(), console),
+        Err(StartFault::Keeper(cause)) => report_keeper(cause, database.name(), console),
     }
 }
 
 // Opens a feed, with a log on standard output. This is without a buffer, so a line is dropped exactly if it cannot be
 // written.
-fn start_with_log<K: Keep + Drop, F: Write>(
+fn start_with_log<K: Keep, F: Write>(
     rt: &HostRuntime,
     opening: Opening<K>,
     server: &mut Server,
@@ -255,48 +216,47 @@ fn start_with_log<K: Keep + Drop, F: Write>(
 }
 
 // Opens a feed, reports which wanted packages it lacks, and answers readers from it until the node ends.
-fn run_with_log<K: Keep + Drop, F: Write + Drop>(
-    rt: &HostRuntime,
+fn run_with_log<K: Keep, O: Write, F: Write + Drop>(
     opening: Opening<K>,
     server: &mut Server,
     setup: NodeSetup<'_>,
-    file: WatchedFile<'_>,
-    faults: &mut Faults<F>,
+    console: &mut Console<'_, O, F>,
 ) -> Result<(End, K), StartFault> {
-    let feed = start_with_log(rt, opening, server, &setup, faults.out())?;
-    note_missing(&feed, setup.wanted, faults);
-    let mut log = NodeLog::new(io::writer(rt), faults.out());
-    Ok(run(rt, feed, server, setup, file, &mut log))
+    let rt = console.rt;
+    let feed = start_with_log(rt, opening, server, &setup, console.faults.out())?;
+    note_missing(&feed, setup.wanted, console);
+    let mut log = NodeLog::new(io::writer(rt), console.faults.out());
+    Ok(run(rt, feed, server, setup, &mut log))
 }
 
 // Closes the database and reports why a node ended. A file that is gone is left alone: another database may be in its
 // place, with its log beside it.
-fn end_node<D: Database, F: Write + Drop>(
+fn end_node<D: Database, O: Write, F: Write + Drop>(
     database: &D,
     keeper: D::Keeper,
     end: End,
-    faults: &mut Faults<F>,
+    console: &mut Console<'_, O, F>,
 ) -> u8 {
     match &end {
         End::FileGone => {}
-        _ => close_keeper(database, keeper, faults),
+        _ => close_keeper(database, keeper, console),
     }
-    report_end(end, database.name(), faults)
+    report_end(end, database.name(), console)
 }
 
 // Reports that the process may open fewer descriptors than all clients need, and returns whether these are too few for
 // a node.
-fn has_too_few_descriptors<F: Write + Drop>(
+fn has_too_few_descriptors<O: Write, F: Write + Drop>(
     server: &Server,
-    hosting: Hosting<'_>,
-    faults: &mut Faults<F>,
+    options: NodeOptions<'_>,
+    console: &mut Console<'_, O, F>,
 ) -> bool {
-    if server.clients() >= hosting.clients {
+    if server.clients() >= options.clients {
         return false;
     }
-    let _ = faults.report_with(
+    let _ = console.faults.report_with(
         "Descriptors",
-        hosting.addr,
+        options.addr,
         "the process may open fewer than --clients needs",
         DONE,
     );
@@ -304,35 +264,36 @@ fn has_too_few_descriptors<F: Write + Drop>(
 }
 
 // Listens at the address, or reports the fault and returns the exit status.
-fn listen<F: Write + Drop>(
-    rt: &HostRuntime,
-    hosting: Hosting<'_>,
-    faults: &mut Faults<F>,
+fn listen<O: Write, F: Write + Drop>(
+    options: NodeOptions<'_>,
+    console: &mut Console<'_, O, F>,
 ) -> Result<Server, u8> {
-    let server = match bind(rt, hosting) {
+    let server = match bind(console.rt, options) {
         Ok(server) => server,
         Err(error) => {
-            let status = faults.report_with("Bind", hosting.addr, error, FAILED);
-            note_port(hosting.addr, faults);
+            let status = console
+                .faults
+                .report_with("Bind", options.addr, error, FAILED);
+            note_port(options.addr, console);
             return Err(status);
         }
     };
-    if has_too_few_descriptors(&server, hosting, faults) {
+    if has_too_few_descriptors(&server, options, console) {
         return Err(FAILED);
     }
     Ok(server)
 }
 
-fn bind(rt: &HostRuntime, hosting: Hosting<'_>) -> io::Result<Server> {
+fn bind(rt: &HostRuntime, options: NodeOptions<'_>) -> io::Result<Server> {
     let mut last = io::Error::from(io::ErrorKind::NotFound);
     let settings = Settings {
-        clients: hosting.clients.max(1),
+        clients: options.clients.max(1),
         limits: TimeLimits {
-            step: hosting.limit.max(1),
-            idle: hosting.idle.max(1),
+            step: options.limit.max(1),
+            idle: options.idle.max(1),
         },
     };
-    for addr in hosting.addr.to_socket_addrs(rt)? {
+    for addr in options.addr.to_socket_addrs(rt)? {
         match Server::bind(rt, addr, settings) {
             Ok(server) => return Ok(server),
             Err(error) => last = error,
@@ -348,11 +309,17 @@ fn print_ok<O: Write>(out: &mut O) -> io::Result<()> {
 }
 
 // Reports why a node ended, and returns the status.
-fn report_end<F: Write + Drop>(end: End, path: &str, faults: &mut Faults<F>) -> u8 {
+fn report_end<O: Write, F: Write + Drop>(
+    end: End,
+    path: &str,
+    console: &mut Console<'_, O, F>,
+) -> u8 {
     match end {
-        End::Memory => faults.report("Memory", FAILED),
-        End::Sockets(fault) => faults.report_with("Poll", "the sockets", fault, FAILED),
-        End::FileGone => faults.report_with(
+        End::Memory => console.faults.report("Memory", FAILED),
+        End::Sockets(fault) => console
+            .faults
+            .report_with("Poll", "the sockets", fault, FAILED),
+        End::FileGone => console.faults.report_with(
             "Device",
             path,
             "the file was removed or replaced while the node ran",

@@ -1,39 +1,37 @@
 //! The site file of a library.
-use feed_command::{DONE, FAILED, Faults, REFUSED, open_plain_file, read_up_to};
+use feed_command::{Console, DONE, FAILED, REFUSED, open_plain_file, read_up_to};
+use feed_options::NodeOptions;
 use feed_resolver_tag::Site;
 use feed_site::{SITE_LIMIT, SiteFault};
 use std::fmt;
 use std::io::Write;
 
-/// Returns what the replies of a node depend on beside its releases and the day, with the site file at a path, or none
-/// without a path. Otherwise reports the fault and returns the exit status.
-pub fn read_site<F: Write + Drop>(
-    rt: &HostRuntime,
-    path: Option<&str>,
-    version: &[u8],
-    max_age: u32,
-    faults: &mut Faults<F>,
+/// Returns what the replies of a node with these options depend on beside its releases and the day, with the site file,
+/// if there is one. Otherwise reports the fault and returns the exit status.
+pub fn read_site<O: Write, F: Write + Drop>(
+    options: NodeOptions<'_>,
+    console: &mut Console<'_, O, F>,
 ) -> Result<Site, u8> {
-    let bytes = read_bytes(rt, path, faults)?;
-    match Site::read(rt.alloc(), version, max_age, bytes) {
+    let bytes = read_bytes(options.site, console)?;
+    let version = options.version.as_bytes();
+    match Site::read(console.rt.alloc(), version, options.max_age, bytes) {
         Ok(site) => Ok(site),
-        Err(fault) => Err(report_site(path, fault, faults)),
+        Err(fault) => Err(report_site(options.site, fault, console)),
     }
 }
 
 // Returns the bytes of the file at a path, if they are not too many, or none without a path.
-fn read_bytes<F: Write + Drop>(
-    rt: &HostRuntime,
+fn read_bytes<O: Write, F: Write + Drop>(
     path: Option<&str>,
-    faults: &mut Faults<F>,
+    console: &mut Console<'_, O, F>,
 ) -> Result<Vec<u8>, u8> {
     let Some(path) = path else {
-        return Ok(Vec::new(rt.alloc()));
+        return Ok(Vec::new(console.rt.alloc()));
     };
-    let mut file = open_plain_file(rt, path, faults)?;
-    match read_up_to(rt.alloc(), &mut file, SITE_LIMIT) {
+    let mut file = open_plain_file(path, console)?;
+    match read_up_to(console.rt.alloc(), &mut file, SITE_LIMIT) {
         Ok(bytes) => Ok(bytes),
-        Err(error) => Err(faults.report_read(path, error)),
+        Err(error) => Err(console.faults.report_read(path, error)),
     }
 }
 
@@ -45,14 +43,14 @@ const ENCODING_END: &str = "qurl=";
 
 /// Reports a prefix of the proxy behind which a list can add parameters: one that ends in `=` and gets the address as
 /// it is. The node runs with it.
-pub fn note_open_prefix<F: Write + Drop>(site: &Site, faults: &mut Faults<F>) {
+pub fn note_open_prefix<O: Write, F: Write + Drop>(site: &Site, console: &mut Console<'_, O, F>) {
     let Some(prefix) = site.library().prefix() else {
         return;
     };
     if !prefix.ends_with("=") || prefix.ends_with(WHOLE_REST) || prefix.ends_with(ENCODING_END) {
         return;
     }
-    let _ = faults.report_with(
+    let _ = console.faults.report_with(
         "Prefix",
         prefix,
         "addresses are not encoded behind it, so a list can add parameters: end it in qurl= if the proxy takes that",
@@ -61,16 +59,18 @@ pub fn note_open_prefix<F: Write + Drop>(site: &Site, faults: &mut Faults<F>) {
 }
 
 // Reports what is wrong with a site file, and returns the exit status.
-fn report_site<F: Write + Drop>(
+fn report_site<O: Write, F: Write + Drop>(
     path: Option<&str>,
     fault: SiteFault,
-    faults: &mut Faults<F>,
+    console: &mut Console<'_, O, F>,
 ) -> u8 {
     match fault {
-        SiteFault::Memory => faults.report("Memory", FAILED),
+        SiteFault::Memory => console.faults.report("Memory", FAILED),
         fault => {
             let words = fault.words();
-            faults.report_with(SiteLine(fault), path.unwrap_or(""), words, REFUSED)
+            console
+                .faults
+                .report_with(SiteLine(fault), path.unwrap_or(""), words, REFUSED)
         }
     }
 }

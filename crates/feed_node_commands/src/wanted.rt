@@ -1,5 +1,5 @@
 //! The file with the packages that readers of a node wait for.
-use feed_command::{DONE, FAILED, Faults, MISUSED, open_plain_file, read_up_to};
+use feed_command::{Console, DONE, FAILED, MISUSED, open_plain_file, read_up_to};
 use feed_keep::Keep;
 use feed_names::{NameFault, ReleaseName};
 use feed_node_service::WantedPackage;
@@ -38,31 +38,33 @@ impl From<NameFault> for LineFault {
 /// Returns the packages that the file at a path names, or none without a path. A line has a package, or the name of a
 /// release, behind which anything may follow. Blank lines and those that begin with `#` are skipped. Otherwise reports
 /// the fault and returns the exit status.
-pub fn read_wanted<F: Write + Drop>(
-    rt: &HostRuntime,
+pub fn read_wanted<O: Write, F: Write + Drop>(
     path: Option<&str>,
-    faults: &mut Faults<F>,
+    console: &mut Console<'_, O, F>,
 ) -> Result<Vec<WantedPackage>, u8> {
-    let mut wanted = Vec::new(rt.alloc());
+    let alloc = console.rt.alloc();
+    let mut wanted = Vec::new(alloc);
     let Some(path) = path else {
         return Ok(wanted);
     };
-    let mut file = open_plain_file(rt, path, faults)?;
-    let bytes = match read_up_to(rt.alloc(), &mut file, BYTE_LIMIT) {
+    let mut file = open_plain_file(path, console)?;
+    let bytes = match read_up_to(alloc, &mut file, BYTE_LIMIT) {
         Ok(bytes) => bytes,
-        Err(error) => return Err(faults.report_read(path, error)),
+        Err(error) => return Err(console.faults.report_read(path, error)),
     };
     if bytes.len() > BYTE_LIMIT {
-        return Err(faults.report_with(
-            "Wanted TooLong",
-            path,
-            "it has more than 65536 bytes",
-            MISUSED,
-        ));
+        return Err(
+            console.faults.report_with(
+                "Wanted TooLong",
+                path,
+                "it has more than 65536 bytes",
+                MISUSED,
+            ),
+        );
     }
     for (place, line) in bytes.split(|byte| *byte == b'\n').enumerate() {
-        if let Err(fault) = add_line(rt.alloc(), &mut wanted, line.trim_ascii()) {
-            return Err(report_line(path, place, fault, faults));
+        if let Err(fault) = add_line(alloc, &mut wanted, line.trim_ascii()) {
+            return Err(report_line(path, place, fault, console));
         }
     }
     Ok(wanted)
@@ -104,37 +106,39 @@ fn read_name(alloc: Global, line: &[u8]) -> Result<ReleaseName, LineFault> {
 }
 
 // Reports why a line names no package, and returns the exit status.
-fn report_line<F: Write + Drop>(
+fn report_line<O: Write, F: Write + Drop>(
     path: &str,
     place: usize,
     fault: LineFault,
-    faults: &mut Faults<F>,
+    console: &mut Console<'_, O, F>,
 ) -> u8 {
     let line = WantedLine(place.saturating_add(1));
     match fault {
-        LineFault::Memory => faults.report("Memory", FAILED),
-        LineFault::NoName => faults.report_with(
+        LineFault::Memory => console.faults.report("Memory", FAILED),
+        LineFault::NoName => console.faults.report_with(
             line,
             path,
             "it is neither a package, as Acme_Global_All, nor the name of a release",
             MISUSED,
         ),
         LineFault::TooMany => {
-            faults.report_with(line, path, "there are more than 256 packages", MISUSED)
+            console
+                .faults
+                .report_with(line, path, "there are more than 256 packages", MISUSED)
         }
     }
 }
 
 /// Reports each wanted package without an active release.
-pub fn note_missing<K: Keep + Drop, F: Write + Drop>(
+pub fn note_missing<K: Keep, O: Write, F: Write + Drop>(
     feed: &Feed<K>,
     wanted: &[WantedPackage],
-    faults: &mut Faults<F>,
+    console: &mut Console<'_, O, F>,
 ) {
     for package in wanted {
         let text = str::from_utf8(package.text()).unwrap_or("");
         if feed.report(package.text()).is_none() {
-            let _ = faults.report_with(
+            let _ = console.faults.report_with(
                 MissingLine(text),
                 text,
                 "it is wanted and has no active release, so readers get 503",

@@ -9,7 +9,7 @@ ghost use Rattle.feed_node_machine.specs.Nodes.{HasHistory, HasTaken, HasTakenPa
 use crate::machine::NodeMachine;
 use crate::occasion::FeedRespond;
 use feed_fetch::{Fetch, Printer, RequestFault, Stop};
-use feed_http::Got;
+use feed_http::{FilePart, Got};
 use feed_keep::Keep;
 use feed_names::{NameFault, ReleaseName};
 use feed_node_table::Stream;
@@ -25,7 +25,7 @@ pub struct Fetching {
     pub fetch: Fetch,
 }
 
-impl<'a, T: Stream, K: Keep + Drop, S: FeedRespond + Drop> NodeMachine<'a, T, K, S> {
+impl<'a, T: Stream, K: Keep, S: FeedRespond + Drop> NodeMachine<'a, T, K, S> {
     /// Returns the feed.
     pub fn feed(&self) -> &Feed<K>
         ensures { result.now ≡ self.now.feed }
@@ -98,13 +98,12 @@ impl<'a, T: Stream, K: Keep + Drop, S: FeedRespond + Drop> NodeMachine<'a, T, K,
     /// the part had new bytes, or why the fetch stops.
     pub fn take_part<O: Write>(
         &mut self,
-        first: u64,
-        length: u64,
-        bytes: &[u8],
+        part: &FilePart<'_>,
         out: &mut Printer<O>,
     ) -> Result<bool, Stop>
         ensures taken { (history : List NodeEvent) → HasHistory S.wanted S.replies self.old history
-            → HasTakenPart S.wanted S.replies first length bytes.now self.old self.new history }
+            → HasTakenPart S.wanted S.replies part.now.first part.now.length part.now.bytes.now
+            self.old self.new history }
         ensures later { IsLater S.wanted S.replies self.old self.new }
         ensures idle { self.old.fetching ≡ None → self.new ≡ self.old }
     {
@@ -113,7 +112,7 @@ impl<'a, T: Stream, K: Keep + Drop, S: FeedRespond + Drop> NodeMachine<'a, T, K,
         };
         let outcome = fetching
             .fetch
-            .take_part(&mut self.feed, &fetching.name, first, length, bytes, out);
+            .take_part(&mut self.feed, &fetching.name, part, out);
         self.fetching = Some(fetching);
         outcome
     }

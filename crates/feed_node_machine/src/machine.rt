@@ -17,16 +17,15 @@ use crate::occasion::FeedRespond;
 use feed_embargo::Today;
 use feed_keep::Keep;
 use feed_names::{NameFault, ReleaseName};
-use feed_node_connection::{Shortage, TimeLimits};
-use feed_node_table::{CloseCause, Log, Stream, Table};
+use feed_node_connection::Shortage;
+use feed_node_table::{CloseCause, Log, NewConnection, Stream, Table};
 use feed_node_turns::TurnRest;
 use feed_releases::Feed;
 use std::alloc::Global;
-use std::net::SocketAddr;
 
 /// A node without its sockets. Times are in microseconds since a moment that the caller chooses.
 #[derive(Drop)]
-pub struct NodeMachine<'a, T, K: Keep + Drop, S> {
+pub struct NodeMachine<'a, T, K: Keep, S> {
     pub(crate) alloc: Global,
     pub(crate) table: Table<T>,
     pub(crate) feed: Feed<K>,
@@ -41,7 +40,7 @@ pub struct NodeMachine<'a, T, K: Keep + Drop, S> {
     pub(crate) today: Today,
 }
 
-impl<'a, T: Stream, K: Keep + Drop, S: FeedRespond + Drop> NodeMachine<'a, T, K, S> {
+impl<'a, T: Stream, K: Keep, S: FeedRespond + Drop> NodeMachine<'a, T, K, S> {
     /// Opens a node over a feed on this day, with a table that has no connection.
     pub fn new(
         alloc: Global,
@@ -118,25 +117,16 @@ impl<'a, T: Stream, K: Keep + Drop, S: FeedRespond + Drop> NodeMachine<'a, T, K,
 
     /// Adds a connection that was accepted now, and returns its key. If there are as many connections as there may be,
     /// closes another one for it. Returns none if there may be none.
-    pub fn accept<L: Log>(
-        &mut self,
-        stream: T,
-        addr: SocketAddr,
-        limits: TimeLimits,
-        now: u64,
-        log: &mut L,
-    ) -> Option<usize>
+    pub fn accept<L: Log>(&mut self, accepted: NewConnection<T>, log: &mut L) -> Option<usize>
         ensures history { (history : List NodeEvent) → HasHistory S.wanted S.replies self.old history
             → HasHistory S.wanted S.replies self.new (accepted_in result history) }
         ensures later { IsLater S.wanted S.replies self.old self.new }
     {
-        self.make_room_if_full(now, log);
+        self.make_room_if_full(accepted.now, log);
         if self.table.is_full() {
             return None;
         }
-        let key = self
-            .table
-            .insert(self.alloc, stream, addr, limits, now, log);
+        let key = self.table.insert(self.alloc, accepted, log);
         Some(key)
     }
 

@@ -9,7 +9,7 @@ use std::alloc::{AllocError, Global};
 
 /// The feed and the circumstances from which a responder makes a reply.
 #[derive(Drop)]
-pub struct Occasion<'f, 't, K: Keep + Drop> {
+pub struct Occasion<'f, 't, K: Keep> {
     /// The feed as it is at this moment.
     pub feed: &'f Feed<K>,
     /// Who may make the node fetch.
@@ -46,7 +46,7 @@ pub trait FeedRespond {
 
     /// Returns the reply to a request. The reply says `Connection: close` exactly if the connection does not persist
     /// (RFC 9112, section 9.6).
-    fn respond<K: Keep + Drop>(
+    fn respond<K: Keep>(
         &self,
         alloc: Global,
         occasion: &Occasion<'_, '_, K>,
@@ -63,22 +63,18 @@ pub trait FeedRespond {
     /// # Errors
     ///
     /// Running out of memory.
-    fn keep_releases<K: Keep + Drop>(
-        &mut self,
-        alloc: Global,
-        feed: &Feed<K>,
-    ) -> Result<bool, AllocError>
+    fn keep_releases<K: Keep>(&mut self, alloc: Global, feed: &Feed<K>) -> Result<bool, AllocError>
         ensures { self.new ≡ self.old };
 }
 
 /// A responder with the feed of one moment.
 #[derive(Drop)]
-pub(crate) struct MomentResponder<'s, 'f, 't, K: Keep + Drop, S> {
+pub(crate) struct MomentResponder<'s, 'f, 't, K: Keep, S> {
     responder: &'s S,
     occasion: Occasion<'f, 't, K>,
 }
 
-impl<'s, 'f, 't, K: Keep + Drop, S> MomentResponder<'s, 'f, 't, K, S> {
+impl<'s, 'f, 't, K: Keep, S> MomentResponder<'s, 'f, 't, K, S> {
     ghost use Rattle.std.specs.Prelude.{◌≡◌};
 
     pub(crate) fn new(
@@ -106,7 +102,7 @@ impl<'s, 'f, 't, K: Keep + Drop, S> MomentResponder<'s, 'f, 't, K, S> {
     }
 }
 
-impl<'s, 'f, 't, K: Keep + Drop, S: FeedRespond> Respond for MomentResponder<'s, 'f, 't, K, S> {
+impl<'s, 'f, 't, K: Keep, S: FeedRespond> Respond for MomentResponder<'s, 'f, 't, K, S> {
     ghost use Rattle.feed_node_machine.specs.Occasions.{IsReplyOn};
 
     ghost wanted = { λ moment head. S.wanted moment.responder.now head };

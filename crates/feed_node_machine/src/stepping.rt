@@ -24,7 +24,7 @@ pub struct Turn {
     pub now: u64,
 }
 
-impl<'a, T: Stream, K: Keep + Drop, S: FeedRespond + Drop> NodeMachine<'a, T, K, S> {
+impl<'a, T: Stream, K: Keep, S: FeedRespond + Drop> NodeMachine<'a, T, K, S> {
     // Returns who may make the node fetch now: a fetch that was requested excludes another one, too.
     fn policy(&self) -> FetchPolicy<'a>
         ensures { result.token ≡ option_copied self.now.token }

@@ -10,7 +10,7 @@ use crate::streamed_reply::StreamedReply;
 use feed_keep::Keep;
 use feed_node_connection::{Share, TURN_SHARE, TimeLimits};
 use feed_node_machine::{FeedRespond, NodeMachine, Turn, node_is_right};
-use feed_node_table::{CloseCause, Log, Outcome};
+use feed_node_table::{CloseCause, Log, NewConnection, Outcome};
 use mio::event::Event;
 use mio::net::{TcpListener, TcpStream};
 use mio::{Events, Interest, Poll, Token};
@@ -195,7 +195,7 @@ impl Server {
     /// Waits at most 250 ms for the sockets, gives each connection that is ready its share of the turn, and closes each
     /// one that is over. Each history that the node had continues to one that it has then, and after it the node keeps
     /// its promise. The same holds if the poll or the clock fails.
-    pub fn turn<K: Keep + Drop, S: FeedRespond + Drop, L: Log>(
+    pub fn turn<K: Keep, S: FeedRespond + Drop, L: Log>(
         &mut self,
         rt: &impl Clock,
         node: &mut ServedNode<'_, K, S>,
@@ -212,7 +212,7 @@ impl Server {
 
     /// Runs turns until all connections are closed, for at most 250 ms, and closes those that are left. New connections
     /// wait meanwhile, and the next turn accepts them: it may be one of another node.
-    pub fn drain<K: Keep + Drop, S: FeedRespond + Drop, L: Log>(
+    pub fn drain<K: Keep, S: FeedRespond + Drop, L: Log>(
         &mut self,
         rt: &impl Clock,
         node: &mut ServedNode<'_, K, S>,
@@ -235,7 +235,7 @@ impl Server {
     }
 
     // Runs turns until all connections are closed, for at most 250 ms.
-    fn run_last_turns<K: Keep + Drop, S: FeedRespond + Drop, L: Log>(
+    fn run_last_turns<K: Keep, S: FeedRespond + Drop, L: Log>(
         &mut self,
         rt: &impl Clock,
         node: &mut ServedNode<'_, K, S>,
@@ -255,7 +255,7 @@ impl Server {
     }
 
     // Closes all connections.
-    fn close_all<K: Keep + Drop, S: FeedRespond + Drop, L: Log>(
+    fn close_all<K: Keep, S: FeedRespond + Drop, L: Log>(
         &self,
         node: &mut ServedNode<'_, K, S>,
         log: &mut L,
@@ -267,7 +267,7 @@ impl Server {
         }
     }
 
-    fn run_turn<K: Keep + Drop, S: FeedRespond + Drop, L: Log>(
+    fn run_turn<K: Keep, S: FeedRespond + Drop, L: Log>(
         &mut self,
         rt: &impl Clock,
         node: &mut ServedNode<'_, K, S>,
@@ -298,7 +298,7 @@ impl Server {
     }
 
     // Advances all but the connections: the request to another server, the streamed replies, and the clocks.
-    fn end_turn<K: Keep + Drop, S: FeedRespond + Drop, L: Log>(
+    fn end_turn<K: Keep, S: FeedRespond + Drop, L: Log>(
         &mut self,
         has_more_work: bool,
         node: &mut ServedNode<'_, K, S>,
@@ -312,7 +312,7 @@ impl Server {
     }
 
     // Marks the connection of an event as ready. If its client has reset it, it is removed: no reply would arrive.
-    fn on_event<K: Keep + Drop, S: FeedRespond + Drop, L: Log>(
+    fn on_event<K: Keep, S: FeedRespond + Drop, L: Log>(
         &mut self,
         node: &mut ServedNode<'_, K, S>,
         event: &Event,
@@ -332,7 +332,7 @@ impl Server {
 
     // Gives the connections that are ready one share of the turn, until its time is over. One that has more to do waits
     // for the next turn.
-    fn serve_ready<K: Keep + Drop, S: FeedRespond + Drop, L: Log>(
+    fn serve_ready<K: Keep, S: FeedRespond + Drop, L: Log>(
         &mut self,
         rt: &impl Clock,
         node: &mut ServedNode<'_, K, S>,
@@ -352,7 +352,7 @@ impl Server {
     }
 
     // Gives a connection one share of the turn.
-    fn serve<K: Keep + Drop, S: FeedRespond + Drop, L: Log>(
+    fn serve<K: Keep, S: FeedRespond + Drop, L: Log>(
         &mut self,
         rt: &impl Clock,
         node: &mut ServedNode<'_, K, S>,
@@ -370,7 +370,7 @@ impl Server {
 
     // Has a connection use its share until a reply was sent, once there is memory for another reply. The step begins at
     // the last reading of the clock, so that one reading for each step is enough.
-    fn advance<K: Keep + Drop, S: FeedRespond + Drop, L: Log>(
+    fn advance<K: Keep, S: FeedRespond + Drop, L: Log>(
         &mut self,
         key: usize,
         share: &mut Share,
@@ -405,7 +405,7 @@ impl Server {
     }
 
     // Keeps the socket of a client that has the head of its streamed reply, to send the body.
-    fn stream_to<K: Keep + Drop, S: FeedRespond + Drop, L: Log>(
+    fn stream_to<K: Keep, S: FeedRespond + Drop, L: Log>(
         &mut self,
         node: &mut ServedNode<'_, K, S>,
         key: usize,
@@ -430,7 +430,7 @@ impl Server {
     // Accepts connections until none waits or the system refuses one. If it has no descriptor left, a connection is
     // closed for the next one. None is closed that waits for its share: then new ones wait for the next turn. A flood
     // gets a bounded share of a turn. Returns whether it used all of it.
-    fn accept_waiting<K: Keep + Drop, S: FeedRespond + Drop, L: Log>(
+    fn accept_waiting<K: Keep, S: FeedRespond + Drop, L: Log>(
         &mut self,
         node: &mut ServedNode<'_, K, S>,
         log: &mut L,
@@ -449,7 +449,7 @@ impl Server {
     }
 
     // Accepts a connection. Returns whether another may be accepted now.
-    fn accept_next<K: Keep + Drop, S: FeedRespond + Drop, L: Log>(
+    fn accept_next<K: Keep, S: FeedRespond + Drop, L: Log>(
         &mut self,
         node: &mut ServedNode<'_, K, S>,
         log: &mut L,
@@ -477,7 +477,7 @@ impl Server {
 
     // Begins a new connection. Its socket is registered with the poll, and it is marked as ready: its client may have
     // sent a request already.
-    fn admit<K: Keep + Drop, S: FeedRespond + Drop, L: Log>(
+    fn admit<K: Keep, S: FeedRespond + Drop, L: Log>(
         &mut self,
         node: &mut ServedNode<'_, K, S>,
         stream: TcpStream,
@@ -488,8 +488,13 @@ impl Server {
     {
         // Otherwise the system holds a reply back until the client acknowledges the one before it.
         let _ = stream.set_nodelay(true);
-        let socket = Socket { stream };
-        let Some(key) = node.accept(socket, addr, self.limits, self.now, log) else {
+        let accepted = NewConnection {
+            stream: Socket { stream },
+            addr,
+            limits: self.limits,
+            now: self.now,
+        };
+        let Some(key) = node.accept(accepted, log) else {
             return;
         };
         self.watch(node, key, log);
@@ -497,7 +502,7 @@ impl Server {
     }
 
     // Registers the socket of a connection with the poll. If that fails, the connection is removed.
-    fn watch<K: Keep + Drop, S: FeedRespond + Drop, L: Log>(
+    fn watch<K: Keep, S: FeedRespond + Drop, L: Log>(
         &self,
         node: &mut ServedNode<'_, K, S>,
         key: usize,
@@ -511,7 +516,7 @@ impl Server {
     }
 
     // Advances the clocks, at most once in 250 ms.
-    fn advance_clock<K: Keep + Drop, S: FeedRespond + Drop, L: Log>(
+    fn advance_clock<K: Keep, S: FeedRespond + Drop, L: Log>(
         &mut self,
         node: &mut ServedNode<'_, K, S>,
         log: &mut L,

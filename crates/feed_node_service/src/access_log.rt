@@ -5,19 +5,9 @@ use crate::today::unix_seconds;
 use feed_monitoring::{Exchange, LogPolicy, put_exchange};
 use feed_node_connection::{Connection, ReplySummary};
 use feed_node_server::{CloseCause, Log, is_local};
+use feed_options::LogOptions;
 use std::io::Write;
 use std::net::{IpAddr, SocketAddr};
-
-/// The settings of a log, and who may have reports of the node.
-#[derive(Clone, Copy)]
-pub struct LogSettings {
-    /// Whether a peer on the same machine is a proxy, which states the address of its client.
-    pub is_forwarded: bool,
-    /// Whether the log shows queries.
-    pub has_queries: bool,
-    /// Whether all clients may have reports of the node, and not only those on the same machine.
-    pub has_open_reports: bool,
-}
 
 /// A log that has a line for each reply, and counts it.
 #[derive(Drop)]
@@ -25,7 +15,7 @@ pub struct AccessLog<'o, W: Write, F: Write> {
     rt: &'o HostRuntime,
     out: &'o mut NodeLog<W, F>,
     state: &'o NodeState,
-    settings: LogSettings,
+    options: LogOptions,
     /// The lines of this turn.
     lines: Vec<u8>,
     /// The address of the peer before, and its text: most lines of a node behind a proxy have the same.
@@ -38,13 +28,13 @@ impl<'o, W: Write, F: Write> AccessLog<'o, W, F> {
         rt: &'o HostRuntime,
         out: &'o mut NodeLog<W, F>,
         state: &'o NodeState,
-        settings: LogSettings,
+        options: LogOptions,
     ) -> AccessLog<'o, W, F> {
         AccessLog {
             rt,
             out,
             state,
-            settings,
+            options,
             lines: Vec::new(rt.alloc()),
             peer: None,
             peer_text: Vec::new(rt.alloc()),
@@ -54,10 +44,10 @@ impl<'o, W: Write, F: Write> AccessLog<'o, W, F> {
     fn policy(&self, addr: SocketAddr) -> LogPolicy {
         let is_near = is_local(addr);
         LogPolicy {
-            is_proxy: is_near && self.settings.is_forwarded,
-            has_queries: self.settings.has_queries,
+            is_proxy: is_near && self.options.is_forwarded,
+            has_queries: self.options.has_queries,
             is_local: is_near,
-            has_open_reports: self.settings.has_open_reports,
+            has_open_reports: self.options.has_open_reports,
         }
     }
 

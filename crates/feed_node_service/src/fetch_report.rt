@@ -12,7 +12,9 @@ use std::time::Instant;
 
 /// The facts of a fetch, for its line.
 #[derive(Clone, Copy)]
-pub struct FetchReport {
+pub struct FetchReport<'a> {
+    /// The server.
+    pub addr: &'a str,
     /// When it began.
     pub begun: Option<Instant>,
     /// Whether the node answered from the release then.
@@ -27,10 +29,16 @@ pub struct FetchReport {
     pub fault: Option<ErrorKind>,
 }
 
-impl FetchReport {
+impl<'a> FetchReport<'a> {
     /// Begins now.
-    pub fn new(rt: &HostRuntime, was_reported: bool, before: usize) -> FetchReport {
+    pub fn new(
+        rt: &HostRuntime,
+        addr: &'a str,
+        was_reported: bool,
+        before: usize,
+    ) -> FetchReport<'a> {
         FetchReport {
+            addr,
             begun: Instant::now(rt).ok(),
             was_reported,
             before,
@@ -81,13 +89,13 @@ impl FetchReport {
         rt: &HostRuntime,
         out: &mut W,
         name: &[u8],
-        addr: &str,
         outcome: FetchOutcome,
         reason: &[u8],
     ) -> io::Result<()> {
         out.write_all(b"kbfeed: fetch ")?;
         out.write_all(name)?;
         let word = outcome.name();
+        let addr = self.addr;
         write!(out, " from {addr}: {word}")?;
         out.write_all(reason)?;
         if let Some(fault) = self.fault {
@@ -102,7 +110,7 @@ impl FetchReport {
 }
 
 /// Returns why a fetch ended so, behind a space, if its outcome does not say it. If memory runs out, a part is missing.
-pub fn reason_of<K: Keep + Drop>(
+pub fn reason_of<K: Keep>(
     alloc: Global,
     feed: &Feed<K>,
     name: &ReleaseName,

@@ -19,35 +19,18 @@ use feed_fetch::{
 use feed_file_checks::{
     FileCheck, HeldList, ListCounts, Mismatch, active_counts, gate_by, rows_before,
 };
-use feed_http::{Got, Method, is_host, read_reply, write_head_request, write_request};
+use feed_http::{FilePart, Got, Method, is_host, read_reply, write_head_request, write_request};
 use feed_http_heads::HttpFault;
 use feed_keep::Keep;
 use feed_limits::PIECE_LIMIT;
 use feed_node_machine::Fetching;
 use feed_node_server::{Destination, OutgoingRequest, ServedNode, Server};
+use feed_options::{NodeOptions, Source};
 use feed_releases::Feed;
 use std::alloc::{AllocError, Global};
 use std::io;
 use std::io::{ErrorKind, Write};
 use std::time::Instant;
-
-/// The server that a node fetches from, the token that authorizes a fetch, and the limits of its requests.
-#[derive(Clone, Copy)]
-pub struct Source<'a> {
-    /// A host and port that `is_host` accepts.
-    pub addr: &'a str,
-    pub token: &'a [u8],
-    /// How many bytes a request asks for, 1 to 1,048,576.
-    pub piece: u64,
-    /// How many milliseconds a request and its reply may take, beside a second for each 65,536 bytes.
-    pub limit: u64,
-    /// How many seconds a fetch may take.
-    pub fetch_limit: u64,
-    /// Whether a file may have any type.
-    pub has_any_type: bool,
-    /// How much of the rows of the active release a new one may lack, in percent.
-    pub max_shrink: Option<u64>,
-}
 
 // The most parts of a whole file that are taken in one turn, which is all that are kept at a time.
 const PARTS: usize = 4;
@@ -63,13 +46,15 @@ pub type FeedNode<'a, K> = ServedNode<'a, K, FeedResponder<'a>>;
 pub struct Fetcher<'a> {
     rt: &'a HostRuntime,
     source: Option<Source<'a>>,
+    /// How many milliseconds a request and its reply may take, beside a second for each 65,536 bytes.
+    limit: u64,
     addrs: SourceAddrs,
     /// The file of the database.
     file: WatchedFile<'a>,
     state: &'a NodeState,
     running: Option<RunningExchange>,
     /// The facts of the last fetch.
-    report: FetchReport,
+    report: FetchReport<'a>,
     /// The lines of the fetches that ended, which are not printed yet.
     pub notes: Vec<u8>,
 }
@@ -114,25 +99,26 @@ enum Arrived {
 impl<'a> Fetcher<'a> {
     pub fn new(
         rt: &'a HostRuntime,
-        source: Option<Source<'a>>,
+        options: NodeOptions<'a>,
         addrs: SourceAddrs,
         file: WatchedFile<'a>,
         state: &'a NodeState,
     ) -> Fetcher<'a> {
         Fetcher {
             rt,
-            source,
+            source: options.source,
+            limit: options.limit,
             addrs,
             file,
             state,
             running: None,
-            report: FetchReport::new(rt, false, 0),
+            report: FetchReport::new(rt, "", false, 0),
             notes: Vec::new(rt.alloc()),
         }
     }
 
     /// Begins to fetch the release that a client asked for, if one did. The client receives a line for each event.
-    pub fn begin<K: Keep + Drop>(&mut self, server: &mut Server, node: &mut FeedNode<'_, K>)
+    pub fn begin<K: Keep>(&mut self, server: &mut Server, node: &mut FeedNode<'_, K>)
         ensures { IsLaterNode node.old node.new }
     {
         let Some(source) = self.source else {
@@ -141,7 +127,13 @@ impl<'a> Fetcher<'a> {
         match node.begin_fetch(piece_of(source)) {
             None => {}
             Some(Ok(())) => {
-                self.report = FetchReport::new(self.rt, is_answered(node), rows_of_active(node));
+                let was_reported = is_answered(node);
+                self.report = FetchReport::new(
+                    self.rt,
+                    source.addr,
+                    was_reported,
+                    rows_of_active(node),
+                );
                 self.addrs.renew(self.rt, source.addr);
                 let Some(expected) = self.state.expected() else {
                     return self.end_by(server, node, "Query", 2);
@@ -157,7 +149,7 @@ impl<'a> Fetcher<'a> {
             Some(Err(fault)) => {
                 let mut lines = self.lines();
                 let _ = print_name_fault(fault, &mut lines);
-                self.report = FetchReport::new(self.rt, false, 0);
+                self.report = FetchReport::new(self.rt, source.addr, false, 0);
                 let mut reason = Vec::new(self.rt.alloc());
                 let _ = write!(&mut reason, " {fault}");
                 self.note(b"-", FetchOutcome::Refused, &reason);
@@ -170,7 +162,7 @@ impl<'a> Fetcher<'a> {
     /// Ends the fetch that is under way, or that was asked for in this turn. What it stored is kept, so another fetch
     /// of the release continues.
     #[tactic(auto, using(feed_node_machine::proofs::Later::later_after))]
-    pub fn cancel<K: Keep + Drop>(&mut self, server: &mut Server, node: &mut FeedNode<'_, K>)
+    pub fn cancel<K: Keep>(&mut self, server: &mut Server, node: &mut FeedNode<'_, K>)
         ensures { IsLaterNode node.old node.new }
     {
         self.begin(server, node);
@@ -209,12 +201,7 @@ impl<'a> Fetcher<'a> {
     }
 
     // Reports the end of a fetch, and completes the reply to its client.
-    fn end<K: Keep + Drop>(
-        &mut self,
-        server: &mut Server,
-        node: &mut FeedNode<'_, K>,
-        end: FetchEnd,
-    )
+    fn end<K: Keep>(&mut self, server: &mut Server, node: &mut FeedNode<'_, K>, end: FetchEnd)
         ensures { IsLaterNode node.old node.new }
     {
         let mut lines = self.lines();
@@ -230,25 +217,17 @@ impl<'a> Fetcher<'a> {
 
     // Adds the line of a fetch that ended to the notes. If memory runs out, there is none.
     fn note(&mut self, name: &[u8], outcome: FetchOutcome, reason: &[u8]) {
-        let Some(source) = self.source else {
-            return;
-        };
         let start = self.notes.len();
-        let written = self.report.write_line(
-            self.rt,
-            &mut self.notes,
-            name,
-            source.addr,
-            outcome,
-            reason,
-        );
+        let written = self
+            .report
+            .write_line(self.rt, &mut self.notes, name, outcome, reason);
         if written.is_err() {
             self.notes.truncate(start);
         }
     }
 
     // Ends a fetch with an outcome for a reason, and reports both.
-    fn end_with<K: Keep + Drop>(
+    fn end_with<K: Keep>(
         &mut self,
         node: &mut FeedNode<'_, K>,
         outcome: FetchOutcome,
@@ -263,7 +242,7 @@ impl<'a> Fetcher<'a> {
     }
 
     // Ends a fetch by a fault that no other fetch has, with an exit status.
-    fn end_by<K: Keep + Drop>(
+    fn end_by<K: Keep>(
         &mut self,
         server: &mut Server,
         node: &mut FeedNode<'_, K>,
@@ -282,12 +261,7 @@ impl<'a> Fetcher<'a> {
     }
 
     // Ends a fetch whose list is held.
-    fn hold<K: Keep + Drop>(
-        &mut self,
-        server: &mut Server,
-        node: &mut FeedNode<'_, K>,
-        held: HeldList,
-    )
+    fn hold<K: Keep>(&mut self, server: &mut Server, node: &mut FeedNode<'_, K>, held: HeldList)
         ensures { IsLaterNode node.old node.new }
     {
         let HeldList { counts, before } = held;
@@ -303,7 +277,7 @@ impl<'a> Fetcher<'a> {
     }
 
     // Ends a fetch whose file is not the expected one.
-    fn refuse<K: Keep + Drop>(
+    fn refuse<K: Keep>(
         &mut self,
         server: &mut Server,
         node: &mut FeedNode<'_, K>,
@@ -322,7 +296,7 @@ impl<'a> Fetcher<'a> {
     }
 
     // Sends the next request of a fetch. If there is none, the fetch is over.
-    fn send_next<K: Keep + Drop>(
+    fn send_next<K: Keep>(
         &mut self,
         server: &mut Server,
         node: &mut FeedNode<'_, K>,
@@ -347,7 +321,7 @@ impl<'a> Fetcher<'a> {
         }
     }
 
-    fn try_send_next<K: Keep + Drop>(
+    fn try_send_next<K: Keep>(
         &self,
         server: &mut Server,
         node: &FeedNode<'_, K>,
@@ -375,7 +349,7 @@ impl<'a> Fetcher<'a> {
         running.exchange = Exchange::new(method, fetching.fetch.piece);
         let destination = Destination {
             addr,
-            limit: source.limit,
+            limit: self.limit,
             reply_limit: running.exchange.limit(),
         };
         server.begin_request(self.rt, destination, text)?;
@@ -386,11 +360,7 @@ impl<'a> Fetcher<'a> {
     /// fetch. Returns whether the file of the database is still at its path. If not, what was stored is lost, and not
     /// reported.
     #[tactic(auto, using(feed_node_machine::proofs::Later::later_after))]
-    pub fn advance<K: Keep + Drop>(
-        &mut self,
-        server: &mut Server,
-        node: &mut FeedNode<'_, K>,
-    ) -> bool
+    pub fn advance<K: Keep>(&mut self, server: &mut Server, node: &mut FeedNode<'_, K>) -> bool
         ensures { IsLaterNode node.old node.new }
     {
         let Some(mut running) = self.running.take() else {
@@ -407,7 +377,7 @@ impl<'a> Fetcher<'a> {
         true
     }
 
-    fn follow<K: Keep + Drop>(
+    fn follow<K: Keep>(
         &mut self,
         server: &mut Server,
         node: &mut FeedNode<'_, K>,
@@ -436,7 +406,7 @@ impl<'a> Fetcher<'a> {
 
     // Takes the parts of the reply that have arrived, or the reply.
     #[tactic(auto, using(feed_node_machine::proofs::Later::later_after))]
-    fn take_arrived<K: Keep + Drop>(
+    fn take_arrived<K: Keep>(
         &mut self,
         server: &mut Server,
         node: &mut FeedNode<'_, K>,
@@ -459,7 +429,7 @@ impl<'a> Fetcher<'a> {
 
     // Takes the next part of the reply that has arrived, or the reply, and appends the answers of the feed. The counts
     // of a release that it switches to are ahead of its last answer.
-    fn take_next<K: Keep + Drop>(
+    fn take_next<K: Keep>(
         &mut self,
         node: &mut FeedNode<'_, K>,
         running: &mut RunningExchange,
@@ -475,7 +445,7 @@ impl<'a> Fetcher<'a> {
         step
     }
 
-    fn take<K: Keep + Drop>(
+    fn take<K: Keep>(
         &mut self,
         node: &mut FeedNode<'_, K>,
         running: &mut RunningExchange,
@@ -505,7 +475,7 @@ impl<'a> Fetcher<'a> {
     }
 
     // Appends answers of the feed, with the counts of the release ahead of the last one if the feed switched to it.
-    fn put_answers<K: Keep + Drop>(
+    fn put_answers<K: Keep>(
         &mut self,
         node: &FeedNode<'_, K>,
         answers: &[u8],
@@ -571,7 +541,7 @@ fn cut_fault(outgoing: &OutgoingRequest) -> HttpFault {
 }
 
 // Takes the reply, or why there is none. A file that is not the expected one is not submitted.
-fn take_reply<K: Keep + Drop>(
+fn take_reply<K: Keep>(
     rt: &HostRuntime,
     node: &mut FeedNode<'_, K>,
     check: &mut FileCheck,
@@ -591,7 +561,7 @@ fn take_reply<K: Keep + Drop>(
 }
 
 // Submits the reply to the feed. If the file is read from its front on, the feed may have its bytes already.
-fn submit<K: Keep + Drop>(
+fn submit<K: Keep>(
     node: &mut FeedNode<'_, K>,
     check: &FileCheck,
     reply: &Result<Got, RequestFault>,
@@ -610,7 +580,12 @@ fn submit<K: Keep + Drop>(
             ),
             Some(size),
         ) => {
-            match node.take_part(*first, total.unwrap_or(size), bytes.as_slice(), lines) {
+            let part = FilePart {
+                first: *first,
+                length: total.unwrap_or(size),
+                bytes: bytes.as_slice(),
+            };
+            match node.take_part(&part, lines) {
                 Ok(_) => Ok(()),
                 Err(stop) => Err(stop),
             }
@@ -621,7 +596,7 @@ fn submit<K: Keep + Drop>(
 
 // Returns how the file of a reply differs from the expected one, if it does, or if its sum or its rows could not be
 // known in time.
-fn mismatch_of<K: Keep + Drop>(
+fn mismatch_of<K: Keep>(
     alloc: Global,
     node: &FeedNode<'_, K>,
     check: &mut FileCheck,
@@ -637,16 +612,14 @@ fn mismatch_of<K: Keep + Drop>(
 }
 
 // Returns how the file of a part differs from the expected one, in the same way.
-fn part_mismatch<K: Keep + Drop>(
+fn part_mismatch<K: Keep>(
     alloc: Global,
     node: &FeedNode<'_, K>,
     check: &mut FileCheck,
-    part: WholePart,
-    bytes: &[u8],
+    part: &FilePart<'_>,
 ) -> Option<Mismatch> {
     let fetching = node.fetching()?;
-    let WholePart { first, length, .. } = part;
-    match check.part_mismatch(alloc, node.feed(), &fetching.name, first, length, bytes) {
+    match check.part_mismatch(alloc, node.feed(), &fetching.name, part) {
         None if !lacks_end(node, check) => Some(check.range_mismatch()),
         mismatch => mismatch,
     }
@@ -654,7 +627,7 @@ fn part_mismatch<K: Keep + Drop>(
 
 // Returns whether the whole file, if it is read from its front on, is known before its last missing byte is submitted:
 // the first range that the feed lacks goes to its end, or it lacks none.
-fn lacks_end<K: Keep + Drop>(node: &FeedNode<'_, K>, check: &FileCheck) -> bool {
+fn lacks_end<K: Keep>(node: &FeedNode<'_, K>, check: &FileCheck) -> bool {
     let (Some(size), Some(fetching)) = (check.read_size(), node.fetching()) else {
         return true;
     };
@@ -665,7 +638,7 @@ fn lacks_end<K: Keep + Drop>(node: &FeedNode<'_, K>, check: &FileCheck) -> bool 
 }
 
 // Takes a part of a whole file, and discards its bytes. No more parts are taken once nothing is missing.
-fn take_part<K: Keep + Drop>(
+fn take_part<K: Keep>(
     rt: &HostRuntime,
     node: &mut FeedNode<'_, K>,
     running: &mut RunningExchange,
@@ -679,11 +652,15 @@ fn take_part<K: Keep + Drop>(
     let Some(bytes) = outgoing.reply().get(part.from..part.to) else {
         return Step::Wait;
     };
-    if let Some(mismatch) = part_mismatch(rt.alloc(), node, &mut running.check, part, bytes) {
+    let found = FilePart {
+        first: part.first,
+        length: part.length,
+        bytes,
+    };
+    if let Some(mismatch) = part_mismatch(rt.alloc(), node, &mut running.check, &found) {
         return Step::Refuse(mismatch);
     }
-    let WholePart { first, length, .. } = part;
-    match node.take_part(first, length, bytes, lines) {
+    match node.take_part(&found, lines) {
         Ok(is_new) => {
             outgoing.discard(part.to);
             running.exchange.pass(part, is_new);
@@ -698,7 +675,7 @@ fn take_part<K: Keep + Drop>(
 }
 
 // Returns whether the node answers from the release that is fetched.
-fn is_answered<K: Keep + Drop>(node: &FeedNode<'_, K>) -> bool {
+fn is_answered<K: Keep>(node: &FeedNode<'_, K>) -> bool {
     match node.fetching() {
         Some(fetching) => is_reported(node.feed(), &fetching.name),
         None => false,
@@ -706,7 +683,7 @@ fn is_answered<K: Keep + Drop>(node: &FeedNode<'_, K>) -> bool {
 }
 
 // Returns the counts of the active release of the package that is fetched, if there is one and memory lasts.
-fn counts_of_active<K: Keep + Drop>(node: &FeedNode<'_, K>) -> Option<ListCounts> {
+fn counts_of_active<K: Keep>(node: &FeedNode<'_, K>) -> Option<ListCounts> {
     let fetching = node.fetching()?;
     match active_counts(node.feed(), fetching.name.package()) {
         Ok(counts) => counts,
@@ -715,7 +692,7 @@ fn counts_of_active<K: Keep + Drop>(node: &FeedNode<'_, K>) -> Option<ListCounts
 }
 
 // Returns the rows of this release.
-fn rows_of_active<K: Keep + Drop>(node: &FeedNode<'_, K>) -> usize {
+fn rows_of_active<K: Keep>(node: &FeedNode<'_, K>) -> usize {
     rows_before(counts_of_active(node))
 }
 
@@ -751,7 +728,7 @@ fn piece_of(source: Source<'_>) -> u64
 }
 
 // Returns whether nothing is missing of the release that is fetched.
-fn is_done<K: Keep + Drop>(node: &FeedNode<'_, K>) -> bool {
+fn is_done<K: Keep>(node: &FeedNode<'_, K>) -> bool {
     match node.fetching() {
         Some(fetching) => fetching.fetch.next(node.feed(), &fetching.name) == Next::Done,
         None => true,
@@ -759,7 +736,7 @@ fn is_done<K: Keep + Drop>(node: &FeedNode<'_, K>) -> bool {
 }
 
 // Returns the next request of a fetch with its method, or none if the fetch is over.
-fn next_request<K: Keep + Drop>(
+fn next_request<K: Keep>(
     rt: &HostRuntime,
     feed: &Feed<K>,
     fetching: &Fetching,

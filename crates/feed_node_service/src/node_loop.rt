@@ -3,8 +3,8 @@ ghost use Rattle.std.specs.Prelude.{◌≡◌};
 ghost use Rattle.feed_node_table.specs.Tables.{size_of};
 ghost use Rattle.feed_node_service.specs.Runs.{HasGoneOn, IsLaterNode};
 
-use crate::access_log::{AccessLog, LogSettings};
-use crate::fetcher::{FeedNode, Fetcher, Source};
+use crate::access_log::AccessLog;
+use crate::fetcher::{FeedNode, Fetcher};
 use crate::node_log::NodeLog;
 use crate::node_state::{NodeState, TurnFacts};
 use crate::responder::FeedResponder;
@@ -16,6 +16,7 @@ use feed_keep::Keep;
 use feed_node_machine::NodeMachine;
 use feed_node_server::{Server, Socket};
 use feed_node_table::Table;
+use feed_options::NodeOptions;
 use feed_releases::Feed;
 use feed_resolver_tag::Site;
 use mio::Events;
@@ -33,32 +34,31 @@ pub enum End {
     FileGone,
 }
 
-/// The setup of a node, beside its feed, its server and the file of its database. The start and the run of a node have
-/// the same, so its counters begin with the start.
+/// The setup of a node, beside its feed and its server. The start and the run of a node have the same, so its counters
+/// begin with the start.
 #[derive(Drop)]
 pub struct NodeSetup<'a> {
-    /// The server that releases are fetched from, and its addresses.
-    pub source: Option<Source<'a>>,
+    pub options: NodeOptions<'a>,
+    /// The token that authorizes a fetch, and the addresses of the server that releases are fetched from.
+    pub token: Option<&'a [u8]>,
     pub addrs: SourceAddrs,
     /// The version, the settings and the site file, on which replies and their tags depend.
     pub site: Site,
-    /// The version of the program.
-    pub version: &'a str,
-    pub log: LogSettings,
     /// The packages that readers wait for.
     pub wanted: &'a [WantedPackage],
     pub state: &'a NodeState,
+    /// The file of the database.
+    pub file: WatchedFile<'a>,
 }
 
 /// Answers readers from a feed, until the poll fails, or the file of the database is gone as a fetch stores in it. If
 /// there is a source, a client that has the token can have a release fetched from there. Writes the lines of the log
 /// after each turn. Returns why the node ends, and the keeper of the feed.
-pub fn run<K: Keep + Drop, W: Write, F: Write>(
+pub fn run<K: Keep, W: Write, F: Write>(
     rt: &HostRuntime,
     feed: Feed<K>,
     server: &mut Server,
     setup: NodeSetup<'_>,
-    file: WatchedFile<'_>,
     out: &mut NodeLog<W, F>,
 ) -> (End, K)
     ensures { HasGoneOn feed result }
@@ -66,16 +66,15 @@ pub fn run<K: Keep + Drop, W: Write, F: Write>(
     let Ok(table) = Table::new(rt.alloc(), server.clients()) else {
         return (End::Memory, feed.restart());
     };
-    run_over(rt, feed, server, setup, file, out, table)
+    run_over(rt, feed, server, setup, out, table)
 }
 
 // Runs a node over its table.
-fn run_over<'a, K: Keep + Drop, W: Write, F: Write>(
+fn run_over<'a, K: Keep, W: Write, F: Write>(
     rt: &'a HostRuntime,
     feed: Feed<K>,
     server: &mut Server,
     setup: NodeSetup<'a>,
-    file: WatchedFile<'a>,
     out: &'a mut NodeLog<W, F>,
     table: Table<Socket>,
 ) -> (End, K)
@@ -86,33 +85,24 @@ fn run_over<'a, K: Keep + Drop, W: Write, F: Write>(
     let responder = FeedResponder {
         state,
         site: setup.site,
-        version: setup.version.as_bytes(),
-        has_open_reports: setup.log.has_open_reports,
+        version: setup.options.version_number().as_bytes(),
+        has_open_reports: setup.options.log.has_open_reports,
         wanted: setup.wanted,
     };
-    let token = token_of(setup.source);
     let day = day_number(rt);
-    let mut node = NodeMachine::new(rt.alloc(), table, feed, responder, token, today(day));
+    let mut node = NodeMachine::new(rt.alloc(), table, feed, responder, setup.token, today(day));
     let _ = node.keep_releases();
-    state.start(unix_seconds(rt));
+    state.note_start(unix_seconds(rt));
     let mut running = RunningNode {
         rt,
         state,
-        fetcher: Fetcher::new(rt, setup.source, setup.addrs, file, state),
-        log: AccessLog::new(rt, out, state, setup.log),
+        fetcher: Fetcher::new(rt, setup.options, setup.addrs, setup.file, state),
+        log: AccessLog::new(rt, out, state, setup.options.log),
         day,
         switched: None,
     };
     let end = running.run(&mut node, server);
     (end, node.into_keeper())
-}
-
-// Returns the token that authorizes a fetch.
-fn token_of<'a>(source: Option<Source<'a>>) -> Option<&'a [u8]> {
-    match source {
-        Some(source) => Some(source.token),
-        None => None,
-    }
 }
 
 // The parts of a running node beside its connections and its feed.
@@ -130,7 +120,7 @@ struct RunningNode<'a, W: Write, F: Write> {
 
 impl<'a, W: Write, F: Write> RunningNode<'a, W, F> {
     #[tactic(auto, using(feed_node_machine::proofs::Later::later_after))]
-    fn run<K: Keep + Drop>(&mut self, node: &mut FeedNode<'_, K>, server: &mut Server) -> End
+    fn run<K: Keep>(&mut self, node: &mut FeedNode<'_, K>, server: &mut Server) -> End
         ensures { IsLaterNode node.old node.new }
     {
         let mut events = match server.events() {
@@ -147,7 +137,7 @@ impl<'a, W: Write, F: Write> RunningNode<'a, W, F> {
 
     // Runs a turn: the connections, the log, and a step of the fetch that is under way. Returns why the node ends.
     #[tactic(auto, using(feed_node_machine::proofs::Later::later_after))]
-    fn turn<K: Keep + Drop>(
+    fn turn<K: Keep>(
         &mut self,
         node: &mut FeedNode<'_, K>,
         server: &mut Server,
@@ -179,7 +169,7 @@ impl<'a, W: Write, F: Write> RunningNode<'a, W, F> {
 
     // Ends the fetch that is under way, if a client that has the token asked for that.
     #[tactic(auto, using(feed_node_machine::proofs::Later::later_same))]
-    fn cancel<K: Keep + Drop>(&mut self, node: &mut FeedNode<'_, K>, server: &mut Server)
+    fn cancel<K: Keep>(&mut self, node: &mut FeedNode<'_, K>, server: &mut Server)
         ensures { IsLaterNode node.old node.new }
     {
         if self.state.take_cancel() {
@@ -188,7 +178,7 @@ impl<'a, W: Write, F: Write> RunningNode<'a, W, F> {
     }
 
     // Begins the day of the clock, if it is another one than before.
-    fn begin_day<K: Keep + Drop>(&mut self, node: &mut FeedNode<'_, K>)
+    fn begin_day<K: Keep>(&mut self, node: &mut FeedNode<'_, K>)
         ensures { IsLaterNode node.old node.new }
     {
         let day = day_number(self.rt);
@@ -213,7 +203,7 @@ impl<'a, W: Write, F: Write> RunningNode<'a, W, F> {
     }
 
     // Notes that a fetch ended, if one was under way and is not any more.
-    fn note_end<K: Keep + Drop>(&mut self, node: &mut FeedNode<'_, K>, was_busy: bool)
+    fn note_end<K: Keep>(&mut self, node: &mut FeedNode<'_, K>, was_busy: bool)
         ensures { node.new ≡ node.old }
     {
         if !was_busy || node.fetching().is_some() {
@@ -223,7 +213,7 @@ impl<'a, W: Write, F: Write> RunningNode<'a, W, F> {
     }
 
     // Keeps the digest of the active releases, and the time if they have changed.
-    fn note_switch<K: Keep + Drop>(&mut self, node: &mut FeedNode<'_, K>)
+    fn note_switch<K: Keep>(&mut self, node: &mut FeedNode<'_, K>)
         ensures { node.new ≡ node.old }
     {
         if let Ok(true) = node.keep_releases() {

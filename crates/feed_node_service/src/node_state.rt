@@ -12,9 +12,11 @@ use feed_file_checks::ExpectedFile;
 use feed_keep::Keep;
 use feed_metrics::{Gauges, ReleaseTime};
 use feed_monitoring::{
-    Exchange, LogPolicy, ReportReply, record_exchange, respond_about_node, respond_at_start,
+    Exchange, LogPolicy, ReportReply, ReportRequest, record_exchange, respond_about_node,
+    respond_at_start,
 };
 use feed_names::ReleaseName;
+use feed_node_connection::IncomingRequest;
 use feed_node_server::CloseCause;
 use feed_releases::Feed;
 use feed_resolver::{Activity, LastFetch, respond_about_feed};
@@ -85,7 +87,7 @@ impl NodeState {
     }
 
     /// Keeps when the node began to answer from its feed.
-    pub fn start(&self, seconds: u64) {
+    pub fn note_start(&self, seconds: u64) {
         self.started.set(seconds);
     }
 
@@ -116,7 +118,7 @@ impl NodeState {
     }
 
     // Keeps the fetch of a release that it activated, unless memory runs out.
-    fn activate(&self, name: &ReleaseName, outcome: FetchOutcome, seconds: u64) {
+    fn note_activation(&self, name: &ReleaseName, outcome: FetchOutcome, seconds: u64) {
         if let (Ok(name), Ok(mut activations)) = (
             name.try_clone(),
             self.activations.try_borrow_mut(),
@@ -133,7 +135,7 @@ impl NodeState {
     pub fn end_fetch(&self, name: ReleaseName, outcome: FetchOutcome, seconds: u64) {
         self.count_fetch(outcome);
         if matches!(outcome, FetchOutcome::Activated) {
-            self.activate(&name, outcome, seconds);
+            self.note_activation(&name, outcome, seconds);
         }
         if let Ok(mut fetches) = self.fetches.try_borrow_mut() {
             let _ = fetches.put(LastFetch {
@@ -150,7 +152,7 @@ impl NodeState {
     /// # Errors
     ///
     /// Running out of memory.
-    pub fn feed_reply<K: Keep + Drop>(
+    pub fn feed_reply<K: Keep>(
         &self,
         alloc: Global,
         bytes: &[u8],
@@ -208,14 +210,15 @@ impl NodeState {
     pub fn report(
         &self,
         alloc: Global,
-        bytes: &[u8],
-        persists: bool,
+        request: &IncomingRequest<'_>,
         version: &[u8],
         releases: &[ReleaseTime<'_>],
         missing: &[u8],
     ) -> Result<Option<ReportReply>, AllocError>
-        ensures value { IfOk result (IsSomeReply bytes.now persists releases.now missing.now) }
-        ensures says { IfOk result (λ found. IfSome found (λ reply. SaysWhetherItKeeps persists reply.bytes.items)) }
+        ensures value { IfOk result
+            (IsSomeReply request.now.head.now request.now.persists releases.now missing.now) }
+        ensures says { IfOk result (λ found. IfSome found (λ reply.
+            SaysWhetherItKeeps request.now.persists reply.bytes.items)) }
     {
         let facts = self.facts.get();
         match self.counts.try_borrow() {
@@ -227,7 +230,14 @@ impl NodeState {
                     releases,
                     since_switch: facts.since_switch,
                 };
-                respond_about_node(alloc, bytes, persists, &counts.metrics, &gauges, missing)
+                respond_about_node(
+                    alloc,
+                    request.head,
+                    request.persists,
+                    &counts.metrics,
+                    &gauges,
+                    missing,
+                )
             }
             Err(_) => Err(AllocError),
         }
@@ -242,26 +252,16 @@ impl NodeState {
     pub fn starting_report(
         &self,
         alloc: Global,
-        is_local: bool,
-        is_open: bool,
-        bytes: &[u8],
-        persists: bool,
+        request: &ReportRequest<'_>,
         version: &[u8],
     ) -> Result<Option<ReportReply>, AllocError>
-        ensures value { IfOk result (IsSomeStartingReply is_local is_open bytes.now persists) }
-        ensures says { IfOk result (λ found. IfSome found (λ reply. SaysWhetherItKeeps persists reply.bytes.items)) }
+        ensures value { IfOk result
+            (IsSomeStartingReply request.now.is_local request.now.is_open request.now.bytes.now request.now.keeps) }
+        ensures says { IfOk result (λ found. IfSome found (λ reply.
+            SaysWhetherItKeeps request.now.keeps reply.bytes.items)) }
     {
         match self.counts.try_borrow() {
-            Ok(counts) => respond_at_start(
-                alloc,
-                is_local,
-                is_open,
-                bytes,
-                persists,
-                &counts.metrics,
-                version,
-                counts.open,
-            ),
+            Ok(counts) => respond_at_start(alloc, request, &counts.metrics, version, counts.open),
             Err(_) => Err(AllocError),
         }
     }

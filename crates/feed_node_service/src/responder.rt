@@ -75,7 +75,7 @@ fn expected_by(
 impl<'a> FeedResponder<'a> {
     // Returns the reply to a request that is not for a report, or none to a reader while a wanted package has no active
     // release.
-    fn response<K: Keep + Drop>(
+    fn response<K: Keep>(
         &self,
         alloc: Global,
         occasion: &Occasion<'_, '_, K>,
@@ -126,30 +126,30 @@ impl<'a> FeedResponder<'a> {
 
     // Returns the reply about the node, if the request asks for one and the client may have it.
     #[tactic(auto, using(crate::proofs::Reported::report_in))]
-    fn report<K: Keep + Drop>(
+    fn report<K: Keep>(
         &self,
         alloc: Global,
         occasion: &Occasion<'_, '_, K>,
-        bytes: &[u8],
-        persists: bool,
+        request: &IncomingRequest<'_>,
     ) -> Result<Option<ReportReply>, AllocError>
         ensures value { IfOk result (λ found. (h : History) → IsContent (recorded occasion.now.feed.now) h
-            → IsReportIn self.now occasion.now.is_local h bytes.now persists found) }
-        ensures says { IfOk result (λ found. IfSome found (λ reply. SaysWhetherItKeeps persists reply.bytes.items)) }
+            → IsReportIn self.now occasion.now.is_local h request.now.head.now request.now.persists found) }
+        ensures says { IfOk result (λ found. IfSome found (λ reply.
+            SaysWhetherItKeeps request.now.persists reply.bytes.items)) }
     {
-        if !self.is_report(occasion.is_local, bytes) {
+        if !self.is_report(occasion.is_local, request.head) {
             return Ok(None);
         }
         let actives = occasion.feed.actives()?;
         let releases = release_times(alloc, &actives)?;
         let missing = missing_text(alloc, &actives, self.wanted)?;
         self.state
-            .report(alloc, bytes, persists, self.version, &releases, &missing)
+            .report(alloc, request, self.version, &releases, &missing)
     }
 
     // Returns the reply to a reader, or to a client that has the token. It is streamed exactly if the request makes the
     // node begin to fetch: what this says of the file is noted. So is a request that ends the fetch under way.
-    fn reader_reply<K: Keep + Drop>(
+    fn reader_reply<K: Keep>(
         &self,
         alloc: Global,
         occasion: &Occasion<'_, '_, K>,
@@ -204,19 +204,19 @@ impl<'a> FeedRespond for FeedResponder<'a> {
         (form_length(request) as usize).min(BODY_LIMIT)
     }
 
-    fn respond<K: Keep + Drop>(
+    fn respond<K: Keep>(
         &self,
         alloc: Global,
         occasion: &Occasion<'_, '_, K>,
         request: &IncomingRequest<'_>,
     ) -> Result<Reply, RespondFault> {
-        match self.report(alloc, occasion, request.head, request.persists)? {
+        match self.report(alloc, occasion, request)? {
             Some(reply) => Ok(Reply::new(reply.bytes, reply.status, reply.body_len)),
             None => self.reader_reply(alloc, occasion, request),
         }
     }
 
-    fn keep_releases<K: Keep + Drop>(
+    fn keep_releases<K: Keep>(
         &mut self,
         alloc: Global,
         feed: &Feed<K>,

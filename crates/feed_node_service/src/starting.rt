@@ -41,7 +41,7 @@ type StartingNode<'a> = ServedNode<'a, ListKeep, StartingResponder<'a>>;
 /// Opens a feed in steps, and runs a turn of a node after 50 ms and then after each 2 ms of them. This node replies to
 /// requests for reports, as one without an active release, and to all others by 503. Writes the lines of the log after
 /// each turn. Once the feed is open, the connections of this node have 250 ms to end.
-pub fn start<K: Keep + Drop, W: Write, F: Write>(
+pub fn start<K: Keep, W: Write, F: Write>(
     rt: &HostRuntime,
     opening: Opening<K>,
     server: &mut Server,
@@ -79,8 +79,8 @@ fn starting_node<'a>(
     };
     let responder = StartingResponder {
         state: setup.state,
-        version: setup.version.as_bytes(),
-        has_open_reports: setup.log.has_open_reports,
+        version: setup.options.version_number().as_bytes(),
+        has_open_reports: setup.options.log.has_open_reports,
     };
     let day = today(day_number(rt));
     Ok(NodeMachine::new(rt.alloc(), table, feed, responder, None, day))
@@ -111,7 +111,7 @@ impl<'a, W: Write, F: Write> Starting<'a, W, F> {
         Ok(Starting {
             rt,
             events,
-            log: AccessLog::new(rt, out, setup.state, setup.log),
+            log: AccessLog::new(rt, out, setup.state, setup.options.log),
             last_turn: Instant::now(rt).ok(),
             until_turn: FIRST_MILLIS,
         })
@@ -119,7 +119,7 @@ impl<'a, W: Write, F: Write> Starting<'a, W, F> {
 
     // Opens the feed in steps, and runs a turn whenever one is due.
     #[tactic(auto, using(feed_node_machine::proofs::Later::later_after))]
-    fn open<K: Keep + Drop>(
+    fn open<K: Keep>(
         &mut self,
         opening: Opening<K>,
         node: &mut StartingNode<'_>,

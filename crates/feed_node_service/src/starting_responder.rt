@@ -2,6 +2,7 @@
 use crate::node_state::NodeState;
 use feed_http_heads::Request;
 use feed_keep::Keep;
+use feed_monitoring::ReportRequest;
 use feed_node_connection::{IncomingRequest, Reply, RespondFault};
 use feed_node_machine::{FeedRespond, Occasion};
 use feed_releases::Feed;
@@ -29,27 +30,26 @@ impl<'a> FeedRespond for StartingResponder<'a> {
         0
     }
 
-    fn respond<K: Keep + Drop>(
+    fn respond<K: Keep>(
         &self,
         alloc: Global,
         occasion: &Occasion<'_, '_, K>,
         request: &IncomingRequest<'_>,
     ) -> Result<Reply, RespondFault> {
-        let found = self.state.starting_report(
-            alloc,
-            occasion.is_local,
-            self.has_open_reports,
-            request.head,
-            request.persists,
-            self.version,
-        )?;
+        let report = ReportRequest {
+            bytes: request.head,
+            is_local: occasion.is_local,
+            is_open: self.has_open_reports,
+            keeps: request.persists,
+        };
+        let found = self.state.starting_report(alloc, &report, self.version)?;
         match found {
             Some(reply) => Ok(Reply::new(reply.bytes, reply.status, reply.body_len)),
             None => Err(RespondFault::Busy),
         }
     }
 
-    fn keep_releases<K: Keep + Drop>(
+    fn keep_releases<K: Keep>(
         &mut self,
         _alloc: Global,
         _feed: &Feed<K>,

@@ -59,7 +59,7 @@ fn has_package(actives: &[ActiveRelease<'_>], package: &[u8]) -> bool
 }
 
 // Returns whether each wanted package has an active release.
-fn has_each<K: Keep + Drop>(feed: &Feed<K>, wanted: &[WantedPackage]) -> bool
+fn has_each<K: Keep>(feed: &Feed<K>, wanted: &[WantedPackage]) -> bool
     ensures { (h : History) → IsContent (recorded feed.now) h
         → MatchBool result (HasEach h wanted.now) (LacksOne h wanted.now) }
 {
@@ -122,11 +122,7 @@ fn asks_for_fetch(bytes: &[u8]) -> bool
 
 /// Returns whether a request that asks nothing of the feed is answered: each wanted package has an active release, or
 /// the request asks the node to fetch.
-pub(crate) fn is_answerable<K: Keep + Drop>(
-    feed: &Feed<K>,
-    wanted: &[WantedPackage],
-    bytes: &[u8],
-) -> bool
+pub(crate) fn is_answerable<K: Keep>(feed: &Feed<K>, wanted: &[WantedPackage], bytes: &[u8]) -> bool
     ensures { (h : History) → IsContent (recorded feed.now) h
         → MatchBool result (IsAnswerable wanted.now h bytes.now) (IsUnanswerable wanted.now h bytes.now) }
 {

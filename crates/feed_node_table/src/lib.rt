@@ -8,6 +8,6 @@ mod stream;
 mod table;
 
 pub use log::{CloseCause, Log};
-pub use peer::Outcome;
+pub use peer::{NewConnection, Outcome};
 pub use stream::Stream;
 pub use table::{HELD_LIMIT, Table};

@@ -29,6 +29,17 @@ pub enum Outcome {
     Over,
 }
 
+/// A connection that was accepted.
+#[derive(Drop)]
+pub struct NewConnection<T> {
+    pub stream: T,
+    /// The address of its peer.
+    pub addr: SocketAddr,
+    pub limits: TimeLimits,
+    /// When it was accepted.
+    pub now: u64,
+}
+
 /// A connection with its stream. Times are in microseconds since a moment that the caller chooses.
 #[derive(Drop)]
 pub(crate) struct Peer<T> {
@@ -51,18 +62,18 @@ impl<T: Stream> Peer<T> {
     ghost use Rattle.feed_node_table.specs.Peers.{is_behind, IsFollowed, IsLate};
 
     /// Returns a connection that was accepted now.
-    pub(crate) fn new(
-        alloc: Global,
-        stream: T,
-        addr: SocketAddr,
-        limits: TimeLimits,
-        now: u64,
-    ) -> Peer<T>
-        ensures addr { result.addr ≡ addr }
-        ensures stream { result.stream ≡ stream }
+    pub(crate) fn new(alloc: Global, accepted: NewConnection<T>) -> Peer<T>
+        ensures addr { result.addr ≡ accepted.addr }
+        ensures stream { result.stream ≡ accepted.stream }
         ensures state { HasState result.connection [] }
         ensures held { allocated_bytes result.connection ≡ 0 }
     {
+        let NewConnection {
+            stream,
+            addr,
+            limits,
+            now,
+        } = accepted;
         Peer {
             stream,
             addr,

@@ -8,9 +8,9 @@ ghost use Rattle.feed_node_turns.specs.Turns.{key_count, IsReady};
 ghost use Rattle.feed_node_table.specs.Peers.{held_in, AreBounded};
 
 use crate::log::{CloseCause, Log};
-use crate::peer::{Outcome, Peer};
+use crate::peer::{NewConnection, Outcome, Peer};
 use crate::stream::Stream;
-use feed_node_connection::{Progress, Respond, Share, Shortage, TimeLimits};
+use feed_node_connection::{Progress, Respond, Share, Shortage};
 use feed_node_turns::{ReadyQueues, TurnRest};
 use slab::Slab;
 use std::alloc::{AllocError, Global};
@@ -103,25 +103,22 @@ impl<T: Stream> Table<T> {
     pub fn insert<L: Log>(
         &mut self,
         alloc: Global,
-        stream: T,
-        addr: SocketAddr,
-        limits: TimeLimits,
-        now: u64,
+        accepted: NewConnection<T>,
         log: &mut L,
     ) -> usize
         requires { size_of self.old < self.old.clients }
         ensures vacant { peer_at self.old result ≡ None }
-        ensures added { IsSomeAnd (peer_at self.new result) (λ peer. peer.addr ≡ addr) }
+        ensures added { IsSomeAnd (peer_at self.new result) (λ peer. peer.addr ≡ accepted.addr) }
         ensures fresh { IsSomeAnd (peer_at self.new result) (λ peer. HasState peer.connection []) }
         ensures others { KeepsOthers result self.old self.new }
         ensures size { size_of self.new ≡ size_of self.old + 1 }
         ensures held { bytes_held self.new ≡ bytes_held self.old }
         ensures ready { self.new.ready ≡ self.old.ready }
         ensures clients { self.new.clients ≡ self.old.clients }
-        ensures recorded { L.records log.old (Accepted addr) log.new }
+        ensures recorded { L.records log.old (Accepted accepted.addr) log.new }
     {
-        log.on_accept(addr);
-        let peer = Peer::new(alloc, stream, addr, limits, now);
+        log.on_accept(accepted.addr);
+        let peer = Peer::new(alloc, accepted);
         self.peers.insert_reserved(peer)
     }
 

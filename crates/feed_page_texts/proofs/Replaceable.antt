@@ -9,6 +9,7 @@ pub texts_have_names : TextsHaveNames
 unfolding row_of is_name name_of
 texts_have_names text.FullText = refl
 texts_have_names text.NoFullText = refl
+texts_have_names text.NoFullTextSoFar = refl
 texts_have_names text.NotAnswered = refl
 texts_have_names text.AskAgain = refl
 texts_have_names text.NothingToLookUp = refl

@@ -24,6 +24,8 @@ row name english german french =
 unfoldable pub row_of : Text → RowValue
 row_of text.FullText = row "full_text" "Full text" "Volltext" "Texte intégral"
 row_of text.NoFullText = row "no_full_text" "No full text found" "Kein Volltext gefunden" "Aucun texte intégral trouvé"
+row_of text.NoFullTextSoFar =
+    row "no_full_text_so_far" "No full text found so far" "Bisher kein Volltext gefunden" "Aucun texte intégral trouvé jusqu’ici"
 row_of text.NotAnswered = row "not_answered" "Not answered" "Nicht beantwortet" "Demande non traitée"
 row_of text.AskAgain = row "ask_again" "Ask again" "Neu anfragen" "Reformuler la demande"
 row_of text.NothingToLookUp = row "nothing_to_look_up" "Nothing to look up" "Keine Suche möglich" "Recherche impossible"

@@ -1,7 +1,8 @@
 //! The words of each text in English, in the order of the texts.
-pub(crate) static ENGLISH: [&'static str; 83] = [
+pub(crate) static ENGLISH: [&'static str; 84] = [
     "Full text",
     "No full text found",
+    "No full text found so far",
     "Not answered",
     "Ask again",
     "Nothing to look up",

@@ -1,7 +1,8 @@
 //! The words of each text in French, in the order of the texts.
-pub(crate) static FRENCH: [&'static str; 83] = [
+pub(crate) static FRENCH: [&'static str; 84] = [
     "Texte intégral",
     "Aucun texte intégral trouvé",
+    "Aucun texte intégral trouvé jusqu’ici",
     "Demande non traitée",
     "Reformuler la demande",
     "Recherche impossible",

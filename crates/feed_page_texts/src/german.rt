@@ -1,7 +1,8 @@
 //! The words of each text in German, in the order of the texts.
-pub(crate) static GERMAN: [&'static str; 83] = [
+pub(crate) static GERMAN: [&'static str; 84] = [
     "Volltext",
     "Kein Volltext gefunden",
+    "Bisher kein Volltext gefunden",
     "Nicht beantwortet",
     "Neu anfragen",
     "Keine Suche möglich",

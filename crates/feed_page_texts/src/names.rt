@@ -1,7 +1,8 @@
 //! The name of each text, by which a site file replaces it, in the order of the texts.
-pub(crate) static NAMES: [&'static str; 83] = [
+pub(crate) static NAMES: [&'static str; 84] = [
     "full_text",
     "no_full_text",
+    "no_full_text_so_far",
     "not_answered",
     "ask_again",
     "nothing_to_look_up",

@@ -5,6 +5,7 @@
 pub enum Text {
     FullText,
     NoFullText,
+    NoFullTextSoFar,
     NotAnswered,
     AskAgain,
     NothingToLookUp,
@@ -89,9 +90,10 @@ pub enum Text {
 }
 
 /// All texts.
-pub const TEXTS: [Text; 83] = [
+pub const TEXTS: [Text; 84] = [
     Text::FullText,
     Text::NoFullText,
+    Text::NoFullTextSoFar,
     Text::NotAnswered,
     Text::AskAgain,
     Text::NothingToLookUp,

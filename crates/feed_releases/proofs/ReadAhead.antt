@@ -10,7 +10,7 @@ use Rattle.feed_kbart.specs.HoldingsValue.{HoldingsValue}
 use Rattle.feed_kbart.specs.Files.{IsReadOf}
 use Rattle.feed_kbart.specs.declared.fault.KbartFault.{KbartFault}
 use Rattle.feed_kbart.specs.declared.fault.KbartFault.TheVariants as faults
-use Rattle.feed_list_check.specs.Checks.{IsCheckOfList}
+use Rattle.feed_kbart.specs.ListChecks.{IsCheckOfList}
 use Rattle.feed_keep.proofs.BadFile.{one_text}
 use Rattle.feed_model.specs.History.{byte_at, or_else}
 use Rattle.feed_model.specs.Content.{IsText, Part, Record, byte_in}

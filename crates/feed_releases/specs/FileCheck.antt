@@ -1,6 +1,6 @@
 -- A check that reads a file in windows.
 use Rattle.std.specs.Prelude.{◌≡◌, ◌-◌, ℕ, List, Option, None, Some}
-use Rattle.feed_list_check.specs.Checks.{IsCheckOfList}
+use Rattle.feed_kbart.specs.ListChecks.{IsCheckOfList}
 use Rattle.feed_model.specs.History.{byte_at, or_else}
 use Rattle.feed_model.specs.Content.{IsText, Part, Record, byte_in}
 use Rattle.feed_releases.specs.declared.file_check.FileCheck.{FileCheck}

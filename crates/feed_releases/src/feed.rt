@@ -54,7 +54,7 @@ pub enum Point {
 
 /// The feed of a node over its keeper.
 #[derive(Drop)]
-pub struct Feed<K: Keep + Drop> {
+pub struct Feed<K: Keep> {
     alloc: Global,
     keeper: K,
     releases: Vec<Release>,
@@ -68,7 +68,7 @@ pub struct Feed<K: Keep + Drop> {
     ghost reads: { IsAhead releases.items ahead },
 }
 
-impl<K: Keep + Drop> Feed<K> {
+impl<K: Keep> Feed<K> {
     ghost use Rattle.std.specs.Prelude.{◌≢◌, ◌↔◌, ◌<◌, ◌∷◌, []};
     ghost use Rattle.std.specs.Prelude.{All, Err, map, IfOk, IfErr, OnErr, IsTrue, option_map};
     ghost use Rattle.std.specs.List.{Contains};

@@ -6,8 +6,7 @@ ghost use Rattle.feed_model.specs.Parts.{AgreesIn};
 ghost use Rattle.feed_parts.specs.Segments.{HasRun};
 ghost use Rattle.feed_releases.specs.FileCheck.{IsCheckOf, IsUnion, window};
 
-use feed_kbart::{Holdings, KbartFault};
-use feed_list_check::ListCheck;
+use feed_kbart::{Holdings, KbartFault, ListCheck};
 use feed_parts::Segments;
 use std::alloc::Global;
 

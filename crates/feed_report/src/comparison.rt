@@ -5,14 +5,11 @@ use feed_counts::count_of;
 use feed_dates::write_date;
 use feed_diff::{Change, Comparison};
 use feed_identifiers::{Isbn, Issn};
-use feed_kbart::{Aside, Kind, Label, Row};
+use feed_kbart::{Aside, Kind, LABELS, Label, Row};
 use feed_names::ReleaseName;
 use std::alloc::Global;
 use std::io;
 use std::io::Write;
-
-// How many labels there are: their places are 1 to this.
-const LABEL_COUNT: u8 = 13;
 
 /// The form of a report on two lists.
 #[derive(Clone, Copy, Debug, PartialEq, Eq)]
@@ -109,8 +106,8 @@ fn print_change<O: Write>(alloc: Global, out: &mut O, change: &Change<'_>) -> io
     write!(out, "changed {before} to {after} ")?;
     write_text(alloc, out, old.title())?;
     out.write_all(b"\n")?;
-    for place in 1..=LABEL_COUNT {
-        if let Some(label) = changed_label(change, place) {
+    for label in LABELS {
+        if !change.is_same(label) {
             write!(out, "  {label} ")?;
             write_value(alloc, out, old, label)?;
             out.write_all(b" to ")?;
@@ -119,16 +116,6 @@ fn print_change<O: Write>(alloc: Global, out: &mut O, change: &Change<'_>) -> io
         }
     }
     Ok(())
-}
-
-// Returns the label at a place if the rows differ in its column.
-fn changed_label(change: &Change<'_>, place: u8) -> Option<Label> {
-    let label = Label::of_place(place)?;
-    if change.is_same(label) {
-        None
-    } else {
-        Some(label)
-    }
 }
 
 fn print_json_counts<O: Write>(
@@ -216,8 +203,8 @@ fn print_json_change<O: Write>(alloc: Global, out: &mut O, change: &Change<'_>) 
 fn print_json_fields<O: Write>(alloc: Global, out: &mut O, change: &Change<'_>) -> io::Result<()> {
     let Change { old, new } = *change;
     let mut commas = Commas::new();
-    for place in 1..=LABEL_COUNT {
-        if let Some(label) = changed_label(change, place) {
+    for label in LABELS {
+        if !change.is_same(label) {
             commas.write(out)?;
             write!(out, "\"{label}\":{{\"old\":")?;
             write_value(alloc, out, old, label)?;

@@ -9,4 +9,4 @@ mod report;
 mod warnings;
 
 pub use comparison::{ComparisonForm, NamedList, print_comparison};
-pub use report::{Form, Report};
+pub use report::Report;

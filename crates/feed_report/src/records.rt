@@ -3,14 +3,11 @@ use crate::json::write_text;
 use csv::{ByteRecord, Reader};
 use feed_dates::DayRange;
 use feed_identifiers::trim_spaces;
-use feed_kbart::{Label, REQUIRED_LABELS, Reason};
+use feed_kbart::{LABELS, Label, REQUIRED_COUNT, Reason};
 use feed_text::record_reader;
 use std::alloc::{AllocError, Global};
 use std::io;
 use std::io::Write;
-
-// How many labels there are: their places are 1 to this.
-const LABEL_COUNT: u8 = 13;
 
 const BYTE_ORDER_MARK: [u8; 3] = [0xEF, 0xBB, 0xBF];
 
@@ -54,9 +51,8 @@ impl<'a> Records<'a> {
 
     fn read_header(&mut self) -> Result<(), AllocError> {
         self.go_to(1)?;
-        for place in 1..=LABEL_COUNT {
-            let column = Label::of_place(place).and_then(|label| column_of(&self.fields, label));
-            self.columns.push(column)?;
+        for label in LABELS {
+            self.columns.push(column_of(&self.fields, label))?;
         }
         Ok(())
     }
@@ -103,8 +99,7 @@ impl<'a> Records<'a> {
 
     // Returns the record's field under a label, which is empty if there is none.
     fn field(&self, label: Label) -> &[u8] {
-        let at = usize::from(label.place()).saturating_sub(1);
-        match self.columns.get(at) {
+        match self.columns.get(label as usize) {
             Some(Some(column)) => self.fields.get(*column).unwrap_or(&[]),
             _ => &[],
         }
@@ -128,10 +123,9 @@ impl<'a> Records<'a> {
     /// Returns the required labels that the header lacks, in their order.
     pub fn missing_labels(&self, alloc: Global) -> Result<Vec<Label>, AllocError> {
         let mut missing = Vec::new(alloc);
-        for label in REQUIRED_LABELS {
-            let at = usize::from(label.place()).saturating_sub(1);
-            if let Some(None) = self.columns.get(at) {
-                missing.push(label)?;
+        for (label, column) in LABELS.iter().zip(&self.columns).take(REQUIRED_COUNT) {
+            if column.is_none() {
+                missing.push(*label)?;
             }
         }
         Ok(missing)

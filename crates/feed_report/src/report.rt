@@ -5,6 +5,7 @@ use crate::warnings::Warnings;
 use feed_counts::{Counts, count_of};
 use feed_kbart::{Aside, BadFile, FileCount, Label, Reason};
 use feed_names::ReleaseName;
+use feed_options::Form;
 use std::alloc::{AllocError, Global};
 use std::io;
 use std::io::Write;
@@ -26,28 +27,6 @@ const CHECKED_LABELS: [Label; 5] = [
     Label::DateFirstIssueOnline,
     Label::DateLastIssueOnline,
 ];
-
-/// The form of a report.
-#[derive(Clone, Copy, Debug, PartialEq, Eq)]
-pub enum Form {
-    /// A line for the release, one for the rows, and one for each record that is skipped.
-    Lines,
-    /// One line for each list.
-    Summary,
-    /// As `Lines`, and below each record its line in the file, its title and the fields that are the reason, and in the
-    /// end the warnings; below a bad file each required label that it lacks.
-    Explained,
-    /// One JSON object on a line for each list, with the contents of `Explained`. Of the records that are skipped it
-    /// lists the first 10,000 and counts the others, unless the report lists all.
-    Json,
-}
-
-impl Form {
-    /// Returns whether the report quotes the file, so that it needs the text.
-    pub fn is_explained(self) -> bool {
-        matches!(self, Form::Explained | Form::Json)
-    }
-}
 
 // How many skipped records JSON lists.
 const LISTED: usize = 10_000;

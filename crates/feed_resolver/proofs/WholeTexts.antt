@@ -21,7 +21,7 @@ use Rattle.feed_resolver_hits.proofs.LooksPlaced.{of_answer}
 use Rattle.feed_resolver.specs.Answers.{sited_by, release_looks, looks_among, texts_behind, answers_body}
 use Rattle.feed_resolver.specs.Laws.{written_answer, WholeTextIsWritten}
 
--- all of these are shown
+-- all hits of the list are shown
 abbrev AllShown : ℕ → ℕ → List ReleaseHitValue → Type 0
 AllShown places bytes hits = first_within places bytes hits ≡ hits
 

@@ -75,7 +75,8 @@ abbrev pub written_answer : site_file.SiteValue → SearchValue → ActiveValue 
 written_answer site search active =
     answer_text (text_of active.name) (held_hits site search active.name (answer_of active.holdings (compared search)))
 
--- a reply that looks at all rows and shows all hits has, as text, the answers that `Answer::write` prints, of the hits that the library has
+-- a reply that looks at all rows and shows all hits has, as text, the answers that `Answer::write` prints, of the hits that
+-- the library has
 abbrev pub WholeTextIsWritten : Type 0
 WholeTextIsWritten =
     (text : List ℕ) (search : SearchValue) (actives : Sited) → (tally_among search actives).is_whole ≡ true

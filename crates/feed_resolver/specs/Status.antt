@@ -67,6 +67,6 @@ active_value active = object (
     (member (codes "rows") (number (decimal (length active.holdings.rows)))
     (member (codes "skipped") (number (decimal (length active.holdings.aside))) no_members))))
 
--- it has rows and skipped records that 64 bits can count, as each list in memory has
+-- a list with fewer than 2^64 rows and skipped records, as every list in memory is
 abbrev pub IsCountable : ActiveValue → Type 0
 IsCountable active = (length active.holdings.rows < 2 ^ 64) × (length active.holdings.aside < 2 ^ 64)

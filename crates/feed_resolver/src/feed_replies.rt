@@ -51,7 +51,7 @@ pub struct LastFetch {
 /// The fetches of a node since it started.
 #[derive(Clone, Copy)]
 pub struct Activity<'a> {
-    /// When it began to answer from its feed, in seconds since 1970-01-01.
+    /// When the node started and first answered from its lists, in seconds since 1970-01-01.
     pub started: u64,
     /// The last fetch of each package.
     pub fetches: &'a [LastFetch],
@@ -136,7 +136,7 @@ fn active_named<'a, 'b>(
         .find(|active| active.name().text() == name.text())
 }
 
-// Writes the members for the counts of a release and for when it became active, which are null unless it is.
+// Writes the counts of a release, and when this node began to answer from it. They are null unless it is active.
 fn put_active_members(
     out: &mut Vec<u8>,
     active: Option<&ActiveRelease<'_>>,
@@ -260,7 +260,7 @@ fn put_lines(
 }
 
 // Returns the reply with the recorded releases and the last fetches, as JSON or as text.
-fn list_reply<K: Keep + Drop>(
+fn list_reply<K: Keep>(
     alloc: Global,
     feed: &Feed<K>,
     activity: Activity<'_>,
@@ -293,7 +293,7 @@ fn end_reply(alloc: Global, has_token: bool, is_busy: bool) -> Result<Reply, All
     }
 }
 
-fn feed_reply<K: Keep + Drop>(
+fn feed_reply<K: Keep>(
     alloc: Global,
     token: &[u8],
     is_busy: bool,
@@ -334,14 +334,14 @@ fn is_busy(policy: &FetchPolicy<'_>) -> bool
 
 /// Returns the reply of a node to a request for `/feed`, or to a GET or HEAD of a target below it. To a client that has
 /// the token a GET lists the recorded releases, with the name, the state, the size, the missing bytes and the reason of
-/// each, and then the last fetches. JSON has the rows and the skipped records of each active release too, and when it
-/// became active. A DELETE of such a client ends the fetch that is under way, if one is. Returns none for any other
-/// request, and for a node without a token. `keeps` is whether the connection persists after the reply.
+/// each, and then the last fetches. JSON has the rows and the skipped records of each active release too, and when this
+/// node began to answer from it. A DELETE of such a client ends the fetch that is under way, if one is. Returns none
+/// for any other request, and for a node without a token. `keeps` is whether the connection persists after the reply.
 ///
 /// # Errors
 ///
 /// Running out of memory.
-pub fn respond_about_feed<K: Keep + Drop>(
+pub fn respond_about_feed<K: Keep>(
     alloc: Global,
     bytes: &[u8],
     keeps: bool,

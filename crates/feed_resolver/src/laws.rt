@@ -21,7 +21,7 @@ pub fn head_is_head_of_get()
     ensures { HeadIsHeadOfGet }
 {}
 
-/// `/go` redirects to a hit above which no hit ranks, of those in the rows that are looked at, that may be linked to.
+/// `/go` redirects to a hit in the rows that are looked at, and no hit in them that may be linked to ranks above it.
 pub fn goes_to_best()
     ensures { GoesToBest }
 {}
@@ -31,7 +31,8 @@ pub fn redirects_sole_hit()
     ensures { RedirectsSoleHit }
 {}
 
-/// The active releases in JSON are, by its grammar (RFC 8259), an array with one object for each, in their order.
+/// The active releases in JSON are, by its grammar (RFC 8259), an array with one object for each, in their order. Each
+/// list must have fewer than 2^64 rows and skipped records, as every list in memory has.
 pub fn status_is_json()
     ensures { StatusIsJson }
 {}

@@ -73,7 +73,7 @@ fn node_reply_with(
 /// # Errors
 ///
 /// Running out of memory.
-pub fn respond_as_node<K: Keep + Drop>(
+pub fn respond_as_node<K: Keep>(
     alloc: Global,
     bytes: &[u8],
     body: &[u8],

@@ -502,7 +502,7 @@ pub fn respond_with(
 /// # Errors
 ///
 /// Running out of memory, which the caller may report as status 503.
-pub fn respond<K: Keep + Drop>(
+pub fn respond<K: Keep>(
     alloc: Global,
     bytes: &[u8],
     body: &[u8],

@@ -237,7 +237,7 @@ pub(crate) fn preflight_status(request: &Request<'_>) -> Option<Status>
 /// # Errors
 ///
 /// Running out of memory, after which each reply computes the digest itself.
-pub fn keep_releases<K: Keep + Drop>(
+pub fn keep_releases<K: Keep>(
     alloc: Global,
     site: &mut Site,
     feed: &Feed<K>,

@@ -151,7 +151,7 @@ unfolding answer_start
 lexes_start ask refused = lexes_then (citation_json ask.citation) (query_members ask.query refused) (citation_lexemes ask.citation) (query_lexemes ask.query refused)
     (lexes_citation ask.citation) (lexes_query ask.query refused)
 
--- the tokens of these parts, before others
+-- the tokens of some parts, before others
 abbrev part_tokens : CitationValue → List Part → List Token → List Token
 part_tokens citation [] ts = ts
 part_tokens citation (one ∷ parts) ts = Token.key (name_of one) ∷ Token.string (text_at citation one) ∷ part_tokens citation parts ts

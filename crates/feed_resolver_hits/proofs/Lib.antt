@@ -8,6 +8,8 @@ pub mod Tops
 pub mod BooksFirst
 pub mod Tallies
 pub mod Merged
+pub mod PlacesAsked
+pub mod AskedRows
 pub mod LooksPlaced
 pub mod TitlesAsked
 pub mod LinksKept

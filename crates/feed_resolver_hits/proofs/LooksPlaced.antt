@@ -1,4 +1,4 @@
--- What a search finds at the places of a query's identifiers.
+-- A search finds the same at the places of a query's identifiers as in the rows that have them.
 use Rattle.std.proofs.Common.{◌≡◌, ◌+◌, ℕ, zero, suc, Bool, true, false, List, [], ◌∷◌, ◌++◌, Option, Some, None, refl, sym, ap, ◌∙◌, arith, length, take, map, append_assoc}
 use Rattle.std.specs.Prelude.{if◌then◌else◌, filter, option_map, slice_get}
 use Rattle.std.specs.List.{cons_option, enumerate_from, filter_map}
@@ -26,15 +26,15 @@ use Rattle.feed_resolver_hits.specs.declared.search.Scope.{Scope}
 use Rattle.feed_resolver_hits.specs.declared.search.Scope.TheVariants.{Hits, Dated, Others}
 use Rattle.feed_resolver_hits.proofs.Tallies.{front_looks}
 
--- ---- the elements at the places of those that pass a test
+-- ---- the elements at the places that pass a test
 
-at_seam : {X : Type 0} → (front : List X) (x : X) (xs : List X) (place : ℕ) → place ≡ length front → slice_get (front ++ x ∷ xs) place ≡ Some x
+pub at_seam : {X : Type 0} → (front : List X) (x : X) (xs : List X) (place : ℕ) → place ≡ length front → slice_get (front ++ x ∷ xs) place ≡ Some x
 at_seam {X} [] x xs zero same = refl
 at_seam {X} [] x xs (suc place) same = absurd (omega (arith, same))
 at_seam {X} (y ∷ front) x xs zero same = absurd (omega (arith, same))
 at_seam {X} (y ∷ front) x xs (suc place) same = at_seam front x xs place (omega (arith, same))
 
-longer : {X : Type 0} → (front : List X) (x : X) → length (front ++ x ∷ []) ≡ length front + 1
+pub longer : {X : Type 0} → (front : List X) (x : X) → length (front ++ x ∷ []) ≡ length front + 1
 longer {X} [] x = refl
 longer {X} (y ∷ front) x = let rest = longer front x in omega (arith, rest)
 
@@ -55,13 +55,13 @@ placed_from {B} f test front (row ∷ rows) base same =
     go true rest = ap (λ l. at base ∷ l) rest ∙ ap (λ o. f o ∷ map (λ row. f (Some row)) (filter test rows)) (at_seam front row rows base same)
     go false rest = rest
 
-looks_placed : (site : site_file.SiteValue) (today : TodayValue) (search : SearchValue) (name : Name) (rows : List RowValue)
+pub looks_placed : (site : site_file.SiteValue) (today : TodayValue) (search : SearchValue) (name : Name) (rows : List RowValue)
     → looks_at site today search name rows (asked_places search.query rows) ≡ looks_in site today search name rows
 unfolding places_by
 looks_placed site today search name rows =
     placed_from (λ row. hit_found site today search name (option_and_then (hit_by (compared search)) row)) (is_asked search.query) [] rows 0 refl
 
-front_map : {X Y : Type 0} → (f : X → Y) (n : ℕ) (xs : List X) → map f (take n xs) ≡ take n (map f xs)
+pub front_map : {X Y : Type 0} → (f : X → Y) (n : ℕ) (xs : List X) → map f (take n xs) ≡ take n (map f xs)
 front_map {X} {Y} f zero xs = refl
 front_map {X} {Y} f (suc n) [] = refl
 front_map {X} {Y} f (suc n) (x ∷ xs) = ap (λ l. f x ∷ l) (front_map f n xs)
@@ -85,7 +85,7 @@ unasked_by : (of : Kind) (query : QueryValue) (row : RowValue) (f : Grade → Hi
 unasked_by Serial query row f miss = rw miss refl
 unasked_by Book query row f miss = rw miss refl
 
-same_asked : (scope : Scope) (of : Kind) (query : QueryValue) (row : RowValue) → is_asked_as of (compared_as scope query) row ≡ is_asked_as of query row
+pub same_asked : (scope : Scope) (of : Kind) (query : QueryValue) (row : RowValue) → is_asked_as of (compared_as scope query) row ≡ is_asked_as of query row
 same_asked Hits of query row = refl
 same_asked Dated Serial query row = refl
 same_asked Dated Book query row = refl

@@ -63,7 +63,7 @@ both_next x xs ys =
 abbrev merged_by : ℕ → Option (ℕ × List ℕ × List ℕ) → List ℕ
 merged_by n next = option_map_or (λ next. next.0 ∷ merged n next.1 next.2) next []
 
-abbrev either : (RowValue → Bool) → (RowValue → Bool) → RowValue → Bool
+abbrev pub either : (RowValue → Bool) → (RowValue → Bool) → RowValue → Bool
 either one other row = one row || other row
 
 merged_is : (one other : RowValue → Bool) (n m base : ℕ) (rows : List RowValue) → n ≤ m
@@ -106,7 +106,7 @@ alike_from one other base (row ∷ rows) same =
     ap (λ b. cons_option (if b then Some base else None) (filter_map (place_by one) (enumerate_from (base + 1) rows))) (same row)
     ∙ ap (cons_option (if other row then Some base else None)) (alike_from one other (base + 1) rows same)
 
-alike : (one other : RowValue → Bool) (rows : List RowValue) → ((row : RowValue) → one row ≡ other row) → places_by one rows ≡ places_by other rows
+pub alike : (one other : RowValue → Bool) (rows : List RowValue) → ((row : RowValue) → one row ≡ other row) → places_by one rows ≡ places_by other rows
 unfolding places_by
 alike one other rows same = alike_from one other 0 rows same
 
@@ -121,7 +121,7 @@ none_of : (n : ℕ) → take n nothing ≡ []
 none_of zero = refl
 none_of (suc n) = refl
 
-none_placed : (rows : List RowValue) → places_by (λ row. false) rows ≡ []
+pub none_placed : (rows : List RowValue) → places_by (λ row. false) rows ≡ []
 unfolding places_by
 none_placed rows = none_from 0 rows
 
@@ -149,10 +149,10 @@ or_swap true b c d = refl
 or_swap false true c d = sym (or_true c)
 or_swap false false c d = refl
 
-abbrev any_issn : List (List ℕ) → RowValue → Bool
+abbrev pub any_issn : List (List ℕ) → RowValue → Bool
 any_issn issns row = list_any (λ issn. has_issn issn row) issns
 
-abbrev any_isbn : List (List ℕ) → RowValue → Bool
+abbrev pub any_isbn : List (List ℕ) → RowValue → Bool
 any_isbn isbns row = list_any (λ isbn. has_isbn isbn row) isbns
 
 issns_are : (test : RowValue → Bool) (limit : ℕ) (rows : List RowValue) (issns : List (List ℕ))
@@ -173,7 +173,7 @@ isbns_are test limit rows (isbn ∷ isbns) =
     ∙ ap (take limit) (alike (either (either test (has_isbn isbn)) (any_isbn isbns)) (either test (any_isbn (isbn ∷ isbns))) rows
     (λ row. or_joint (test row) (has_isbn isbn row) (any_isbn isbns row)))
 
--- an identifier is one of these, in print or online
+-- a row has one of the identifiers, in print or online
 named_next : (identifier : List ℕ) (own : Option (List ℕ)) (asked : List (List ℕ)) → (is_same_identifier identifier own || is_named own asked) ≡ is_named own (identifier ∷ asked)
 named_next identifier None asked = refl
 named_next identifier (Some own) asked = refl
@@ -196,7 +196,7 @@ asked_by (Serial print online) issns isbns = is_named print issns || is_named on
 asked_by (Book print online) issns isbns = is_named print isbns || is_named online isbns
 
 -- a row has one of the identifiers of a query
-asked_either : (query : QueryValue) (row : RowValue) → either (any_issn query.issns) (any_isbn query.isbns) row ≡ is_asked query row
+pub asked_either : (query : QueryValue) (row : RowValue) → either (any_issn query.issns) (any_isbn query.isbns) row ≡ is_asked query row
 asked_either query row = go row.identifiers refl
   where
     go : (own : Identifiers) → row.identifiers ≡ own → either (any_issn query.issns) (any_isbn query.isbns) row ≡ is_asked query row
@@ -264,3 +264,13 @@ pub merge_full : (limit : ℕ) (places left right whole : List ℕ) → limit �
 merge_full limit places left right whole full is =
     let none : 0 ≡ limit - length places = omega (arith, full) in
     sym (append-nil places) ∙ ap (λ n. places ++ merged n left right) none ∙ is
+
+-- a list alone
+front_alone : (limit : ℕ) (places : List ℕ) → take limit places ≡ merged limit places []
+front_alone zero places = refl
+front_alone (suc n) [] = refl
+front_alone (suc n) (place ∷ places) = ap (λ l. place ∷ l) (front_alone n places)
+
+pub merge_none : (limit : ℕ) (places other : List ℕ) → length other ≡ 0 → take limit places ≡ merged limit places other
+merge_none limit places [] none = front_alone limit places
+merge_none limit places (place ∷ other) none = absurd (omega (arith, none))

@@ -63,7 +63,7 @@ record IsSoleOne (found : ReleaseHitValue) (url : List ℕ) : Type 0 where
   link : is_link url ≡ true
   means : url ≡ link_text found
 
--- the link of these hits, if there is only one
+-- the link of a list of hits, if it has only one
 abbrev sole_of : List ReleaseHitValue → Option (List ℕ)
 sole_of hits = if length hits == 1 then link_if_certain (first_within shown_limit text_limit hits) (best_link hits) else None
 

@@ -279,7 +279,7 @@ inserted high low found =
     let none : length high - length high ≡ 0 = omega arith in
     insert-append_right high low (length high) (length high) found refl (omega arith) ∙ ap (λ k. high ++ insert low k found) none
 
--- a hit that ranks below a full list is none of the first ones
+-- a hit that ranks below all of a full list is not among the first ones
 pub full : (hits : List ReleaseHitValue) (found : ReleaseHitValue) (place : ℕ) → place ≤ length hits → length hits ≤ shown_limit → shown_limit ≤ place
     → hits ≡ take shown_limit (insert hits place found)
 full hits found place le most all =

@@ -1,5 +1,7 @@
 -- The laws of redirects and of hits in JSON.
-use Rattle.std.specs.Prelude.{◌≡◌, ◌↔◌, ◌<◌, ◌≤◌, ◌^◌, ℕ, List, [], ◌∷◌, Option, Some, true, All, length}
+use Rattle.std.specs.Prelude.{◌≡◌, ◌↔◌, ◌<◌, ◌≤◌, ◌^◌, ℕ, List, [], ◌∷◌, Option, Some, true, All, length, take}
+use Rattle.std.specs.List.{Contains}
+use Rattle.std.specs.List.Sorted.{IsStrictlyIncreasing}
 use Rattle.json.specs.Json.{document, array}
 use Rattle.json.specs.Value.{items_of}
 use Rattle.feed_names.specs.ReleaseName.{Name}
@@ -15,14 +17,17 @@ use Rattle.feed_resolver_hits.specs.AnswerJson.{answer_json, answer_value}
 use Rattle.feed_resolver_hits.specs.Asks.{AskValue}
 use Rattle.feed_site.specs.Hosts.{is_link}
 use Rattle.feed_answer.specs.Answers.{answer_of}
+use Rattle.feed_answer.specs.Places.{places_among}
+use Rattle.feed_answer.specs.QueryValue.{QueryValue}
 use Rattle.feed_kbart.specs.HoldingsValue.{HoldingsValue}
+use Rattle.feed_kbart.specs.RowValue.{RowValue}
 use Rattle.feed_resolver_hits.specs.Hits.{ReleaseHitValue, best_link, is_free, is_full_text, library_hits, link_text, rank_of, release_hit}
-use Rattle.feed_resolver_hits.specs.Looks.{found_in, looks_in, row_limit}
+use Rattle.feed_resolver_hits.specs.Looks.{asked_places, found_in, looks_in, row_limit}
 use Rattle.feed_resolver_hits.specs.HitsJson.{hits_json, item_values}
 use Rattle.feed_resolver_hits.specs.Searches.{SearchValue, compared}
 use Rattle.feed_resolver_hits.specs.Ranks.{IsBestLink, IsPreferred}
 use Rattle.feed_resolver_hits.specs.Tallies.{TallyValue, sole_link, tally_of, text_limit, text_size}
-use Rattle.feed_resolver_hits.specs.Tallying.{no_hits, with_looks, tally_from}
+use Rattle.feed_resolver_hits.specs.Tallying.{looks_at, no_hits, with_looks, tally_from}
 
 -- a redirect goes to a URL of `http` or `https` in visible ASCII, within the limit of a link
 abbrev pub RedirectsToLink : Type 0
@@ -77,6 +82,19 @@ TallyTellsOfHits = (looks : List (Option ReleaseHitValue)) → tally_from (with_
 abbrev pub LooksAreOfAnswer : Type 0
 LooksAreOfAnswer = (site : site_file.SiteValue) (today : TodayValue) (search : SearchValue) (name : Name) (holdings : HoldingsValue)
     → found_in (looks_in site today search name holdings.rows) ≡ library_hits site today search name (answer_of holdings (compared search))
+
+-- the places at which a search looks in a release ascend, and are those of the rows that have one of the query's identifiers
+pub record ArePlaces (query : QueryValue) (rows : List RowValue) : Type 0 where
+  pub ascend : IsStrictlyIncreasing (asked_places query rows)
+  pub same : (place : ℕ) → Contains (asked_places query rows) place ↔ Contains (places_among query rows) place
+
+-- what a search finds in the first rows, such as the first `row_limit`, is what it finds at the first places
+abbrev pub LooksAreAtPlaces : Type 0
+LooksAreAtPlaces =
+    (site : site_file.SiteValue) (today : TodayValue) (search : SearchValue) (name : Name) (rows : List RowValue) (limit : ℕ)
+    → ArePlaces search.query rows
+    × (take limit (looks_in site today search name rows)
+    ≡ looks_at site today search name rows (take limit (asked_places search.query rows)))
 
 -- the hits in JSON are, by its grammar (RFC 8259), an array with one object for each that is shown, in their order, and
 -- one more if others are left out; numbers fit in 64 bits

@@ -17,7 +17,7 @@ abbrev pub merged : ℕ → List ℕ → List ℕ → List ℕ
 merged zero xs ys = []
 merged (suc n) xs ys = option_map_or (λ next. next.0 ∷ merged n next.1 next.2) (next_place xs ys) []
 
--- some places with those of these ISSNs, and of these ISBNs
+-- some places with those of a list of ISSNs, and with those of a list of ISBNs
 abbrev pub with_issns : ℕ → List RowValue → List ℕ → List (List ℕ) → List ℕ
 with_issns limit rows places issns = fold (λ some issn. merged limit some (places_with issn rows)) places issns
 

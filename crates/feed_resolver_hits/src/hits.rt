@@ -25,24 +25,27 @@ use std::marker::Model;
 
 /// A hit, its release, how the days that the query asks for lie in those that are open to readers, the prefix of its
 /// link, if that goes through a proxy, the place of its package in the order of the site, whether the library has all
-/// those days, and whether it is a book that comes before its series.
+/// those days, and whether it is a book that comes before its series. The prefix, and whether the library has all days,
+/// are computed when they are asked for: most hits of a long answer are only counted.
 #[derive(Drop)]
 pub struct ReleaseHit<'a> {
+    site: &'a SiteFile,
     name: &'a ReleaseName,
     row: &'a Row,
+    // The days that are asked for of the title.
+    asked: Option<DayRange>,
     grade: Grade,
     availability: Availability,
-    prefix: Option<&'a str>,
     place: usize,
-    is_held_whole: bool,
     is_first: bool,
     // Computed once, since it is compared with those of many other hits.
     rank: u32,
 }
 
 impl<'a> Model for ReleaseHit<'a> {
-    ghost use Rattle.std.specs.Prelude.{◌≡◌, option_copied};
-    ghost use Rattle.feed_resolver_hits.specs.Hits.{ReleaseHitValue, rank_by};
+    ghost use Rattle.std.specs.Prelude.{◌≡◌};
+    ghost use Rattle.feed_site.specs.Proxies.{prefix_for};
+    ghost use Rattle.feed_resolver_hits.specs.Hits.{ReleaseHitValue, holds_days, is_free, rank_by};
 
     ghost Value = { ReleaseHitValue };
 
@@ -50,9 +53,9 @@ impl<'a> Model for ReleaseHit<'a> {
       name = f.name.now;
       hit = record { row = f.row.now; grade = f.grade };
       availability = f.availability;
-      prefix = option_copied f.prefix;
+      prefix = prefix_for f.site.now f.row.now.url (is_free f.row.now);
       place = f.place;
-      is_held_whole = f.is_held_whole;
+      is_held_whole = holds_days f.site.now f.name.now f.row.now f.asked;
       is_first = f.is_first;
     } };
 
@@ -75,15 +78,16 @@ impl<'a> ReleaseHit<'a> {
         let row = hit.row;
         let (first, last) = (row.first_day(), row.last_day());
         let availability = availability_of(today, row.embargo(), first, last, search.days());
-        let is_first = search.is_first(row.kind());
+        let kind = row.kind();
+        let is_first = search.is_first(kind);
         ReleaseHit {
+            site,
             name,
             row,
+            asked: days_asked(kind, search.days()),
             grade: hit.grade,
             availability,
-            prefix: prefix_for(site, row.url(), is_free(row)),
             place: site_place,
-            is_held_whole: holds_days(site, name, row, days_asked(row.kind(), search.days())),
             is_first,
             rank: rank_by(is_first, availability, hit.grade, row, site_place),
         }
@@ -94,13 +98,13 @@ impl<'a> ReleaseHit<'a> {
         ensures { result ≡ self.now }
     {
         ReleaseHit {
+            site: self.site,
             name: self.name,
             row: self.row,
+            asked: self.asked,
             grade: self.grade,
             availability: self.availability,
-            prefix: self.prefix,
             place: self.place,
-            is_held_whole: self.is_held_whole,
             is_first: self.is_first,
             rank: self.rank,
         }
@@ -110,14 +114,14 @@ impl<'a> ReleaseHit<'a> {
     pub fn link(&self, alloc: Global) -> Result<CowSlice<'a, u8, Global>, AllocError>
         ensures { IfOk result (λ link. cow_slice_items link ≡ link_text self.now) }
     {
-        link_to(alloc, self.prefix, self.row.url())
+        link_to(alloc, self.prefix(), self.row.url())
     }
 
     /// Returns the prefix of the link, if it goes through the proxy.
     pub(crate) fn prefix(&self) -> Option<&'a str>
         ensures { option_copied result ≡ self.now.prefix }
     {
-        self.prefix
+        prefix_for(self.site, self.row.url(), is_free(self.row))
     }
 
     /// Returns the rank of the hit.
@@ -157,7 +161,7 @@ impl<'a> ReleaseHit<'a> {
             (self.availability, self.grade),
             (Availability::Available, Grade::Inside)
         ) && is_full_text(self.row)
-            && self.is_held_whole
+            && holds_days(self.site, self.name, self.row, self.asked)
     }
 
     /// Returns how the days that the query asks for lie in those that are open to readers.

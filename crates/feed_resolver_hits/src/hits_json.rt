@@ -13,6 +13,7 @@ ghost use Rattle.feed_site.specs.Hosts.{shown_host};
 use crate::coverage::{day_text, days_words, volume_text, volumes_words};
 use crate::embargo_words::embargo_words;
 use crate::hits::{ReleaseHit, name_text};
+use crate::ranked_hit::RankedHit;
 use crate::tally::Tally;
 use feed_answer::Grade;
 use feed_embargo::Availability;
@@ -202,12 +203,12 @@ fn put_object(out: &mut Vec<u8>, end: &[u8], found: &ReleaseHit<'_>) -> Result<(
     put_access_members(out, row, &words, end)
 }
 
-fn put_objects(out: &mut Vec<u8>, end: &[u8], hits: &[ReleaseHit<'_>]) -> Result<(), AllocError>
+fn put_objects(out: &mut Vec<u8>, end: &[u8], hits: &[RankedHit<'_>]) -> Result<(), AllocError>
     ensures { OnOk result (out.new.items ≡ out.old.items ++ items_from (hit_object end.now) 0 hits.now) }
 {
     for (place, found) in hits.iter().enumerate() {
         put_comma(out, place)?;
-        put_object(out, end, found)?;
+        put_object(out, end, found.hit())?;
     }
     Ok(())
 }

@@ -1,8 +1,7 @@
 //! Laws of hits, each stated as the contract of a function with an empty body.
 ghost use Rattle.feed_resolver_hits.specs.Laws.{AnswerIsJson, BestLinkRanksHighest, BooksComeFirst, HitsAreJson};
-ghost use Rattle.feed_resolver_hits.specs.Laws.{LooksAreOfAnswer};
-ghost use Rattle.feed_resolver_hits.specs.Laws.{LinksAreProxied, RanksInOrder, RedirectsToLink, SoleLinkIsOfSoleHit};
-ghost use Rattle.feed_resolver_hits.specs.Laws.{TallyTellsOfHits};
+ghost use Rattle.feed_resolver_hits.specs.Laws.{LinksAreProxied, LooksAreAtPlaces, LooksAreOfAnswer, RanksInOrder};
+ghost use Rattle.feed_resolver_hits.specs.Laws.{RedirectsToLink, SoleLinkIsOfSoleHit, TallyTellsOfHits};
 
 /// The URL of a redirect is one of `http` or `https` in at most 8,000 bytes of visible ASCII, so no byte of a file can
 /// end a line of a reply's head.
@@ -48,6 +47,12 @@ pub fn tally_tells_of_hits()
 /// that the library has, in their order.
 pub fn looks_are_of_answer()
     ensures { LooksAreOfAnswer }
+{}
+
+/// A search looks at the rows that have one of the query's identifiers, in ascending order and at each once. Its first
+/// looks are at the first of their places.
+pub fn looks_are_at_places()
+    ensures { LooksAreAtPlaces }
 {}
 
 /// The hits in JSON are, by its grammar (RFC 8259), an array with one object for each hit that is shown, in their

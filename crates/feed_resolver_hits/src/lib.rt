@@ -15,6 +15,7 @@ mod laws;
 mod links;
 mod lookup;
 mod rank;
+mod ranked_hit;
 mod row_places;
 mod search;
 mod shown;
@@ -30,10 +31,11 @@ pub use hits_json::put_release_members;
 pub use hits_text::put_release;
 pub use laws::{
     answer_is_json, best_link_ranks_highest, books_come_first, hits_are_json, links_are_proxied,
-    looks_are_of_answer, ranks_in_order, redirects_to_link, sole_link_is_of_sole_hit,
-    tally_tells_of_hits,
+    looks_are_at_places, looks_are_of_answer, ranks_in_order, redirects_to_link,
+    sole_link_is_of_sole_hit, tally_tells_of_hits,
 };
 pub use lookup::Lookup;
 pub use rank::{is_free, is_full_text};
+pub use ranked_hit::RankedHit;
 pub use search::{Scope, Search};
 pub use tally::Tally;

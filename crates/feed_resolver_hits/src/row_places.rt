@@ -36,11 +36,22 @@ fn next_place<'a>(one: &'a [u32], other: &'a [u32]) -> Option<(u32, &'a [u32], &
 }
 
 // Returns the first places of two ascending lists, each once.
-fn merged(alloc: Global, one: &[u32], other: &[u32], limit: usize) -> Result<Vec<u32>, AllocError>
-    ensures { IfOk result (λ places. places.items ≡ merged limit one.now other.now) }
+fn merge_places(
+    alloc: Global,
+    one: Vec<u32>,
+    other: &[u32],
+    limit: usize,
+) -> Result<Vec<u32>, AllocError>
+    ensures { IfOk result (λ places. places.items ≡ merged limit one.items other.now) }
 {
-    let mut places = Vec::new(alloc);
-    let mut left = one;
+    let mut first = one;
+    if other.is_empty() {
+        first.truncate(limit);
+        return Ok(first);
+    }
+    let most = first.len().saturating_add(other.len()).min(limit);
+    let mut places = Vec::with_capacity(alloc, most)?;
+    let mut left = first.as_slice();
     let mut right = other;
     while places.len() < limit {
         match next_place(left, right) {
@@ -66,7 +77,7 @@ fn with_issns(
 {
     let mut all = places;
     for issn in issns {
-        all = merged(alloc, &all, holdings.with_issn(issn), limit)?;
+        all = merge_places(alloc, all, holdings.with_issn(issn), limit)?;
     }
     Ok(all)
 }
@@ -82,7 +93,7 @@ fn with_isbns(
 {
     let mut all = places;
     for isbn in isbns {
-        all = merged(alloc, &all, holdings.with_isbn(isbn), limit)?;
+        all = merge_places(alloc, all, holdings.with_isbn(isbn), limit)?;
     }
     Ok(all)
 }

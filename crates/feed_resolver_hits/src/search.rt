@@ -1,17 +1,16 @@
 //! A search for the hits of a query, for the titles whose date is covered, or for those of other dates.
-ghost use Rattle.std.specs.Prelude.{◌≡◌, option_map};
-ghost use Rattle.feed_answer.specs.Grades.{grade_of, is_named};
+ghost use Rattle.std.specs.Prelude.{◌≡◌, option_map, true};
 ghost use Rattle.feed_answer.specs.HitValue.{hit_of};
 ghost use Rattle.feed_answer.specs.Places.{hit_at};
-ghost use Rattle.feed_resolver_hits.specs.Searches.{compared, in_scope, is_asked, is_asked_as, is_first_as};
+ghost use Rattle.feed_answer.specs.QueryValue.{QueryValue};
+ghost use Rattle.feed_resolver_hits.specs.Searches.{asked_hit_at, compared, in_scope, is_asked_at, is_first_as};
 ghost use Rattle.feed_resolver_hits.specs.Searches.{whole_titles, without_volume};
 ghost use Rattle.feed_resolver_hits.specs.declared.search.Scope.TheVariants as scope;
 
-use crate::coverage_grade::days_grade;
+use crate::coverage_grade::{asked_grade, dated_grade};
 use crate::lookup::Lookup;
-use feed_answer::{Grade, Hit, Query, hit_at};
+use feed_answer::{Grade, Hit, Query};
 use feed_dates::DayRange;
-use feed_identifiers::{Isbn, Issn};
 use feed_kbart::{Kind, Row};
 use std::marker::Model;
 
@@ -41,67 +40,33 @@ impl<'a> Model for Search<'a> {
     ghost view = { λ s. in_scope s.scope s.lookup.now };
 }
 
-fn is_issn_named(issn: Option<Issn>, issns: &[Issn]) -> bool
-    ensures { result ≡ is_named issn issns.now }
-{
-    issn.is_some_and(|issn| issns.contains(&issn))
-}
-
-fn is_isbn_named(isbn: Option<Isbn>, isbns: &[Isbn]) -> bool
-    ensures { result ≡ is_named isbn isbns.now }
-{
-    isbn.is_some_and(|isbn| isbns.contains(&isbn))
-}
-
-// Returns whether a row has one of the identifiers of a query.
-fn is_asked(query: &Query, row: &Row) -> bool
-    ensures { result ≡ is_asked query.now row.now }
-{
-    match row.kind() {
-        Kind::Serial => {
-            is_issn_named(row.print(), query.issns()) || is_issn_named(row.online(), query.issns())
-        }
-        Kind::Book => {
-            is_isbn_named(row.print_isbn(), query.isbns())
-                || is_isbn_named(row.online_isbn(), query.isbns())
-        }
-    }
-}
-
-// Returns the row at a place, if it exists and has one of the identifiers of a query.
-fn title_at<'r>(rows: &'r [Row], place: u32, query: &Query) -> Option<Hit<'r>>
-    ensures { option_map hit_of result ≡ hit_at (whole_titles query.now) rows.now place }
+// Returns the row at a place with its grade, if it exists and matches. Does not compare its identifiers.
+fn graded_at<'r>(rows: &'r [Row], place: u32, query: &Query) -> Option<Hit<'r>>
+    ensures { option_map hit_of result ≡ asked_hit_at query.now rows.now place }
 {
     let row = rows.get(place as usize)?;
-    if is_asked(query, row) {
-        Some(Hit {
-            row,
-            grade: Grade::Untested,
-        })
-    } else {
-        None
-    }
+    let grade = asked_grade(row, query)?;
+    Some(Hit { row, grade })
 }
 
-fn dated_grade(row: &Row, query: &Query) -> Option<Grade>
-    ensures { result ≡ grade_of (without_volume query.now) row.now }
-{
-    if !is_asked(query, row) {
-        return None;
-    }
-    match row.kind() {
-        Kind::Serial => days_grade(row, query.days()),
-        Kind::Book => Some(Grade::Untested),
-    }
-}
-
-// Returns the row at a place with its grade by the date, if it exists and matches whatever its volumes are.
+// Returns the same with the grade by the date, whatever its volumes are.
 fn dated_at<'r>(rows: &'r [Row], place: u32, query: &Query) -> Option<Hit<'r>>
-    ensures { option_map hit_of result ≡ hit_at (without_volume query.now) rows.now place }
+    ensures { option_map hit_of result ≡ asked_hit_at (without_volume query.now) rows.now place }
 {
     let row = rows.get(place as usize)?;
     let grade = dated_grade(row, query)?;
     Some(Hit { row, grade })
+}
+
+// Returns the same whatever its days and its volumes are.
+fn title_at<'r>(rows: &'r [Row], place: u32) -> Option<Hit<'r>>
+    ensures { (query : QueryValue) → option_map hit_of result ≡ asked_hit_at (whole_titles query) rows.now place }
+{
+    let row = rows.get(place as usize)?;
+    Some(Hit {
+        row,
+        grade: Grade::Untested,
+    })
 }
 
 impl<'a> Search<'a> {
@@ -170,14 +135,23 @@ impl<'a> Search<'a> {
         }
     }
 
-    /// Returns the row at a place with its grade, if the row exists and matches.
-    pub(crate) fn hit_at<'r>(&self, rows: &'r [Row], place: u32) -> Option<Hit<'r>>
-        ensures { option_map hit_of result ≡ hit_at (compared self.now) rows.now place }
+    // Returns the row at a place with its grade, if it exists and matches. Does not compare its identifiers.
+    fn asked_hit_at<'r>(&self, rows: &'r [Row], place: u32) -> Option<Hit<'r>>
+        ensures { option_map hit_of result ≡ asked_hit_at (compared self.now) rows.now place }
     {
         match self.scope {
-            Scope::Hits => hit_at(rows, place, self.query()),
+            Scope::Hits => graded_at(rows, place, self.query()),
             Scope::Dated => dated_at(rows, place, self.query()),
-            Scope::Others => title_at(rows, place, self.query()),
+            Scope::Others => title_at(rows, place),
         }
+    }
+
+    /// Returns the row at a place with its grade, if the row exists and matches. It must have one of the identifiers of
+    /// the query, as each row has at the places that the index gives for them.
+    pub(crate) fn hit_at<'r>(&self, rows: &'r [Row], place: u32) -> Option<Hit<'r>>
+        requires { is_asked_at self.now.query rows.now place ≡ true }
+        ensures { option_map hit_of result ≡ hit_at (compared self.now) rows.now place }
+    {
+        self.asked_hit_at(rows, place)
     }
 }

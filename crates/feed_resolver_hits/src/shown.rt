@@ -4,6 +4,7 @@ ghost use Rattle.feed_resolver_hits.specs.Tallies.{first_within, text_size, show
 ghost use Rattle.feed_resolver_hits.specs.Tallying.{with_shown};
 
 use crate::hits::{ReleaseHit, name_text};
+use crate::ranked_hit::RankedHit;
 use feed_site::left_beside;
 use std::alloc::{AllocError, Global};
 use std::marker::Model;
@@ -48,13 +49,13 @@ fn bytes_after(bytes: usize, found: &ReleaseHit<'_>) -> usize
 }
 
 // How many of the hits at the front are within the limits.
-fn count_within(hits: &[ReleaseHit<'_>]) -> usize
+fn count_within(hits: &[RankedHit<'_>]) -> usize
     ensures count { result ≡ length (first_within shown_limit text_limit hits.now) }
     ensures bound { result ≤ length hits.now }
 {
     let mut bytes = TEXT_LIMIT;
     for (place, found) in hits.iter().enumerate() {
-        bytes = bytes_after(bytes, found);
+        bytes = bytes_after(bytes, found.hit());
         if place >= SHOWN_LIMIT || bytes == 0 {
             return place;
         }
@@ -63,7 +64,7 @@ fn count_within(hits: &[ReleaseHit<'_>]) -> usize
 }
 
 /// Returns the first hits: at most 1,000, whose texts have fewer bytes in all than the limit of a reply.
-pub(crate) fn first_within<'a, 'b>(hits: &'b [ReleaseHit<'a>]) -> &'b [ReleaseHit<'a>]
+pub(crate) fn first_within<'a, 'b>(hits: &'b [RankedHit<'a>]) -> &'b [RankedHit<'a>]
     ensures { result.now ≡ first_within shown_limit text_limit hits.now }
 {
     &hits[..count_within(hits)]
@@ -87,12 +88,15 @@ impl<'a> Shown<'a> {
     }
 
     /// Adds a hit, if there is room for it. Otherwise no later one is added either.
-    pub(crate) fn add(&mut self, found: ReleaseHit<'a>) -> Result<(), AllocError>
-        ensures { OnOk result (self.new ≡ with_shown self.old found.entry) }
+    pub(crate) fn add(&mut self, found: &ReleaseHit<'a>) -> Result<(), AllocError>
+        ensures { OnOk result (self.new ≡ with_shown self.old found.now) }
     {
-        let bytes = bytes_after(self.bytes, &found);
-        if self.places > 0 && bytes > 0 {
-            self.hits.push(found)?;
+        if self.places == 0 {
+            return Ok(());
+        }
+        let bytes = bytes_after(self.bytes, found);
+        if bytes > 0 {
+            self.hits.push(found.again())?;
             self.places -= 1;
             self.bytes = bytes;
         } else {

@@ -1,15 +1,17 @@
 //! The tally of a query's hits: how many there are, the first ones, those of the highest ranks, and the best link.
 //! It is made row by row.
-ghost use Rattle.std.specs.Prelude.{◌≡◌, [], OnOk, option_copied};
+ghost use Rattle.std.specs.Prelude.{◌≡◌, OnOk, option_copied, true};
+ghost use Rattle.std.specs.List.{AllPass};
 ghost use Rattle.feed_answer.specs.Places.{hit_at};
 ghost use Rattle.feed_site.specs.Packages.{package_place};
 ghost use Rattle.feed_resolver_hits.specs.Looks.{hit_found, looks_in};
-ghost use Rattle.feed_resolver_hits.specs.Searches.{compared};
+ghost use Rattle.feed_resolver_hits.specs.Searches.{compared, is_asked_at};
 ghost use Rattle.feed_resolver_hits.specs.Tallies.{left_out, shows_all, sole_link};
 ghost use Rattle.feed_resolver_hits.specs.Tallying.{looks_at, no_hits, tally_from, with_look, with_looks};
 
 use crate::hits::{ReleaseHit, is_found};
 use crate::links::Links;
+use crate::ranked_hit::RankedHit;
 use crate::row_places::first_places;
 use crate::search::Search;
 use crate::shown::Shown;
@@ -21,7 +23,7 @@ use feed_site::{SiteFile, package_place};
 use std::alloc::{AllocError, Global};
 use std::marker::Model;
 
-// The most rows that are looked at for a query, in all releases together. That many hits take some 20 ms.
+// The most rows that are looked at for a query, in all releases together, so that no list makes a reply slow.
 const ROW_LIMIT: usize = 20_000;
 
 /// The tally of the hits of a query so far.
@@ -65,7 +67,8 @@ fn hit_found<'a>(
     place: u32,
     search: &Search<'_>,
 ) -> Option<ReleaseHit<'a>>
-    requires { site_place ≡ package_place site.now name.now.stem }
+    requires of { site_place ≡ package_place site.now name.now.stem }
+    requires asked { is_asked_at search.now.query rows.now place ≡ true }
     ensures { result ≡ hit_found site.now today.now search.now name.now (hit_at (compared search.now) rows.now place) }
 {
     match search.hit_at(rows, place) {
@@ -117,7 +120,7 @@ impl<'a> Tally<'a> {
     }
 
     /// Returns the hits of the highest ranks, which a reply in JSON and a page show.
-    pub fn top(&self) -> &[ReleaseHit<'a>]
+    pub fn top(&self) -> &[RankedHit<'a>]
         ensures { result.now ≡ (tally_from self.now).top }
     {
         self.top.hits()
@@ -172,7 +175,8 @@ impl<'a> Tally<'a> {
         place: u32,
         search: &Search<'_>,
     ) -> Result<(), AllocError>
-        requires { site_place ≡ package_place site.now name.now.stem }
+        requires of { site_place ≡ package_place site.now name.now.stem }
+        requires asked { is_asked_at search.now.query rows.now place ≡ true }
         ensures { OnOk result (self.new
             ≡ with_look self.old (hit_found site.now today.now search.now name.now
             (hit_at (compared search.now) rows.now place))) }
@@ -189,8 +193,8 @@ impl<'a> Tally<'a> {
             Some(found) => {
                 self.count += 1;
                 self.links.add(alloc, &found)?;
-                self.shown.add(found.again())?;
-                self.top.add(found)
+                self.shown.add(&found)?;
+                self.top.add(alloc, found)
             }
             None => Ok(()),
         }
@@ -207,7 +211,8 @@ impl<'a> Tally<'a> {
         places: &[u32],
         search: &Search<'_>,
     ) -> Result<(), AllocError>
-        requires { site_place ≡ package_place site.now name.now.stem }
+        requires of { site_place ≡ package_place site.now name.now.stem }
+        requires asked { AllPass (is_asked_at search.now.query rows.now) places.now }
         ensures { OnOk result (self.new
             ≡ with_looks self.old (looks_at site.now today.now search.now name.now rows.now places.now)) }
     {

@@ -4,6 +4,7 @@ ghost use Rattle.feed_resolver_hits.specs.Tallies.{first_within, shown_limit, te
 ghost use Rattle.feed_resolver_hits.specs.Tallying.{IsPlaceOf, IsRanked, kept_above, with_top};
 
 use crate::hits::ReleaseHit;
+use crate::ranked_hit::RankedHit;
 use crate::shown::{SHOWN_LIMIT, first_within};
 use std::alloc::{AllocError, Global};
 use std::marker::Model;
@@ -11,7 +12,7 @@ use std::marker::Model;
 /// The hits of the highest ranks, in the order of their ranks, and of equal ranks in that of their places.
 #[derive(Drop)]
 pub(crate) struct Top<'a> {
-    hits: Vec<ReleaseHit<'a>>,
+    hits: Vec<RankedHit<'a>>,
 }
 
 impl<'a> Model for Top<'a> {
@@ -28,7 +29,7 @@ impl<'a> Model for Top<'a> {
 }
 
 // The place behind the last hit that does not rank below a rank.
-fn place_of(hits: &[ReleaseHit<'_>], rank: u32) -> usize
+fn place_of(hits: &[RankedHit<'_>], rank: u32) -> usize
     requires { IsRanked hits.now }
     ensures split { IsPlaceOf rank hits.now result }
     ensures value { result ≡ length (kept_above rank hits.now) }
@@ -47,21 +48,22 @@ impl<'a> Top<'a> {
     }
 
     /// Returns the hits, as far as their texts are within the limit of a reply.
-    pub(crate) fn hits(&self) -> &[ReleaseHit<'a>]
+    pub(crate) fn hits(&self) -> &[RankedHit<'a>]
         ensures { result.now ≡ first_within shown_limit text_limit self.now }
     {
         first_within(&self.hits)
     }
 
     /// Adds a hit behind the last one that does not rank below it, if it is then among the first 1,000.
-    pub(crate) fn add(&mut self, found: ReleaseHit<'a>) -> Result<(), AllocError>
+    pub(crate) fn add(&mut self, alloc: Global, found: ReleaseHit<'a>) -> Result<(), AllocError>
         ensures { OnOk result (self.new ≡ with_top self.old found.entry) }
     {
         let place = place_of(&self.hits, found.rank());
         if place >= SHOWN_LIMIT {
             return Ok(());
         }
-        self.hits.insert(place, found)?;
+        let ranked = RankedHit::new(alloc, found)?;
+        self.hits.insert(place, ranked)?;
         self.hits.truncate(SHOWN_LIMIT);
         Ok(())
     }

@@ -45,11 +45,21 @@ abbrev pub least : Bool → Text
 least true = text.NotShown
 least false = text.NotShownAtLeast
 
--- the paragraph that says how many hits are left out
+-- how many hits are left out
+unfoldable pub left_out_text : site_file.SiteValue → ℕ → Bool → List ℕ
+left_out_text site n is_whole =
+    joined (codes "<p>" ∷ escaped (text_of site (least is_whole)) ∷ codes " " ∷ decimal n ∷ codes "." ∷ [])
+
+-- how to ask for fewer hits; a search that stops looks at the same rows, whatever the date and the volume are
+unfoldable pub fewer_text : site_file.SiteValue → List ℕ
+fewer_text site = joined (codes " " ∷ escaped (text_of site text.NotShownHint) ∷ [])
+
+abbrev pub fewer_part : site_file.SiteValue → Bool → List ℕ
+fewer_part site is_whole = if is_whole then fewer_text site else []
+
+-- the paragraph with both
 unfoldable pub more_text : site_file.SiteValue → ℕ → Bool → List ℕ
-more_text site n is_whole = joined (
-    codes "<p>" ∷ escaped (text_of site (least is_whole)) ∷ codes " " ∷ decimal n ∷ codes ". "
-    ∷ escaped (text_of site text.NotShownHint) ∷ codes "</p>\n" ∷ [])
+more_text site n is_whole = left_out_text site n is_whole ++ (fewer_part site is_whole ++ codes "</p>\n")
 
 -- the same, unless all hits are shown
 abbrev pub more_part : site_file.SiteValue → TallyValue → List ℕ
@@ -63,7 +73,7 @@ paragraph site name = joined (codes "<p class=\"note\">" ∷ escaped (text_of si
 abbrev pub has_no_hits : TallyValue → Bool
 has_no_hits tally = tally.is_whole && (tally.count == 0)
 
--- that the library has the titles for another date or volume alone
+-- that the library has the titles only for another date or volume
 abbrev pub held_part : site_file.SiteValue → TallyValue → List ℕ
 held_part site tally = if has_no_hits tally then paragraph site text.HeldOther else []
 
@@ -131,9 +141,10 @@ page_foot site = help_part site ++ page_end
 unfoldable pub page_bottom : site_file.SiteValue → List (List ℕ × List ℕ) → AskValue → List ℕ
 page_bottom site pairs ask = request_part site ask pairs ++ (search_part site pairs ++ page_foot site)
 
--- the heading, by the hits
+-- the heading, by the hits: a search that stops without one does not say that there are none
 abbrev pub page_name : TallyValue → Text
-page_name tally = if has_no_hits tally then text.NoFullText else text.FullText
+page_name tally =
+    if tally.count == 0 then (if tally.is_whole then text.NoFullText else text.NoFullTextSoFar) else text.FullText
 
 -- the page of the hits of a query with these pairs, and of two other tallies
 unfoldable pub page_of_hits : site_file.SiteValue → List (List ℕ × List ℕ) → AskValue → TallyValue → TallyValue → TallyValue → List ℕ

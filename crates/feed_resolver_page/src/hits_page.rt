@@ -3,8 +3,8 @@ ghost use Rattle.std.specs.Prelude.{◌≡◌, ◌++◌, OnOk, option_copied};
 ghost use Rattle.std.specs.List.{flat_map};
 ghost use Rattle.feed_resolver_hits.specs.Tallying.{tally_from};
 ghost use Rattle.feed_resolver_page.specs.HitsPage.{also_card, answer_part, cards, cards_part, cited_of, found_part};
-ghost use Rattle.feed_resolver_page.specs.HitsPage.{has_no_hits, held_part, help_part, hit_card, hits_page, is_none};
-ghost use Rattle.feed_resolver_page.specs.HitsPage.{least, none_part};
+ghost use Rattle.feed_resolver_page.specs.HitsPage.{fewer_part, fewer_text, has_no_hits, held_part, help_part};
+ghost use Rattle.feed_resolver_page.specs.HitsPage.{hit_card, hits_page, is_none, least, left_out_text, none_part};
 ghost use Rattle.feed_resolver_page.specs.HitsPage.{link_part, link_to, more_part, more_text};
 ghost use Rattle.feed_resolver_page.specs.HitsPage.{other_card, page_bottom, page_foot};
 ghost use Rattle.feed_resolver_page.specs.HitsPage.{page_name, page_of_hits, paragraph, request_part, request_section};
@@ -18,7 +18,7 @@ use feed_answer::{Pair, decode_pairs};
 use feed_openurl::Part;
 use feed_page_texts::Text;
 use feed_pieces::put_all;
-use feed_resolver_hits::{Ask, ReleaseHit, Tally};
+use feed_resolver_hits::{Ask, RankedHit, ReleaseHit, Tally};
 use feed_resolver_reply::{Piece, put};
 use feed_site::{Cited, SiteFile, request_link, text_of};
 use std::alloc::{AllocError, Global};
@@ -43,12 +43,12 @@ fn put_hits(
     out: &mut Vec<u8>,
     site: &SiteFile,
     cited: &[u8],
-    hits: &[ReleaseHit<'_>],
+    hits: &[RankedHit<'_>],
 ) -> Result<(), AllocError>
     ensures { OnOk result (out.new.items ≡ out.old.items ++ flat_map (hit_card site.now cited.now) hits.now) }
 {
     for found in hits {
-        put_hit(out, site, cited, found)?;
+        put_hit(out, site, cited, found.hit())?;
     }
     Ok(())
 }
@@ -68,12 +68,12 @@ fn put_dated(
     out: &mut Vec<u8>,
     site: &SiteFile,
     cited: &[u8],
-    hits: &[ReleaseHit<'_>],
+    hits: &[RankedHit<'_>],
 ) -> Result<(), AllocError>
     ensures { OnOk result (out.new.items ≡ out.old.items ++ flat_map (also_card site.now cited.now) hits.now) }
 {
     for found in hits {
-        put_also(out, site, cited, found)?;
+        put_also(out, site, cited, found.hit())?;
     }
     Ok(())
 }
@@ -93,12 +93,12 @@ fn put_others(
     out: &mut Vec<u8>,
     site: &SiteFile,
     cited: &[u8],
-    hits: &[ReleaseHit<'_>],
+    hits: &[RankedHit<'_>],
 ) -> Result<(), AllocError>
     ensures { OnOk result (out.new.items ≡ out.old.items ++ flat_map (other_card site.now cited.now) hits.now) }
 {
     for found in hits {
-        put_other(out, site, cited, found)?;
+        put_other(out, site, cited, found.hit())?;
     }
     Ok(())
 }
@@ -113,6 +113,51 @@ fn least(is_whole: bool) -> Text
     }
 }
 
+// Writes how to ask for fewer hits. A search that stopped would look at the same rows again.
+#[tactic(auto, unfolding(crate::specs::HitsPage::fewer_text))]
+fn put_fewer_text(out: &mut Vec<u8>, site: &SiteFile) -> Result<(), AllocError>
+    ensures { OnOk result (out.new.items ≡ out.old.items ++ fewer_text site.now) }
+{
+    put_all(
+        out,
+        &[
+            Piece::Plain(b" "),
+            Piece::Escaped(text_of(site, Text::NotShownHint)),
+        ],
+    )
+}
+
+fn put_fewer(out: &mut Vec<u8>, site: &SiteFile, is_whole: bool) -> Result<(), AllocError>
+    ensures { OnOk result (out.new.items ≡ out.old.items ++ fewer_part site.now is_whole) }
+{
+    if is_whole {
+        put_fewer_text(out, site)
+    } else {
+        Ok(())
+    }
+}
+
+#[tactic(auto, unfolding(crate::specs::HitsPage::left_out_text))]
+fn put_left_out(
+    out: &mut Vec<u8>,
+    site: &SiteFile,
+    left_out: u64,
+    is_whole: bool,
+) -> Result<(), AllocError>
+    ensures { OnOk result (out.new.items ≡ out.old.items ++ left_out_text site.now left_out is_whole) }
+{
+    put_all(
+        out,
+        &[
+            Piece::Plain(b"<p>"),
+            Piece::Escaped(text_of(site, least(is_whole))),
+            Piece::Plain(b" "),
+            Piece::Number(left_out),
+            Piece::Plain(b"."),
+        ],
+    )
+}
+
 #[tactic(auto, unfolding(crate::specs::HitsPage::more_text))]
 fn put_more_text(
     out: &mut Vec<u8>,
@@ -122,18 +167,9 @@ fn put_more_text(
 ) -> Result<(), AllocError>
     ensures { OnOk result (out.new.items ≡ out.old.items ++ more_text site.now left_out is_whole) }
 {
-    put_all(
-        out,
-        &[
-            Piece::Plain(b"<p>"),
-            Piece::Escaped(text_of(site, least(is_whole))),
-            Piece::Plain(b" "),
-            Piece::Number(left_out),
-            Piece::Plain(b". "),
-            Piece::Escaped(text_of(site, Text::NotShownHint)),
-            Piece::Plain(b"</p>\n"),
-        ],
-    )
+    put_left_out(out, site, left_out, is_whole)?;
+    put_fewer(out, site, is_whole)?;
+    put(out, b"</p>\n")
 }
 
 // Writes how many hits are left out, unless all are shown.
@@ -170,9 +206,9 @@ fn put_cards(
     out: &mut Vec<u8>,
     site: &SiteFile,
     cited: &[u8],
-    hits: &[ReleaseHit<'_>],
-    also: &[ReleaseHit<'_>],
-    others: &[ReleaseHit<'_>],
+    hits: &[RankedHit<'_>],
+    also: &[RankedHit<'_>],
+    others: &[RankedHit<'_>],
 ) -> Result<(), AllocError>
     ensures { OnOk result (out.new.items
         ≡ out.old.items ++ cards site.now cited.now hits.now also.now others.now) }
@@ -191,7 +227,7 @@ fn has_no_hits(tally: &Tally<'_>) -> bool
     tally.is_whole() && tally.count() == 0
 }
 
-// Writes that the library has the titles for another date or volume alone, if nothing was hit.
+// Writes that the library has the titles only for another date or volume, if no row is a hit.
 fn put_held(out: &mut Vec<u8>, site: &SiteFile, tally: &Tally<'_>) -> Result<(), AllocError>
     ensures { OnOk result (out.new.items ≡ out.old.items ++ held_part site.now (tally_from tally.now)) }
 {
@@ -409,10 +445,12 @@ pub fn put_page_foot(out: &mut Vec<u8>, site: &SiteFile) -> Result<(), AllocErro
 fn page_name(tally: &Tally<'_>) -> Text
     ensures { result ≡ page_name (tally_from tally.now) }
 {
-    if has_no_hits(tally) {
+    if tally.count() != 0 {
+        Text::FullText
+    } else if tally.is_whole() {
         Text::NoFullText
     } else {
-        Text::FullText
+        Text::NoFullTextSoFar
     }
 }
 

@@ -1,4 +1,4 @@
--- What a map with bytes as keys has at some bytes, after a change at others.
+-- A change of a map at one key, which is bytes, leaves the values of its other keys.
 use Rattle.std.proofs.Common.{◌≡◌, ℕ, ◌&&◌, Bool, true, false, cond, is_some, List, Option, Some, None, Ordering, if◌then◌else◌, refl, sym, ◌∙◌}
 use Rattle.std.specs.Global.{Vec}
 use Rattle.std.specs.Option.{option_or}

@@ -82,7 +82,7 @@ host_is_long : (host : List ℕ) → is_host host ≡ true → 0 < length host
 host_is_long [] h = cc
 host_is_long (b ∷ rest) h = omega arith
 
--- ---- names that are no numbers
+-- ---- names that are not numbers
 
 begins_lower : (text : List ℕ) → begins_with_letter text ≡ true → begins_with_letter (lowercase text) ≡ true
 begins_lower [] h = h

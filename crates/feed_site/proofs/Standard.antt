@@ -1,4 +1,4 @@
--- What the URL Standard parses of an address.
+-- The parts of an address, as the URL Standard parses it.
 use Rattle.std.proofs.Common.{◌≡◌, ℕ, ◌+◌, ◌-◌, ◌<◌, Bool, true, false, not, ◌&&◌, ◌||◌, ◌==◌, List, [], ◌∷◌, ◌++◌, length, get_or}
 use Rattle.std.proofs.Common.{take, drop, Option, Some, None, Ok, All, sym, refl, ap, ◌∙◌, subst, arith, codes, take_all, append_assoc, length-append, take_at, drop_at}
 use Rattle.std.specs.Prelude.{is_some, unwrap_or, if◌then◌else◌, nat_lt, nat_le, reverse, bytes_eq}

@@ -97,7 +97,8 @@ pub fn link_to<'a>(
     }
 }
 
-/// Returns how many of so many bytes are left beside the link to a target behind a prefix, with room for each escape.
+/// Returns how many of some bytes are left beside the link to a target behind a prefix. Counts three bytes for each
+/// byte of a target that is percent-encoded.
 pub fn left_beside(bytes: usize, prefix: Option<&str>, target: &[u8]) -> usize
     ensures { result ≡ bytes - room_of (option_copied prefix.entry) target.now }
 {

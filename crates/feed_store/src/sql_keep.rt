@@ -118,7 +118,7 @@ impl<S: Alter + Drop> SqlKeep<S> {
     }
 }
 
-impl<S: Alter> Keep for SqlKeep<S> {
+impl<S: Alter + Drop> Keep for SqlKeep<S> {
     ghost use Rattle.std.specs.Prelude.{Err, IsErrOf, IsTrue, OnErr, OnOk};
     ghost use Rattle.std.specs.List.{IsDistinct};
     ghost use Rattle.feed_names.specs.ReleaseName.{name_eq};

@@ -8,8 +8,8 @@ use feed_answer::{Query, WriteFault, answer};
 use feed_identifiers::{Isbn, Issn};
 use feed_kbart::{
     Aside, FileCount, Holdings, KbartFault, Kind, Reason, Row, count_file, read_file, read_parts,
+    read_windows,
 };
-use feed_list_check::read_windows;
 use feed_names::ReleaseName;
 use feed_test_output::Out;
 use std::alloc::Global;

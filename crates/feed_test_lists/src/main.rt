@@ -20,10 +20,10 @@
 //!     count STEP CALLS FILE   the counts of the same list, by `count_file`
 //!     parts STEP CALLS CALLS FILE
 //!                             the same list, by `read_parts`, with a number of calls for each of its two readers
-//!     windows SIZE FILE       the same list, by `feed_list_check`, in windows of at most SIZE bytes
+//!     windows SIZE FILE       the same list, by `read_windows`, in windows of at most SIZE bytes
 //!     rows FILE WORD          the places, from 0, of the rows that have an ISSN or an ISBN
-//!     places SIZE FILE WORD.. the same for each word, of a list that `feed_list_check` reads in windows of at most
-//!                             SIZE bytes
+//!     places SIZE FILE WORD.. the same for each word, of a list that `read_windows` reads in windows of at most SIZE
+//!                             bytes
 //!     write ROOM NAME TEXT    whether the answer to a query is written, from the list in the file NAME, to a writer
 //!                             that accepts ROOM bytes and then fails
 //!     embargo TODAY FIRST LAST DATE TEXT

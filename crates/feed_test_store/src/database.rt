@@ -1,14 +1,16 @@
 //! Databases that are opened as keepers: in files, and in memory.
 use feed_keep::Keep;
 use feed_store::SqlKeep;
-use sqlite::MemStore;
+use sqlite::{Alter, MemStore};
 use sqlite_std_file::File;
 use sqlite_store::FileStore;
+use std::alloc::Global;
+use std::marker::PhantomData;
 use std::test::Fail;
 
 /// A database that can be opened as a keeper.
 pub trait Database {
-    type Keeper: Keep + Drop;
+    type Keeper: Keep;
 
     fn open(&self) -> Result<Self::Keeper, Fail>;
 
@@ -37,23 +39,36 @@ impl Database for DatabaseFile<'_> {
     }
 }
 
-/// A new database in memory.
-#[derive(Drop)]
-pub struct NewDatabase<'a> {
-    pub rt: &'a HostRuntime,
+/// A store that begins empty.
+pub trait EmptyStore: Alter + Drop {
+    fn keeper(alloc: Global) -> Result<SqlKeep<Self>, Fail>;
 }
 
-impl Database for NewDatabase<'_> {
-    type Keeper = SqlKeep<MemStore>;
-
-    fn open(&self) -> Result<SqlKeep<MemStore>, Fail> {
-        match SqlKeep::open_memory(self.rt.alloc()) {
+impl EmptyStore for MemStore {
+    fn keeper(alloc: Global) -> Result<SqlKeep<MemStore>, Fail> {
+        match SqlKeep::open_memory(alloc) {
             Ok(keeper) => Ok(keeper),
             Err(fault) => Err(Fail::new(fault)),
         }
     }
+}
 
-    fn close(_keeper: SqlKeep<MemStore>) -> Result<(), Fail> {
+/// A new database in an empty store. The store is a parameter, since the toolchain has no statement of an impl whose
+/// keeper has none.
+#[derive(Drop)]
+pub struct NewDatabase<S> {
+    pub alloc: Global,
+    pub of: PhantomData<S>,
+}
+
+impl<S: EmptyStore> Database for NewDatabase<S> {
+    type Keeper = SqlKeep<S>;
+
+    fn open(&self) -> Result<SqlKeep<S>, Fail> {
+        S::keeper(self.alloc)
+    }
+
+    fn close(_keeper: SqlKeep<S>) -> Result<(), Fail> {
         Ok(())
     }
 }

@@ -30,7 +30,9 @@ mod worlds;
 
 use database::{DatabaseFile, NewDatabase};
 use feed_store::StoreFault;
+use sqlite::MemStore;
 use std::env;
+use std::marker::PhantomData;
 use std::test::Fail;
 use work::{Work, do_work};
 use worlds::replay_over;
@@ -70,7 +72,10 @@ fn work_in(rt: &HostRuntime, databases: &[DatabaseFile<'_>], work: &Work<'_>) ->
 fn replay_in_memory(rt: &HostRuntime, words: &[String]) -> Result<(), Fail> {
     let mut databases = Vec::new(rt.alloc());
     for _ in words {
-        databases.push(NewDatabase { rt })?;
+        databases.push(NewDatabase::<MemStore> {
+            alloc: rt.alloc(),
+            of: PhantomData,
+        })?;
     }
     replay_over(rt, &databases)
 }

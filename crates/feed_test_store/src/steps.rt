@@ -46,7 +46,7 @@ pub fn take_steps<D: Database>(
     D::close(feed.restart())
 }
 
-fn open_feed<K: Keep + Drop>(rt: &HostRuntime, keeper: K) -> Result<Feed<K>, Fail> {
+fn open_feed<K: Keep>(rt: &HostRuntime, keeper: K) -> Result<Feed<K>, Fail> {
     match Feed::open(rt.alloc(), keeper) {
         Ok(feed) => Ok(feed),
         Err(fault) => Err(Fail::new(fault.cause)),
@@ -71,13 +71,13 @@ fn take_step<D: Database>(
     }
 }
 
-fn print_records<K: Keep + Drop>(rt: &HostRuntime, feed: Feed<K>) -> Result<Feed<K>, Fail> {
+fn print_records<K: Keep>(rt: &HostRuntime, feed: Feed<K>) -> Result<Feed<K>, Fail> {
     let mut keeper = feed.restart();
     print_content(rt, &mut keeper)?;
     open_feed(rt, keeper)
 }
 
-fn handle_step<K: Keep + Drop>(
+fn handle_step<K: Keep>(
     rt: &HostRuntime,
     mut feed: Feed<K>,
     step: &str,
@@ -93,7 +93,7 @@ fn handle_step<K: Keep + Drop>(
     Ok(feed)
 }
 
-fn offer<K: Keep + Drop>(
+fn offer<K: Keep>(
     rt: &HostRuntime,
     feed: &mut Feed<K>,
     arguments: &mut Arguments<'_>,
@@ -103,7 +103,7 @@ fn offer<K: Keep + Drop>(
     print_answer(rt, feed.handle(&Event::Offered { name: &name, size }))
 }
 
-fn piece<K: Keep + Drop>(
+fn piece<K: Keep>(
     rt: &HostRuntime,
     feed: &mut Feed<K>,
     arguments: &mut Arguments<'_>,
@@ -114,7 +114,7 @@ fn piece<K: Keep + Drop>(
     print_answer(rt, give(feed, &name, first, &bytes))
 }
 
-fn pieces<K: Keep + Drop>(
+fn pieces<K: Keep>(
     rt: &HostRuntime,
     feed: &mut Feed<K>,
     arguments: &mut Arguments<'_>,
@@ -131,7 +131,7 @@ fn pieces<K: Keep + Drop>(
     Ok(())
 }
 
-fn give<K: Keep + Drop>(
+fn give<K: Keep>(
     feed: &mut Feed<K>,
     name: &ReleaseName,
     first: u64,
@@ -145,7 +145,7 @@ fn give<K: Keep + Drop>(
     })
 }
 
-fn report<K: Keep + Drop>(
+fn report<K: Keep>(
     rt: &HostRuntime,
     feed: &Feed<K>,
     arguments: &mut Arguments<'_>,

@@ -39,7 +39,7 @@ fn show_transcript<D: Database>(
     Ok(())
 }
 
-fn text_of<K: Keep + Drop>(alloc: Global, transcript: &Transcript<K>) -> Result<Vec<u8>, Fail> {
+fn text_of<K: Keep>(alloc: Global, transcript: &Transcript<K>) -> Result<Vec<u8>, Fail> {
     let mut text = Vec::new(alloc);
     transcript.write(&mut text)?;
     Ok(text)

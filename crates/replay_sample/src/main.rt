@@ -1,7 +1,7 @@
 //! Replays the script on standard input as `kbfeed replay` does: small enough to be compiled without proof in a minute.
 #![tactic(auto)]
 
-use feed_command::{FAILED, Faults};
+use feed_command::{Console, FAILED, Faults};
 use feed_replay::replay_input;
 use std::io;
 use std::io::BufWriter;
@@ -10,7 +10,11 @@ use std::process::ExitCode;
 fn main(rt: HostRuntime) -> ExitCode {
     let mut faults = Faults::new(rt.stderr(), false);
     let status = match BufWriter::new(rt.alloc(), io::writer(&rt)) {
-        Ok(mut out) => replay_input(&rt, &mut out, &mut faults),
+        Ok(out) => replay_input(&mut Console {
+            rt: &rt,
+            out,
+            faults,
+        }),
         Err(_) => faults.report("Memory", FAILED),
     };
     ExitCode::from(status)

@@ -25,6 +25,7 @@ use feed_range::RangeAsk;
 use httparse::spans::EMPTY_HEADER_SPAN;
 use std::alloc::Global;
 use std::io::{Read, Write};
+use std::ops::Range;
 
 fn reply_with<W: Write, S: Shelf>(
     alloc: Global,
@@ -32,22 +33,21 @@ fn reply_with<W: Write, S: Shelf>(
     shelf: &mut S,
     name: &ReleaseName,
     head: ReplyHead,
-    first: u64,
-    end: u64,
+    places: Range<u64>,
 ) -> Result<u16, HttpFault>
     requires part { IsPartInside head }
-    requires ordered { first ≤ end }
+    requires ordered { places.start ≤ places.end }
     requires inside { IfSome (S.files shelf.old) (λ files.
-        IsSomeAnd (files name.now) (λ file. end ≤ length file)) }
+        IsSomeAnd (files name.now) (λ file. places.end ≤ length file)) }
     ensures reply { IfSome (S.files shelf.old) (λ files. IfSome (files name.now) (λ file.
-        IsOutcomeOf (reply_of head (slice_range file first end)) result
+        IsOutcomeOf (reply_of head (slice_range file places.start places.end)) result
         (W.contents writer.old) (W.contents writer.new))) }
     ensures faults { IfErr result IsReplyFault }
     ensures shelf { IsShelfKept (S.files shelf.old) (S.files shelf.new) (S.failed shelf.old) (S.failed shelf.new)
         result }
 {
     let status = head.write(writer)?;
-    send(alloc, writer, shelf, name, first, end)?;
+    send(alloc, writer, shelf, name, places.start, places.end)?;
     Ok(status)
 }
 
@@ -71,7 +71,7 @@ fn serve_part<W: Write, S: Shelf>(
     match ask {
         RangeAsk::Whole => {
             let head = ReplyHead::Whole { length: size };
-            reply_with(alloc, writer, shelf, name, head, 0, size)
+            reply_with(alloc, writer, shelf, name, head, 0..size)
         }
         RangeAsk::Part(first, last) => {
             let head = ReplyHead::Part {
@@ -79,7 +79,7 @@ fn serve_part<W: Write, S: Shelf>(
                 last,
                 length: size,
             };
-            reply_with(alloc, writer, shelf, name, head, first, last + 1)
+            reply_with(alloc, writer, shelf, name, head, first..last + 1)
         }
         RangeAsk::Unsatisfied => ReplyHead::Unsatisfied { length: size }.write(writer),
     }

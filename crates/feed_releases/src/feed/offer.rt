@@ -15,7 +15,7 @@ use feed_limits::{FILE_LIMIT, RELEASE_LIMIT};
 use feed_model::{Refusal, Reply};
 use feed_names::ReleaseName;
 
-impl<K: Keep + Drop> Feed<K> {
+impl<K: Keep> Feed<K> {
     ghost use Rattle.std.specs.Prelude.{◌⊎◌, Err, OnOk, OnErr, IfErr};
     ghost use Rattle.feed_keep.specs.Cause.{IsCounted};
     ghost use Rattle.feed_releases.specs.Feeds.{IsAnsweredBy, keeper_of, recorded, releases_of};

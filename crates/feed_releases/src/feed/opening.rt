@@ -9,7 +9,7 @@ use std::alloc::Global;
 
 /// A feed that is being opened: it checks the records of its keeper in steps.
 #[derive(Drop)]
-pub struct Opening<K: Keep + Drop> {
+pub struct Opening<K: Keep> {
     alloc: Global,
     keeper: K,
     reopening: Reopening,
@@ -19,14 +19,14 @@ pub struct Opening<K: Keep + Drop> {
 
 /// A feed after a step of its opening.
 #[derive(Drop)]
-pub enum OpeningStep<K: Keep + Drop> {
+pub enum OpeningStep<K: Keep> {
     /// There is more to check.
     Pending(Opening<K>),
     /// The feed is open.
     Opened(Feed<K>),
 }
 
-impl<K: Keep + Drop> Opening<K> {
+impl<K: Keep> Opening<K> {
     ghost use Rattle.std.specs.Prelude.{◌⊎◌, IfOk, IfErr, MatchResult};
     ghost use Rattle.feed_model.specs.Sound.{IsSound};
     ghost use Rattle.feed_keep.specs.Cause.{IsCounted};

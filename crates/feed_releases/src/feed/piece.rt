@@ -10,7 +10,7 @@ use feed_limits::PIECE_LIMIT;
 use feed_model::{Refusal, Reply};
 use feed_names::ReleaseName;
 
-impl<K: Keep + Drop> Feed<K> {
+impl<K: Keep> Feed<K> {
     ghost use Rattle.std.specs.Prelude.{Some};
     ghost use Rattle.feed_model.specs.History.{Piece};
     ghost use Rattle.feed_model.specs.Content.{Record, record_of};

@@ -9,7 +9,7 @@ pub read_parts-requires : goal.read_parts-requires
 read_parts-requires c =
     let one = rw c.deref.ensures.value at c.in-Some.ensures.some in
     let other = rw c.deref-2.ensures.value at c.in-Some-whole_reader.ensures.some in
-    record { same = ap Some (one_text c.args.kept.now.size (shown_parts c.args.kept.now.parts.items) c.in-Some.check c.in-Some-whole_reader.read one.1 other.1) }
+    ap Some (one_text c.args.kept.now.size (shown_parts c.args.kept.now.parts.items) c.in-Some.check c.in-Some-whole_reader.read one.1 other.1)
 
 pub returns : goal.returns
 returns c =

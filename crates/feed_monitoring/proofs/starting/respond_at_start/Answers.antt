@@ -15,4 +15,5 @@ starting is_local is_open metrics gauges bytes keeps (Some reply) allowed none i
 
 pub returns-clause-value : goal.returns-clause-value
 returns-clause-value c =
-    starting c.args.is_local c.args.is_open c.args.metrics.now _ c.args.bytes.now c.args.keeps c.in_ok-found.found c.if-not-gets_report.ensures refl c.in_ok-found.ensures.value
+    starting c.args.request.now.is_local c.args.request.now.is_open c.args.metrics.now _ c.args.request.now.bytes.now c.args.request.now.keeps c.in_ok-found.found
+    c.if-not-gets_report.ensures refl c.in_ok-found.ensures.value

@@ -1,5 +1,6 @@
-use Rattle.std.proofs.Common.{◌++◌}
+use Rattle.std.proofs.Common.{◌++◌, ◌∙◌, ap}
 use Rattle.feed_resolver_reply.specs.JsonLists.{items_from}
+use Rattle.feed_resolver_hits.specs.Hits.{ReleaseHitValue}
 use Rattle.feed_resolver_hits.specs.HitsJson.{hit_object}
 use Rattle.feed_resolver_hits.proofs.Loops.{items_next}
 use Rattle.feed_resolver_hits.proofs.hits_json.put_objects.Goals as goal
@@ -8,4 +9,5 @@ pub loop-place-preserved : goal.loop-place-preserved
 loop-place-preserved c =
     items_next (hit_object c.args.end.now) c.args.hits.now c.loop-place.place c.index-hits-place.result c.loop-place-test.true c.index-hits-place.is
     (c.args.out.now.items ++ items_from (hit_object c.args.end.now) 0 c.args.hits.now) c.loop-place.out.items c.put_comma.new.out.items c.put_object.new.out.items
-    c.loop-place.invariant c.in_ok-put_comma.ensures c.in_ok-put_object.ensures
+    c.loop-place.invariant c.in_ok-put_comma.ensures
+    (c.in_ok-put_object.ensures ∙ ap (λ (found : ReleaseHitValue). c.put_comma.new.out.items ++ hit_object c.args.end.now found) c.hit.ensures)

@@ -1,3 +1,5 @@
+use Rattle.std.proofs.Common.{◌++◌, ◌∙◌, ap}
+use Rattle.feed_resolver_hits.specs.Hits.{ReleaseHitValue}
 use Rattle.feed_resolver_hits.proofs.Loops.{flat_next}
 use Rattle.feed_resolver_page.specs.HitsPage.{hit_card}
 use Rattle.feed_resolver_page.proofs.hits_page.put_hits.Goals as goal
@@ -5,4 +7,5 @@ use Rattle.feed_resolver_page.proofs.hits_page.put_hits.Goals as goal
 pub loop-found-preserved : goal.loop-found-preserved
 loop-found-preserved c =
     flat_next (hit_card c.args.site.now c.args.cited.now) c.args.hits.now c.loop-found.found-index c.found-item.result c.loop-found-test.true c.found-item.is
-    c.args.out.now.items c.loop-found.out.items c.put_hit.new.out.items c.loop-found.invariant c.in_ok-put_hit.ensures
+    c.args.out.now.items c.loop-found.out.items c.put_hit.new.out.items c.loop-found.invariant
+    (c.in_ok-put_hit.ensures ∙ ap (λ (found : ReleaseHitValue). c.loop-found.out.items ++ hit_card c.args.site.now c.args.cited.now found) c.hit.ensures)

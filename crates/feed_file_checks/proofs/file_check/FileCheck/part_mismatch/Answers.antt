@@ -4,12 +4,12 @@ use Rattle.feed_file_checks.proofs.file_check.FileCheck.part_mismatch.Goals as g
 
 pub returns-in-Some-sum_mismatch-clause-mismatch : goal.returns-in-Some-sum_mismatch-clause-mismatch
 returns-in-Some-sum_mismatch-clause-mismatch g c h seen content received =
-    sum_differs h c.args.name.now.stem c.args.self.now seen c.args.first c.args.bytes.now c.args.size c.in-Some-sum_mismatch.mismatch
+    sum_differs h c.args.name.now.stem c.args.self.now seen c.args.part.now.first c.args.part.now.bytes.now c.args.part.now.length c.in-Some-sum_mismatch.mismatch
     (search rules) (c.in-Some-sum_mismatch.ensures.mismatch seen received.sum)
 
 pub returns-clause-mismatch : goal.returns-clause-mismatch
 returns-clause-mismatch g c h seen content received =
-    gate_decides h c.args.name.now.stem c.args.self.now seen c.args.first c.args.bytes.now c.args.size c.gate_mismatch.result
+    gate_decides h c.args.name.now.stem c.args.self.now seen c.args.part.now.first c.args.part.now.bytes.now c.args.part.now.length c.gate_mismatch.result
     (search rules) (search rules) (c.gate_mismatch.ensures.mismatch h seen content received.rows)
 
 pub returns-clause-received : goal.returns-clause-received

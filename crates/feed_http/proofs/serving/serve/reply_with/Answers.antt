@@ -8,10 +8,10 @@ returns-in_err-status-clause-reply g c = at_any_file (g.S.Shelf.files c.args.she
 
 pub returns-in_err-send-clause-reply : goal.returns-in_err-send-clause-reply
 returns-in_err-send-clause-reply g c = at_its_file (g.S.Shelf.files c.args.shelf.now) c.args.name.now _ _ c.in_err-send.ensures.sent
-    (λ file sent. body_cut c.args.head (slice_range file c.args.first c.args.end) c.from_residual-in_err-send.result c.in_err-send.field-0.0 _ (g.W.Write.contents c.write.new.writer) _
+    (λ file sent. body_cut c.args.head (slice_range file c.args.places.start c.args.places.end) c.from_residual-in_err-send.result c.in_err-send.field-0.0 _ (g.W.Write.contents c.write.new.writer) _
     c.from_residual-in_err-send.ensures.1 c.in_ok-status.ensures.head sent)
 
 pub returns-clause-reply : goal.returns-clause-reply
 returns-clause-reply g c = at_its_file (g.S.Shelf.files c.args.shelf.now) c.args.name.now _ _ c.in_ok-send.ensures.sent
-    (λ file sent. all_sent c.args.head (slice_range file c.args.first c.args.end) c.in_ok-status.status _ (g.W.Write.contents c.write.new.writer) _
+    (λ file sent. all_sent c.args.head (slice_range file c.args.places.start c.args.places.end) c.in_ok-status.status _ (g.W.Write.contents c.write.new.writer) _
     c.in_ok-status.ensures.status c.in_ok-status.ensures.head sent)

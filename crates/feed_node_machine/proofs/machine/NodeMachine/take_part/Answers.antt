@@ -8,4 +8,4 @@ returns-clause-taken g c = search rules
 pub returns-clause-later : goal.returns-clause-later
 returns-clause-later g c =
     let is : c.args.self.now.fetching ≡ Some c.in-Some.fetching = search rules in
-    later_taken_part g.S.FeedRespond.wanted g.S.FeedRespond.replies c.args.first c.args.length c.args.bytes.now c.in-Some.fetching _ _ is (returns-clause-taken g c)
+    later_taken_part g.S.FeedRespond.wanted g.S.FeedRespond.replies c.args.part.now.first c.args.part.now.length c.args.part.now.bytes.now c.in-Some.fetching _ _ is (returns-clause-taken g c)

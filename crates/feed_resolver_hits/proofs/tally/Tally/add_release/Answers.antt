@@ -3,6 +3,8 @@ use Rattle.std.proofs.lemmas.Result.{on_ok_weaker}
 use Rattle.feed_answer.specs.Places.{listed}
 use Rattle.feed_resolver_hits.specs.Looks.{asked_places, looks_in}
 use Rattle.feed_resolver_hits.specs.Tallying.{RunningValue}
+use Rattle.feed_answer.specs.QueryValue.{QueryValue}
+use Rattle.feed_resolver_hits.proofs.AskedRows.{all_asked}
 use Rattle.feed_resolver_hits.proofs.LooksPlaced.{release_added}
 use Rattle.feed_resolver_hits.proofs.Tallies.{cut_stays}
 use Rattle.feed_resolver_hits.proofs.tally.Tally.add_release.Goals as goal
@@ -11,6 +13,12 @@ pub returns-then-not-self : goal.returns-then-not-self
 returns-then-not-self c =
     sym (cut_stays c.args.self.now (looks_in c.args.site.now c.args.today.now c.args.search.now c.args.name.now c.args.holdings.now.rows)
     (ap (λ (t : RunningValue). t.is_whole) (sym c.self.view_is) ∙ c.if-not-self.true))
+
+pub look_at_each-requires-clause-asked : goal.look_at_each-requires-clause-asked
+look_at_each-requires-clause-asked c =
+    all_asked c.args.search.now.query c.args.holdings.now.rows c.rows-rows.result.now (c.self.inside.left + 1) c.as_slice-places.result.now (listed c.in_ok-found.found)
+    c.rows-rows.ensures c.as_slice-places.ensures
+    (c.in_ok-found.ensures ∙ ap (λ (query : QueryValue). take (c.self.inside.left + 1) (asked_places query c.args.holdings.now.rows)) c.query.ensures)
 
 pub returns : goal.returns
 returns c =

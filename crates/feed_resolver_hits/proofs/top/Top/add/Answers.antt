@@ -32,5 +32,5 @@ pub invariant_of-self-2 : goal.invariant_of-self-2
 invariant_of-self-2 c =
     let hits : List ReleaseHitValue = c.self.inside.hits.items in
     let at = (goal.at.invariant_of-self-2 c).After-place_of-place in
-    rw (c.truncate.ensures.items, c.in_ok-insert.ensures.items)
+    rw (c.truncate.ensures.items, c.in_ok-insert.ensures.items, c.in_ok-ranked.ensures)
     (few_ranked shown_limit (insert hits c.place_of-place.result c.args.found) (stays_ranked c.args.found hits c.place_of-place.result (within at) (split at) c.self.invariant.0))

@@ -1,5 +1,0 @@
-use Rattle.feed_list_check.proofs.Cuts.{records_of-append}
-use Rattle.feed_list_check.proofs.law.records_are_of_both_parts.Goals as goal
-
-pub returns : goal.returns
-returns c = records_of-append
