@@ -6,6 +6,10 @@ abbrev pub skip_spaces : List ℕ → List ℕ
 skip_spaces [] = []
 skip_spaces (b ∷ bytes) = if b == 32 then skip_spaces bytes else b ∷ bytes
 
+-- a text without the spaces at its back
+abbrev pub trimmed_back : List ℕ → List ℕ
+trimmed_back text = reverse (skip_spaces (reverse text))
+
 -- a text without the spaces at both ends
 abbrev pub trimmed : List ℕ → List ℕ
-trimmed text = reverse (skip_spaces (reverse (skip_spaces text)))
+trimmed text = trimmed_back (skip_spaces text)
