@@ -6,7 +6,7 @@ long_records.py [SEED [LISTS]]
 A record of more than 131,072 bytes is read field by field while it arrives. Each list is written to the file `list` in
 the current folder, and feed_test_lists reads it in windows of some sizes, from a reader, and from two. The lists have
 records of 131,071 to 131,075 bytes, cut near their tabs, their line ends and the byte-order mark, long headers, rows of
-tabs, and LISTS random ones.
+tabs, spaces in each place, and LISTS random ones.
 Prints a line for each kind of list, and each case that differs. Fails if there is one."""
 import random
 import re
@@ -139,6 +139,25 @@ def rows():
             yield HEADER + "\n" + row("First", 5) + "\n" + last + end, [1 << 20, LONG, 65_536, 10_007]
 
 
+def spaces():
+    """Spaces before, in and after each label and each cell, in the header, in a short row and in a long one."""
+    for size in (20, 300, 140_000):
+        blank = " " * size
+        for label in LABELS + OTHERS:
+            for spaced in (blank + label, label + blank, blank + label + blank, label[:5] + blank + label[5:],
+                           label + blank + "x", blank):
+                yield ("\t".join(spaced if it == label else it for it in LABELS + OTHERS) + "\n" + row("T", 1) + "\n",
+                       [1 << 20, 65_536, 1_009])
+        for place in range(len(LABELS + OTHERS)):
+            cells = row("T", 1, "\tid\tR1Y\tfulltext\tserial\tF").split("\t")
+            for spaced in (blank + cells[place], cells[place] + blank, blank + cells[place] + blank,
+                           cells[place][:4] + blank + cells[place][4:]):
+                short = "\t".join([*cells[:place], spaced, *cells[place + 1:]])
+                for last in (short, short + "\t" * LONG):
+                    text = HEADER + "\n" + row("First", 5) + "\n" + last + "\n" + row("Next", 2)
+                    yield text, [1 << 20, 65_536, 1_009]
+
+
 def noise(source, size):
     return "".join(source.choices("ab \t", [5, 2, 1, 2], k=size))
 
@@ -186,7 +205,7 @@ def main():
     words = [int(it) for it in sys.argv[1:]]
     seed, lists = words + [1, 12][len(words):]
     good = [check("edges", edges()), check("headers", headers()), check("rows", rows()),
-            check("random", randoms(seed, lists))]
+            check("spaces", spaces()), check("random", randoms(seed, lists))]
     sys.exit(0 if all(good) else 1)
 
 
