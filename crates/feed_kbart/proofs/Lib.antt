@@ -1,4 +1,6 @@
 pub mod Labels
+pub mod Trimming
+pub mod Keeping
 pub mod Places
 pub mod Headers
 pub mod Lines

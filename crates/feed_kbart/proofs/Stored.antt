@@ -11,11 +11,12 @@ use Rattle.csv.specs.Records.{field_at}
 use Rattle.feed_kbart.specs.Columns.{field_of}
 use Rattle.feed_kbart.specs.Coverage.{kind_of}
 use Rattle.feed_kbart.specs.Rows.{row_of}
-use Rattle.feed_kbart.specs.Stored.{IsShort, cells_of, cut, days_at, row_at, row_with_cells, split_long, split_text, stored_columns, text_at, text_bytes, texts_in}
+use Rattle.feed_kbart.specs.Stored.{IsShort, cells_of, cut, days_at, kept_cells, row_at, row_with_cells, split_long, split_text, stored_columns, text_at, text_bytes, texts_in}
 use Rattle.feed_kbart.specs.declared.header.Columns.{Columns}
 use Rattle.feed_kbart.specs.declared.identifiers.Kind.{Kind}
 use Rattle.feed_kbart.specs.declared.identifiers.Kind.TheVariants as of
 use Rattle.feed_kbart.specs.declared.label.Label.TheVariants.{DateFirstIssueOnline, DateLastIssueOnline, PublicationType}
+use Rattle.feed_kbart.proofs.Keeping.{row_of_kept}
 
 not_mark : (n : ℕ) → ltb n 255 ≡ true → eqb n 255 ≡ false
 not_mark n e = grind (arith, nat_tests)
@@ -61,14 +62,14 @@ row_of_cells columns number fields = go (kind_of (field_of columns PublicationTy
     go (Some of.Book) e = rw e refl
 
 -- the row that is stored after other bytes
-pub row_stored : (before more : List ℕ) (columns : Columns) (number : ℕ) (fields : List (List ℕ)) → All IsShort (cells_of columns fields)
-    → row_at number (drop (length before) ((before ++ flat_map text_bytes (cells_of columns fields)) ++ more)) ≡ row_of columns number fields
+pub row_stored : (before more : List ℕ) (columns : Columns) (number : ℕ) (fields : List (List ℕ)) → All IsShort (kept_cells (cells_of columns fields))
+    → row_at number (drop (length before) ((before ++ flat_map text_bytes (kept_cells (cells_of columns fields))) ++ more)) ≡ row_of columns number fields
 row_stored before more columns number fields short =
-    let cells = cells_of columns fields in
+    let cells = kept_cells (cells_of columns fields) in
     ap (λ bytes. row_at number (drop (length before) bytes)) (append_assoc before (flat_map text_bytes cells) more)
     ∙ ap (row_at number) (drop-append_seam before (flat_map text_bytes cells ++ more))
     ∙ ap (row_with_cells number) (texts_stored cells more short)
-    ∙ row_of_cells columns number fields
+    ∙ row_of_kept columns fields number
 
 -- the days of a row are those of its cells
 module _ (number : ℕ) (cells : List (List ℕ)) where

@@ -1,7 +1,8 @@
 -- The cells of a row in a block of bytes, each behind its length.
-use Rattle.std.specs.Prelude.{ℕ, zero, suc, ◌<◌, ◌^◌, ◌==◌, nat_lt, List, [], ◌∷◌, ◌++◌, length, take, drop, map, Option, Some, None, if◌then◌else◌}
+use Rattle.std.specs.Prelude.{ℕ, zero, suc, ◌<◌, ◌^◌, ◌==◌, nat_lt, Bool, true, false, List, [], ◌∷◌, ◌++◌, length, take, drop, map, Option, Some, None, if◌then◌else◌}
 use Rattle.std.specs.Int.{from_le_bytes, to_le_bytes, w32}
 use Rattle.feed_dates.specs.declared.day_range.DayRange.{DayRange}
+use Rattle.feed_identifiers.specs.Text.{trimmed}
 use Rattle.feed_kbart.specs.Columns.{cell, column_of, field_of}
 use Rattle.feed_kbart.specs.Coverage.{coverage_days, kind_of}
 use Rattle.feed_kbart.specs.Labels.{label_count, slot, stored_labels}
@@ -61,6 +62,20 @@ in_order columns = map (column_of columns) stored_labels
 -- the cells of a record, in that order
 abbrev pub cells_of : Columns → List (List ℕ) → List (List ℕ)
 cells_of columns fields = map (λ column. cell column fields) (in_order columns)
+
+-- the number of cells that are only parsed: the identifiers, the publication type, the dates and the volumes, which
+-- come first in that order
+abbrev pub parsed_count : ℕ
+parsed_count = 7
+
+-- a cell as it is kept: without the spaces at its ends if it is only parsed
+abbrev pub kept_text : Bool → List ℕ → List ℕ
+kept_text true text = trimmed text
+kept_text false text = text
+
+-- the cells of a record as they are kept
+abbrev pub kept_cells : List (List ℕ) → List (List ℕ)
+kept_cells cells = map trimmed (take parsed_count cells) ++ drop parsed_count cells
 
 -- the columns of a record that has its cells in this order
 abbrev pub stored_columns : Columns

@@ -11,6 +11,10 @@ pub const LABEL_COUNT: usize = 13;
 /// The number of labels that every file must have. They are the first ones.
 pub const REQUIRED_COUNT: usize = 8;
 
+/// The number of labels whose cells are only parsed: the identifiers, the publication type, the dates and the volumes.
+/// Their cells are stored first, without the spaces at their ends.
+pub(crate) const PARSED_COUNT: usize = 7;
+
 /// A column label in use. The variants are in the order in which a header is checked for them.
 #[derive(Clone, Copy, Debug, PartialEq, Eq)]
 pub enum Label {

@@ -6,13 +6,15 @@ ghost use Rattle.csv.specs.Records.{fields_of};
 ghost use Rattle.feed_kbart.specs.Columns.{cell, field_of};
 ghost use Rattle.feed_kbart.specs.Labels.{label_count};
 ghost use Rattle.feed_kbart.specs.RecordBytes.{cells_in, number_of};
-ghost use Rattle.feed_kbart.specs.Stored.{IsShort, cells_of, in_order, stored_columns, text_bytes, texts_in};
+ghost use Rattle.feed_kbart.specs.Stored.{IsShort, cells_of, kept_cells, kept_text, stored_columns};
+ghost use Rattle.feed_kbart.specs.Stored.{text_bytes, texts_in};
 
 use crate::header::{Cells, Columns, cell_of};
-use crate::label::{LABEL_COUNT, Label};
+use crate::label::{LABEL_COUNT, Label, PARSED_COUNT};
 use crate::long_record::LongRecord;
 use crate::stored_text::{has_same_texts, put_text, text_at};
 use csv::ByteRecord;
+use feed_identifiers::trim_spaces;
 use std::alloc::AllocError;
 use std::marker::Model;
 use std::rc::RcSlice;
@@ -177,31 +179,44 @@ fn rest_of(block: &[u8], start: usize) -> &[u8]
     }
 }
 
-// Appends the cells of a record in these columns.
+// Returns a cell as it is kept: without the spaces at its ends if it is only parsed.
+fn kept_text(is_parsed: bool, cell: &[u8]) -> &[u8]
+    ensures { result.now ≡ kept_text is_parsed cell.now }
+{
+    if is_parsed { trim_spaces(cell) } else { cell }
+}
+
+// Appends the cells of a record in these columns, as they are kept.
 fn put_cells_in(
     block: &mut Vec<u8>,
     columns: &[Option<usize>],
     fields: &ByteRecord,
+    is_parsed: bool,
 ) -> Result<(), AllocError>
-    ensures added { OnOk result (block.new.items
-        ≡ block.old.items ++ flat_map text_bytes (map (λ column. cell column (fields_of fields.now)) columns.now)) }
-    ensures short { OnOk result (All (λ column. IsShort (cell column (fields_of fields.now))) columns.now) }
+    ensures added { OnOk result (block.new.items ≡ block.old.items
+        ++ flat_map text_bytes (map (λ column. kept_text is_parsed (cell column (fields_of fields.now))) columns.now)) }
+    ensures short { OnOk result
+        (All (λ column. IsShort (kept_text is_parsed (cell column (fields_of fields.now)))) columns.now) }
 {
     for column in columns {
-        put_text(block, cell_of(fields, *column))?;
+        put_text(block, kept_text(is_parsed, cell_of(fields, *column)))?;
     }
     Ok(())
 }
 
-/// Appends the cells of a record.
+/// Appends the cells of a record. Those that are only parsed lose the spaces at their ends, so that no query passes
+/// over them.
 pub(crate) fn put_cells(
     block: &mut Vec<u8>,
     columns: &Columns,
     fields: &ByteRecord,
 ) -> Result<(), AllocError>
     ensures added { OnOk result (block.new.items
-        ≡ block.old.items ++ flat_map text_bytes (cells_of columns.now (fields_of fields.now))) }
-    ensures short { OnOk result (All (λ column. IsShort (cell column (fields_of fields.now))) (in_order columns.now)) }
+        ≡ block.old.items ++ flat_map text_bytes (kept_cells (cells_of columns.now (fields_of fields.now)))) }
+    ensures short { OnOk result (All IsShort (kept_cells (cells_of columns.now (fields_of fields.now)))) }
 {
-    put_cells_in(block, &columns.in_order(), fields)
+    let columns = columns.in_order();
+    let (parsed, shown) = columns.split_at(PARSED_COUNT);
+    put_cells_in(block, parsed, fields, true)?;
+    put_cells_in(block, shown, fields, false)
 }
