@@ -1,13 +1,15 @@
 -- What the fields of a row have in its columns, while its bytes arrive.
-use Rattle.std.proofs.Common.{◌≡◌, ◌<◌, ◌∙◌, ℕ, zero, suc, List, [], ◌∷◌, ◌++◌, length, map}
-use Rattle.std.proofs.Common.{false, refl, ap, arith, inl, inr, Option, Some, None, Vec, slice_index_or}
-use Rattle.std.specs.Prelude.{◌==◌, unwrap_or}
+use Rattle.std.proofs.Common.{◌≡◌, ◌<◌, ◌∙◌, ℕ, zero, suc, List, [], ◌∷◌, ◌++◌, length, map, take, drop}
+use Rattle.std.proofs.Common.{true, false, refl, ap, arith, inl, inr, Option, Some, None, Vec, slice_index_or}
+use Rattle.std.specs.Prelude.{◌==◌, nat_lt, unwrap_or}
 use Rattle.std.specs.declared.alloc.Global.{Global}
 use Rattle.std.proofs.lemmas.Bool.{cases_Bool, eqb-true, true≢false}
 use Rattle.std.proofs.lemmas.Bool.Decides.{nat_tests}
 use Rattle.csv.specs.Records.{field_at}
 use Rattle.feed_kbart.specs.Columns.{cell}
+use Rattle.feed_identifiers.specs.Text.{trimmed}
 use Rattle.feed_kbart.specs.RowFronts.{grown}
+use Rattle.feed_kbart.specs.Stored.{kept_text}
 
 last-at : (ended : List (List ℕ)) (next : List ℕ) → unwrap_or (field_at (ended ++ next ∷ []) (length ended)) [] ≡ next
 unfolding field_at
@@ -66,7 +68,7 @@ mapped f (x ∷ xs) (y ∷ ys) size same =
     ap (λ z. z ∷ ys) (same 0 x y (omega arith)) ∙ ap (λ zs. f x ∷ zs) others
 
 -- cells that are equal at each place are equal
-pub cells-same : (cells : List (Vec ℕ Global)) (columns : List (Option ℕ)) (fields : List (List ℕ)) → length cells ≡ length columns
+cells-same : (cells : List (Vec ℕ Global)) (columns : List (Option ℕ)) (fields : List (List ℕ)) → length cells ≡ length columns
     → ((slot : ℕ) (c : Option ℕ) (d : Vec ℕ Global) → slot < length cells → (slice_index_or cells slot d).items ≡ cell (slice_index_or columns slot c) fields)
     → map (λ v. v.items) cells ≡ map (λ column. cell column fields) columns
 cells-same [] [] fields size same = refl
@@ -75,3 +77,37 @@ cells-same (v ∷ cells) [] fields size same = absurd (omega (arith, size))
 cells-same (v ∷ cells) (column ∷ columns) fields size same =
     let others = cells-same cells columns fields (omega (arith, size)) (λ slot c d few. same (suc slot) c d (omega (arith, few))) in
     ap (λ (l : List ℕ). l ∷ map (λ w. w.items) cells) (same 0 column v (omega arith)) ∙ ap (λ (l : List (List ℕ)). cell column fields ∷ l) others
+
+-- a list that is not empty has an element
+pub of_first : {A B : Type 0} (xs : List A) → 0 < length xs → (A → B) → B
+of_first [] some f = absurd (omega (arith, some))
+of_first (x ∷ xs) some f = f x
+
+none-below : (k : ℕ) → nat_lt k 0 ≡ false
+none-below k = grind (arith, nat_tests)
+
+first-below : (n : ℕ) → nat_lt 0 (suc n) ≡ true
+first-below n = grind (arith, nat_tests)
+
+next-below : (k n : ℕ) → nat_lt (suc k) (suc n) ≡ nat_lt k n
+next-below k n = elim (cases_Bool (nat_lt k n)) [
+  | inl y ↦ grind (arith, nat_tests)
+  | inr m ↦ grind (arith, nat_tests)
+]
+
+-- cells of which the first are trimmed, and the others are as they were
+pub cells-kept : (n : ℕ) (cells : List (Vec ℕ Global)) (columns : List (Option ℕ)) (fields : List (List ℕ)) → length cells ≡ length columns
+    → ((slot : ℕ) (c : Option ℕ) (d : Vec ℕ Global) → slot < length cells
+    → (slice_index_or cells slot d).items ≡ kept_text (nat_lt slot n) (cell (slice_index_or columns slot c) fields))
+    → map (λ v. v.items) cells ≡ map trimmed (take n (map (λ column. cell column fields) columns)) ++ drop n (map (λ column. cell column fields) columns)
+cells-kept zero cells columns fields size kept =
+    cells-same cells columns fields size
+    (λ slot c d few. kept slot c d few ∙ ap (λ b. kept_text b (cell (slice_index_or columns slot c) fields)) (none-below slot))
+cells-kept (suc n) [] [] fields size kept = refl
+cells-kept (suc n) [] (column ∷ columns) fields size kept = absurd (omega (arith, size))
+cells-kept (suc n) (v ∷ cells) [] fields size kept = absurd (omega (arith, size))
+cells-kept (suc n) (v ∷ cells) (column ∷ columns) fields size kept =
+    let others = cells-kept n cells columns fields (omega (arith, size))
+    (λ slot c d few. kept (suc slot) c d (omega (arith, few)) ∙ ap (λ b. kept_text b (cell (slice_index_or columns slot c) fields)) (next-below slot n)) in
+    ap (λ (l : List ℕ). l ∷ map (λ w. w.items) cells) (kept 0 column v (omega arith) ∙ ap (λ b. kept_text b (cell column fields)) (first-below n))
+    ∙ ap (λ (l : List (List ℕ)). trimmed (cell column fields) ∷ l) others

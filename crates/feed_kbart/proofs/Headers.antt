@@ -1,5 +1,5 @@
 -- What the fields of a header have of each label, field by field.
-use Rattle.std.proofs.Common.{◌≡◌, ◌+◌, ℕ, suc, List, [], ◌∷◌, ◌++◌, length, Some, None, refl, sym, ap, arith, Bool, true, false, cond, ◌∙◌, Option, inl, inr, take, drop, fold, replicate, set}
+use Rattle.std.proofs.Common.{◌≡◌, ◌<◌, ◌+◌, ℕ, suc, List, [], ◌∷◌, ◌++◌, length, Some, None, refl, sym, ap, arith, Bool, true, false, cond, ◌∙◌, Option, inl, inr, take, drop, fold, replicate, set}
 use Rattle.std.specs.Prelude.{◌==◌, is_none, is_some, map, nat_lt, find, option_map}
 use Rattle.std.specs.List.{count_by, position_from}
 use Rattle.std.specs.Option.{option_or}
@@ -120,6 +120,10 @@ labels-blank header field labels blank is =
 pub nil_of : (text : List ℕ) → (length text == 0) ≡ true → text ≡ []
 nil_of [] e = refl
 nil_of (b ∷ text) e = absurd (omega (arith, eqb-true (suc (length text)) 0 e))
+
+-- a text of some bytes
+pub not_nil : (text : List ℕ) → (length text == 0) ≡ false → 0 < length text
+not_nil text e = grind (arith, nat_tests)
 
 -- the first label that no field is
 pub missing-found : (header : List (List ℕ)) (ls : List Label)

@@ -1,13 +1,10 @@
 -- Texts without the spaces at their ends.
-use Rattle.std.proofs.Common.{◌≡◌, ◌≤◌, ◌∙◌, ℕ, eqb, List, [], ◌∷◌, ◌++◌, length, reverse, refl, sym, ap, arith, inl, inr}
+use Rattle.std.proofs.Common.{◌≡◌, ◌≤◌, ◌<◌, ◌∙◌, ℕ, eqb, List, [], ◌∷◌, ◌++◌, length, take, drop, reverse, refl, sym, ap, arith, inl, inr}
 use Rattle.std.proofs.lemmas.Bool.{cases_Bool}
 use Rattle.std.proofs.lemmas.List.{reverse-append, reverse-reverse}
+use Rattle.std.proofs.Math.Seq.{drop-append_seam, take-append_seam}
 use Rattle.feed_identifiers.specs.Text.{skip_spaces, trimmed, trimmed_back}
-
--- more bytes of a text: without the spaces at their front if nothing comes before them
-abbrev pub following : List ℕ → List ℕ → List ℕ
-following [] part = skip_spaces part
-following (b ∷ front) part = part
+use Rattle.feed_kbart.specs.CellFronts.{following}
 
 pub skip-append : (text part : List ℕ) → skip_spaces (text ++ part) ≡ skip_spaces text ++ following (skip_spaces text) part
 skip-append [] part = refl
@@ -61,3 +58,44 @@ trimmed_twice text =
     let (back, whole) = back-split own in
     let same : skip_spaces (trimmed_back own ++ back) ≡ trimmed_back own ++ back = sym (ap skip_spaces whole) ∙ skip-twice text ∙ whole in
     ap trimmed_back (skip-front (trimmed_back own) back same) ∙ back-twice own
+
+-- all of a text but the spaces at its back
+pub back-front : (text : List ℕ) → take (length (trimmed_back text)) text ≡ trimmed_back text
+back-front text =
+    let (back, whole) = back-split text in
+    ap (take (length (trimmed_back text))) whole ∙ take-append_seam (trimmed_back text) back
+
+pub back-whole : (text : List ℕ) → trimmed_back text ++ drop (length (trimmed_back text)) text ≡ text
+back-whole text =
+    let own = trimmed_back text in
+    let (back, whole) = back-split text in
+    ap (λ (l : List ℕ). own ++ l) (ap (drop (length own)) whole ∙ drop-append_seam own back) ∙ sym whole
+
+reversed-nil : (text : List ℕ) → reverse text ≡ [] → text ≡ []
+reversed-nil text none = sym (reverse-reverse text) ∙ ap reverse none
+
+back-both : (front part : List ℕ)
+    → trimmed_back (front ++ part) ≡ reverse (skip_spaces (reverse part) ++ following (skip_spaces (reverse part)) (reverse front))
+back-both front part = ap (λ (t : List ℕ). reverse (skip_spaces t)) (reverse-append front part) ∙ ap reverse (skip-append (reverse part) (reverse front))
+
+-- more bytes at the back of a text: spaces, or not
+pub back-blank : (front part : List ℕ) → trimmed_back part ≡ [] → trimmed_back (front ++ part) ≡ trimmed_back front
+back-blank front part blank =
+    back-both front part ∙ ap (λ (t : List ℕ). reverse (t ++ following t (reverse front))) (reversed-nil (skip_spaces (reverse part)) blank)
+
+pub back-some : (front part : List ℕ) → 0 < length (trimmed_back part) → trimmed_back (front ++ part) ≡ front ++ trimmed_back part
+back-some front part = go (skip_spaces (reverse part)) refl
+  where
+    go : (t : List ℕ) → skip_spaces (reverse part) ≡ t → 0 < length (reverse t) → trimmed_back (front ++ part) ≡ front ++ reverse t
+    go [] e some = absurd (omega (arith, some))
+    go (b ∷ t) e some =
+        back-both front part ∙ ap (λ (s : List ℕ). reverse (s ++ following s (reverse front))) e ∙ reverse-append (b ∷ t) (reverse front)
+        ∙ ap (λ (l : List ℕ). l ++ reverse (b ∷ t)) (reverse-reverse front)
+
+-- more bytes of a text that is kept without the spaces at its ends
+pub kept-blank : (text part : List ℕ) → trimmed_back (following (skip_spaces text) part) ≡ [] → trimmed (text ++ part) ≡ trimmed text
+kept-blank text part blank = ap trimmed_back (skip-append text part) ∙ back-blank (skip_spaces text) (following (skip_spaces text) part) blank
+
+pub kept-some : (text part : List ℕ) → 0 < length (trimmed_back (following (skip_spaces text) part))
+    → trimmed (text ++ part) ≡ skip_spaces text ++ trimmed_back (following (skip_spaces text) part)
+kept-some text part some = ap trimmed_back (skip-append text part) ∙ back-some (skip_spaces text) (following (skip_spaces text) part) some

@@ -20,6 +20,7 @@ pub mod HoldingsValue
 pub mod HeaderLabels
 pub mod Lines
 pub mod HeaderFronts
+pub mod CellFronts
 pub mod RowFronts
 pub mod Windows
 pub mod ListTexts

@@ -5,6 +5,7 @@
 //! and volumes with the same functions.
 #![tactic(auto)]
 
+mod cell_front;
 mod count;
 mod coverage;
 mod entry;

@@ -50,8 +50,8 @@ pub(crate) fn put_text(block: &mut Vec<u8>, text: &[u8]) -> Result<(), AllocErro
     Ok(())
 }
 
-// Splits bytes after so many, or at their end.
-fn cut(bytes: &[u8], size: usize) -> (&[u8], &[u8])
+/// Splits bytes after so many, or at their end.
+pub(crate) fn cut(bytes: &[u8], size: usize) -> (&[u8], &[u8])
     ensures front { result.0.now ≡ take size bytes.now }
     ensures back { result.1.now ≡ drop size bytes.now }
 {

@@ -6,7 +6,7 @@ use Rattle.feed_text.specs.Records.{is_tab}
 use Rattle.feed_kbart.specs.Columns.{columns_of}
 use Rattle.feed_kbart.specs.Holdings.{holdings_from}
 use Rattle.feed_kbart.specs.Stored.{in_order}
-use Rattle.feed_kbart.proofs.Singles.{holdings_of_cells}
+use Rattle.feed_kbart.proofs.Singles.{holdings_of_kept}
 use Rattle.feed_kbart.proofs.Tabled.{holdings_from-append}
 use Rattle.feed_kbart.proofs.list_records.Table.end_record.Goals as goal
 
@@ -26,6 +26,6 @@ returns g c records line few was =
       good = was.good;
       columns = was.columns;
       number = omega (arith, c.saturating_add-self.ensures, number, small, length-append was.others (fields ∷ []));
-      kept = rw (← holdings_from-append columns 2 was.others (fields ∷ [])) (rw (cells, holdings_of_cells columns c.args.self.now.number fields, number) at kept);
+      kept = rw (← holdings_from-append columns 2 was.others (fields ∷ [])) (rw (cells, holdings_of_kept columns c.args.self.now.number fields, number) at kept);
       front = rw c.replace.ensures.after (rw (c.in_order.ensures, was.columns) at c.new-next.ensures);
     }

@@ -1,4 +1,5 @@
-use Rattle.std.proofs.Common.{◌∙◌, [], refl, sym, slice_index_or}
+use Rattle.std.proofs.Common.{[], refl, slice_index_or}
+use Rattle.feed_kbart.specs.RowFronts.{is_parsed}
 use Rattle.feed_kbart.proofs.Cells.{cell-none}
 use Rattle.feed_kbart.proofs.Lines.{front-none}
 use Rattle.feed_kbart.proofs.row_front.RowFront.new.Goals as goal
@@ -10,5 +11,5 @@ returns c = record {
   next = [];
   front = front-none;
   place = refl;
-  cells = λ slot col d few. (c.from_fn.ensures.items.at slot d few).2.met.1 ∙ sym (cell-none (slice_index_or c.args.columns slot col));
+  cells = λ slot col d few. rw (cell-none (slice_index_or c.args.columns slot col)) ((c.from_fn.ensures.items.at slot d few).2.met.1 (is_parsed slot));
 }

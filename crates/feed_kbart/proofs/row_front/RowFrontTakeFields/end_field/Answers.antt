@@ -1,4 +1,4 @@
-use Rattle.std.proofs.Common.{◌++◌, ◌∷◌, ◌∙◌, [], arith, sym, slice_index_or}
+use Rattle.std.proofs.Common.{◌++◌, ◌∷◌, [], arith, slice_index_or}
 use Rattle.std.proofs.lemmas.List.{length-append}
 use Rattle.feed_kbart.proofs.Cells.{cell-empty}
 use Rattle.feed_kbart.proofs.Lines.{front-ended, front-tab}
@@ -11,5 +11,5 @@ returns c columns line small is = record {
   next = [];
   front = front-tab line is.ended is.next is.front;
   place = omega (arith, c.saturating_add-self.ensures, is.place, small, front-ended line is.ended is.next is.front, length-append is.ended (is.next ∷ []));
-  cells = λ slot col d few. is.cells slot col d few ∙ sym (cell-empty (slice_index_or c.args.self.now.columns slot col) (is.ended ++ is.next ∷ []));
+  cells = λ slot col d few. rw (cell-empty (slice_index_or c.args.self.now.columns slot col) (is.ended ++ is.next ∷ [])) (is.cells slot col d few);
 }

@@ -1,6 +1,7 @@
-use Rattle.std.proofs.Common.{◌≡◌, ◌++◌, ◌∙◌, [], sym, slice_index_or}
+use Rattle.std.proofs.Common.{◌≡◌, ◌++◌, ◌∷◌, ◌∙◌, [], sym, slice_index_or}
 use Rattle.std.proofs.lemmas.List.{append-nil}
 use Rattle.std.proofs.lemmas.Result.{on_ok_weaker}
+use Rattle.feed_kbart.specs.Columns.{cell}
 use Rattle.feed_kbart.proofs.Cells.{cell-grown}
 use Rattle.feed_kbart.proofs.Headers.{nil_of}
 use Rattle.feed_kbart.proofs.Lines.{front-part}
@@ -20,5 +21,6 @@ returns c = on_ok_weaker c.grow_cells.result (λ cells columns line none is. rec
   place = is.place;
   cells = λ slot col d few.
       let column = slice_index_or c.args.self.now.columns slot col in
-      cells slot col d few ∙ rw (is.cells slot col d few, is.place) (cell-grown column is.ended is.next c.args.part.now);
+      let more = rw is.place at (cells slot col d (cell column (is.ended ++ is.next ∷ [])) few (is.cells slot col d few)) in
+      rw (← cell-grown column is.ended is.next c.args.part.now) more;
 }) c.grow_cells.ensures
