@@ -1,6 +1,6 @@
 mod Digits
 mod Sums
-mod Kept
+mod Skipped
 mod Trimmed
 mod PrintedIssn
 mod PrintedIsbn

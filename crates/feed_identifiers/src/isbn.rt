@@ -5,7 +5,7 @@ ghost use Rattle.feed_identifiers.specs.Isbn.{check_digit, has_prefix, is_isbn_1
 ghost use Rattle.feed_identifiers.specs.Isbn.{isbn_13_of, isbn_of, isbn_of_characters};
 
 use crate::check::{are_digits, is_check_of, number_of_digits, weighted_sum};
-use crate::text::trim_spaces;
+use crate::text::{next_character, trim_spaces};
 use std::marker::Model;
 
 // The weights of the twelve digits before the check digit.
@@ -74,15 +74,14 @@ fn without_hyphens(text: &[u8]) -> Option<([u8; 13], usize)>
 {
     let mut kept = [0; 13];
     let mut count = 0;
-    for byte in text {
-        if *byte == b'-' {
-            continue;
-        }
+    let mut rest = text;
+    while let Some((character, tail)) = next_character(rest) {
         if count == 13 {
             return None;
         }
-        kept[count] = *byte;
+        kept[count] = character;
         count += 1;
+        rest = tail;
     }
     Some((kept, count))
 }

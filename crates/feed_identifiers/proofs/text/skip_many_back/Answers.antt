@@ -9,5 +9,5 @@ loop-front-preserved c =
     let front = c.in-Some.front.now in
     let parts = c.in-Some.ensures.cases in
     let whole : rest ≡ front ++ replicate 8 32 =
-    sym (take-append-drop (length rest - 8) rest) ∙ ap (λ l. l ++ drop (length rest - 8) rest) (sym parts.0) ∙ ap (λ l. front ++ l) (sym parts.1 ∙ c.if-not-are_spaces.ensures) in
+    sym (take-append-drop (length rest - 8) rest) ∙ ap (λ l. l ++ drop (length rest - 8) rest) (sym parts.0) ∙ ap (λ l. front ++ l) (sym parts.1 ∙ c.if-not-is_word.ensures) in
     sym (ap (λ t. reverse (skip_spaces t)) (ap reverse whole ∙ reverse-append front (replicate 8 32))) ∙ c.loop-front.invariant
