@@ -1,10 +1,12 @@
 -- Texts without the spaces at their ends.
-use Rattle.std.proofs.Common.{◌≡◌, ◌≤◌, ◌<◌, ◌∙◌, ℕ, eqb, List, [], ◌∷◌, ◌++◌, length, take, drop, reverse, refl, sym, ap, arith, inl, inr}
+use Rattle.std.proofs.Common.{◌≡◌, ◌≤◌, ◌<◌, ◌∙◌, ℕ, Bool, true, false, eqb, List, [], ◌∷◌, ◌++◌, length, take, drop, reverse, refl, sym, ap, arith, inl, inr}
 use Rattle.std.proofs.lemmas.Bool.{cases_Bool}
 use Rattle.std.proofs.lemmas.List.{reverse-append, reverse-reverse}
-use Rattle.std.proofs.Math.Seq.{drop-append_seam, take-append_seam}
+use Rattle.std.proofs.Math.Seq.{drop-append_seam, take-append_seam, take-length}
 use Rattle.feed_identifiers.specs.Text.{skip_spaces, trimmed, trimmed_back}
-use Rattle.feed_kbart.specs.CellFronts.{following}
+use Rattle.feed_kbart.specs.CellFronts.{IsCellFront, following}
+use Rattle.feed_kbart.specs.Stored.{kept_text}
+use Rattle.feed_kbart.specs.declared.cell_front.CellFront.{CellFront}
 
 pub skip-append : (text part : List ℕ) → skip_spaces (text ++ part) ≡ skip_spaces text ++ following (skip_spaces text) part
 skip-append [] part = refl
@@ -99,3 +101,10 @@ kept-blank text part blank = ap trimmed_back (skip-append text part) ∙ back-bl
 pub kept-some : (text part : List ℕ) → 0 < length (trimmed_back (following (skip_spaces text) part))
     → trimmed (text ++ part) ≡ skip_spaces text ++ trimmed_back (following (skip_spaces text) part)
 kept-some text part some = ap trimmed_back (skip-append text part) ∙ back-some (skip_spaces text) (following (skip_spaces text) part) some
+
+-- what is kept of a cell is the front of what is held of it
+pub kept-front : (is_parsed : Bool) (text : List ℕ) (cell : CellFront) → IsCellFront is_parsed text cell → take cell.end cell.bytes.items ≡ kept_text is_parsed text
+kept-front true text cell is =
+    ap (λ n. take n cell.bytes.items) is.end ∙ ap (take (length (trimmed text))) is.bytes ∙ back-front (skip_spaces text)
+kept-front false text cell is =
+    ap (λ n. take n cell.bytes.items) is.end ∙ ap (take (length text)) is.bytes ∙ take-length text

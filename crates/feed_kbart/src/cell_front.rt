@@ -1,4 +1,4 @@
-//! A cell whose bytes arrive in parts.
+//! A cell of a row, or a field of a header, whose bytes arrive in parts.
 ghost use Rattle.std.specs.Prelude.{◌≡◌, ◌++◌, Bool, true, ℕ, List, [], OnOk, length};
 ghost use Rattle.feed_kbart.specs.CellFronts.{IsCellFront, following};
 ghost use Rattle.feed_kbart.specs.Stored.{kept_text};
@@ -7,8 +7,8 @@ use crate::stored_text::cut;
 use feed_identifiers::{trim_spaces_end, trim_spaces_start};
 use std::alloc::{AllocError, Global};
 
-/// The front of a cell. Of a cell that is only parsed, it does not keep the spaces before the first other byte, however
-/// many arrive.
+/// The front of a cell. Of a cell that is only parsed, as a label is, it does not keep the spaces before the first other
+/// byte, however many arrive.
 #[derive(Drop)]
 pub(crate) struct CellFront {
     bytes: Vec<u8>,
@@ -74,6 +74,22 @@ impl CellFront {
         }
         self.add(part)?;
         Ok(())
+    }
+
+    /// Returns the cell as it is kept if no more bytes arrive.
+    pub(crate) fn text(&self) -> &[u8]
+        ensures { (is_parsed : Bool) (text : List ℕ) → IsCellFront is_parsed text self.now
+            → result.now ≡ kept_text is_parsed text }
+    {
+        cut(&self.bytes, self.end).0
+    }
+
+    /// Begins the next cell.
+    pub(crate) fn clear(&mut self)
+        ensures { (is_parsed : Bool) → IsCellFront is_parsed [] self.new }
+    {
+        self.bytes.clear();
+        self.end = 0;
     }
 
     /// Returns the cell as it is kept.

@@ -6,17 +6,18 @@ ghost use Rattle.feed_text.specs.Records.{is_tab};
 ghost use Rattle.feed_kbart.specs.Columns.{bad_header, columns_of};
 ghost use Rattle.feed_kbart.specs.HeaderFronts.{IsHeaderFront};
 
+use crate::cell_front::CellFront;
 use crate::fault::BadFile;
 use crate::header::{Columns, HeaderLabels};
 use crate::take_fields::TakeFields;
 use std::alloc::{AllocError, Global};
 
-/// The front of a header: the labels of the fields that ended, and the bytes of the next field.
+/// The front of a header: the labels of the fields that ended, and the next field.
 #[derive(Drop)]
 pub(crate) struct HeaderFront {
     labels: HeaderLabels,
     place: usize,
-    field: Vec<u8>,
+    field: CellFront,
 }
 
 impl HeaderFront {
@@ -26,7 +27,7 @@ impl HeaderFront {
         HeaderFront {
             labels: HeaderLabels::new(),
             place: 0,
-            field: Vec::new(alloc),
+            field: CellFront::new(alloc),
         }
     }
 
@@ -37,7 +38,7 @@ impl HeaderFront {
             × (columns ≡ columns_of (slice_split is_tab line)))
             (λ why. bad_header (slice_split is_tab line) ≡ Some why) }
     {
-        self.labels.add(self.place, &self.field);
+        self.labels.add(self.place, self.field.text());
         self.labels.columns()
     }
 }
@@ -46,12 +47,12 @@ impl TakeFields for HeaderFront {
     ghost is_front = { λ columns line header. IsHeaderFront line header };
 
     fn grow(&mut self, part: &[u8]) -> Result<(), AllocError> {
-        self.field.extend_from_slice(part)?;
+        self.field.grow(true, part)?;
         Ok(())
     }
 
     fn end_field(&mut self) {
-        self.labels.add(self.place, &self.field);
+        self.labels.add(self.place, self.field.text());
         self.place = self.place.saturating_add(1);
         self.field.clear();
     }
