@@ -1,4 +1,4 @@
--- What the fields of a row have in its columns, while its bytes arrive.
+-- The cells of a row whose bytes arrive in parts.
 use Rattle.std.proofs.Common.{◌≡◌, ◌<◌, ◌∙◌, ℕ, zero, suc, List, [], ◌∷◌, ◌++◌, length, map, take, drop}
 use Rattle.std.proofs.Common.{true, false, refl, ap, arith, inl, inr, Option, Some, None, Vec, slice_index_or}
 use Rattle.std.specs.Prelude.{◌==◌, nat_lt, unwrap_or}

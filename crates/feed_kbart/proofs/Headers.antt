@@ -1,4 +1,4 @@
--- What the fields of a header have of each label, field by field.
+-- The labels among the fields of a header, field by field.
 use Rattle.std.proofs.Common.{◌≡◌, ◌<◌, ◌+◌, ℕ, suc, List, [], ◌∷◌, ◌++◌, length, Some, None, refl, sym, ap, arith, Bool, true, false, cond, ◌∙◌, Option, inl, inr, take, drop, fold, replicate, set}
 use Rattle.std.specs.Prelude.{◌==◌, is_none, is_some, map, nat_lt, find, option_map}
 use Rattle.std.specs.List.{count_by, position_from}
@@ -100,7 +100,7 @@ labels-more header field place count was now here all is labels =
     let whole : now.found ≡ map (with_field (length header) field) (map (found_of header) used_labels) = rw (all, labels.found, ← here) at is in
     record { found = whole ∙ all-more header field used_labels }
 
--- a blank field is no label
+-- a field of spaces alone is no label
 blank-label : (field : List ℕ) (l : Label) → trimmed field ≡ [] → is_label l field ≡ false
 blank-label field l blank = rw blank (empty-label l)
 

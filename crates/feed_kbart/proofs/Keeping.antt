@@ -1,4 +1,4 @@
--- The cells of a record as they are kept give what the record gives.
+-- A record and its cells as they are kept are the same row, or are skipped for the same reason.
 use Rattle.std.proofs.Common.{◌≡◌, ◌∙◌, ℕ, List, Option, Some, None, ap, option_map, codes, refl}
 use Rattle.std.specs.Prelude.{◌||◌, ◌&&◌, not, if◌then◌else◌, is_none, is_some}
 use Rattle.std.specs.List.{filter}

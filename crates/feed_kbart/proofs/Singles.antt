@@ -20,7 +20,7 @@ pub holdings_from-aside : (columns : Columns) (number : ℕ) (fields : List (Lis
 unfolding holdings_from
 holdings_from-aside columns number fields reason e = rw e refl
 
--- the cells of a record as they are kept give what the record gives
+-- a record and its cells as they are kept are the same row, or are skipped for the same reason
 pub holdings_of_kept : (columns : Columns) (number : ℕ) (fields : List (List ℕ))
     → holdings_from stored_columns number (kept_cells (cells_of columns fields) ∷ []) ≡ holdings_from columns number (fields ∷ [])
 holdings_of_kept columns number fields = go (reason_of columns fields) refl

@@ -103,7 +103,7 @@ module _ (n : ℕ) (left right : List ℕ) where
   parted : texts_in (suc n) left ≡ texts_in (suc n) right → (split_text left).0 ∷ texts_in n (split_text left).1 ≡ (split_text right).0 ∷ texts_in n (split_text right).1
   parted same = sym (texts_split n left) ∙ same ∙ texts_split n right
 
--- the comparison of texts goes on after a text that both blocks have, and ends at one that they do not
+-- texts are compared one by one until two of them differ
 module _ (count k : ℕ) (left right : List ℕ) (W : Type 0) (within : k < count) (so_far : (texts_in (count - k) left ≡ texts_in (count - k) right) ↔ W) where
   more : count - k ≡ suc (count - (k + 1))
   more = omega (arith, within)

@@ -1,4 +1,4 @@
--- Texts behind which bytes are left are stored in the bytes before those, whatever comes after them.
+-- Texts that end before a block does are the same in each block that begins with their bytes.
 use Rattle.std.proofs.Common.{◌≡◌, ◌<◌, ◌≤◌, ◌-◌, ◌∙◌, ℕ, zero, suc, true, false, eqb, List, [], ◌∷◌, ◌++◌, length, take, drop, refl, sym, ap, arith, append_assoc}
 use Rattle.std.proofs.lemmas.Bool.{true≢false}
 use Rattle.std.proofs.Math.Seq.{drop-append_seam, take-append_seam}

@@ -1,4 +1,4 @@
--- What the fields of a header have of each label in use.
+-- The labels in use among the fields of a header.
 use Rattle.std.specs.Prelude.{◌≡◌, ℕ, List, Some, if◌then◌else◌, is_some, map}
 use Rattle.std.specs.Option.{option_or}
 use Rattle.feed_kbart.specs.Columns.{column, is_twice}
@@ -11,7 +11,7 @@ use Rattle.feed_kbart.specs.declared.label.Label.{Label}
 abbrev pub found_of : List (List ℕ) → Label → Found
 found_of header label = record { label = label; first = column label header; is_twice = is_twice header label }
 
--- what was found of each label, in their order
+-- the places that were found for each label, in their order
 pub record AreLabelsOf (header : List (List ℕ)) (labels : HeaderLabels) : Type 0 where
   pub found : labels.found ≡ map (found_of header) used_labels
 

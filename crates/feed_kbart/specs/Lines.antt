@@ -12,6 +12,6 @@ onto_field front (field ∷ fields) = (front ++ field) ∷ fields
 abbrev pub IsFrontOf : List ℕ → List (List ℕ) → List ℕ → Type 0
 IsFrontOf line ended next = (more : List ℕ) → slice_split is_tab (line ++ more) ≡ ended ++ onto_field next (slice_split is_tab more)
 
--- none of these bytes is a tab
+-- the bytes have no tab
 abbrev pub HasNoTab : List ℕ → Type 0
 HasNoTab bytes = All (λ b. is_tab b ≡ false) bytes

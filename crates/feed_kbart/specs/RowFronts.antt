@@ -21,7 +21,7 @@ grown column place part bytes = if is_at column place then bytes ++ part else by
 abbrev pub is_parsed : ℕ → Bool
 is_parsed slot = nat_lt slot parsed_count
 
--- these bytes of a row were taken: what its fields so far have in each of these columns
+-- these bytes of a row were taken: the cells that its fields so far have in these columns
 pub record IsRowFront (columns : List (Option ℕ)) (line : List ℕ) (row : RowFront) : Type 0 where
   pub same : row.columns ≡ columns
   pub ended : List (List ℕ)

@@ -12,7 +12,7 @@ begins_with_end (b ∷ bytes) = ends_line b
 abbrev pub IsCut : List ℕ → List ℕ → Type 0
 IsCut front back = (front ≡ []) ⊎ (begins_with_end back ≡ true)
 
--- none of these bytes ends a line
+-- the bytes have no line end
 abbrev pub HasNoEnd : List ℕ → Type 0
 HasNoEnd bytes = All (λ b. ends_line b ≡ false) bytes
 

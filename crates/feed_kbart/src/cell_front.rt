@@ -7,8 +7,8 @@ use crate::stored_text::cut;
 use feed_identifiers::{trim_spaces_end, trim_spaces_start};
 use std::alloc::{AllocError, Global};
 
-/// The front of a cell. Of a cell that is only parsed, as a label is, it does not keep the spaces before the first other
-/// byte, however many arrive.
+/// The front of a cell. Of a cell that is only parsed, as a label is, it does not keep the spaces before the first
+/// other byte, however many arrive.
 #[derive(Drop)]
 pub(crate) struct CellFront {
     bytes: Vec<u8>,

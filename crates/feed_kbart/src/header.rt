@@ -46,7 +46,7 @@ impl Columns {
     }
 }
 
-// What a header has of a label: the place of the first field that is the label, and whether two fields are.
+// A label in a header: the place of the first field that is this label, and whether two fields are.
 #[derive(Clone, Copy)]
 pub(crate) struct Found {
     label: Label,
@@ -54,7 +54,7 @@ pub(crate) struct Found {
     is_twice: bool,
 }
 
-/// What the fields of a header so far have of each label in use.
+/// The labels in use among the fields of a header so far.
 #[derive(Drop)]
 pub(crate) struct HeaderLabels {
     found: [Found; LABEL_COUNT],

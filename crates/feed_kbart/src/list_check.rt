@@ -34,8 +34,8 @@ impl ListCheck {
         }
     }
 
-    /// Receives the next bytes, cut anywhere. Takes time in proportion to these bytes and the short record that they
-    /// end. A record of more than 131,072 bytes is read while it arrives.
+    /// Receives the next bytes, cut anywhere. Takes time in proportion to these bytes, the short record that they end,
+    /// and the hyphens of an ISBN that ends there. A record of more than 131,072 bytes is read while it arrives.
     ///
     /// # Errors
     ///

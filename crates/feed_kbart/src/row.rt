@@ -198,8 +198,9 @@ impl Row {
         self.record.cell(Label::AccessType)
     }
 
-    /// Returns whether both rows have the same bytes in each column by which a list is read. They are then equal but
-    /// for their numbers. Rows with other bytes may be equal as well: `1995` and `1995-01-01` begin on the same day.
+    /// Returns whether both rows have the same bytes in each column by which a list is read, but for spaces at the ends
+    /// of identifiers, dates and volumes. They are then equal but for their numbers. Rows with other bytes may be equal
+    /// as well: `1995` and `1995-01-01` begin on the same day.
     pub fn has_same_cells(&self, other: &Row) -> bool
         ensures { OnTrue result (content self.now ≡ content other.now) }
     {
