@@ -1,7 +1,7 @@
 -- The orders of rows by which lists are paired. Two rows are `Equal` in one exactly if they are alike.
-use Rattle.std.specs.Prelude.{ℕ, List, Option, Some, None}
+use Rattle.std.specs.Prelude.{ℕ, List}
 use Rattle.std.specs.Cmp.Lexicographic.{slice_cmp}
-use Rattle.std.specs.Option.{option_cmp}
+use Rattle.std.specs.Option.{option_cmp, option_map_or}
 use Rattle.std.specs.Ordering.{bool_cmp, int_cmp, nat_cmp, on, then_cmp}
 use Rattle.std.specs.declared.cmp.Ordering.{Ordering}
 use Rattle.feed_identifiers.specs.Isbn as isbn
@@ -40,19 +40,14 @@ texts_cmp =
 abbrev pub content_cmp : RowValue → RowValue → Ordering
 content_cmp = then_cmp (then_cmp texts_cmp coverage_cmp) (on (λ (row : RowValue). row.identifiers) identifiers_cmp)
 
--- the number of an identifier, or another number
-abbrev pub issn_or : Option (List ℕ) → ℕ → ℕ
-issn_or (Some text) other = issn.number_of text
-issn_or None other = other
-
-abbrev pub isbn_or : Option (List ℕ) → ℕ → ℕ
-isbn_or (Some text) other = isbn.number_of text
-isbn_or None other = other
+-- the number of the first ISBN, or 0
+abbrev pub first_isbn : Identifiers → ℕ
+first_isbn identifiers = option_map_or isbn.number_of (print_isbn identifiers) (option_map_or isbn.number_of (online_isbn identifiers) 0)
 
 -- the number of the first identifier, or 0
 abbrev pub first_number : Identifiers → ℕ
 first_number identifiers =
-    issn_or (print_issn identifiers) (issn_or (online_issn identifiers) (isbn_or (print_isbn identifiers) (isbn_or (online_isbn identifiers) 0)))
+    option_map_or issn.number_of (print_issn identifiers) (option_map_or issn.number_of (online_issn identifiers) (first_isbn identifiers))
 
 abbrev pub number_cmp : RowValue → RowValue → Ordering
 number_cmp = on (λ (row : RowValue). first_number row.identifiers) nat_cmp

@@ -2,10 +2,9 @@
 ghost use Rattle.std.specs.Prelude.{◌≡◌};
 ghost use Rattle.feed_diff.specs.Columns.{is_book};
 ghost use Rattle.feed_diff.specs.Ranking.{content_cmp, coverage_cmp, identifiers_cmp, texts_cmp};
-ghost use Rattle.feed_diff.specs.Ranking.{first_number, further_cmp, isbn_or, ranking};
-ghost use Rattle.feed_kbart.specs.Identifiers.{online_isbn, print_isbn};
+ghost use Rattle.feed_diff.specs.Ranking.{first_isbn, first_number, further_cmp, ranking};
 
-use feed_kbart::{Isbn, Issn, Kind, Row};
+use feed_kbart::{Kind, Row};
 use std::cmp::Ordering;
 
 /// The columns by which rows are compared.
@@ -29,40 +28,22 @@ pub(crate) fn is_book(row: &Row) -> bool
     }
 }
 
-fn issn_text(issn: Option<Issn>) -> Option<[u8; 9]>
-    ensures { result ≡ issn }
-{
-    match issn {
-        Some(issn) => Some(issn.text()),
-        None => None,
-    }
-}
-
-fn isbn_text(isbn: Option<Isbn>) -> Option<[u8; 13]>
-    ensures { result ≡ isbn }
-{
-    match isbn {
-        Some(isbn) => Some(isbn.text()),
-        None => None,
-    }
-}
-
 fn compare_identifiers(one: &Row, other: &Row) -> Ordering
     ensures { result ≡ identifiers_cmp one.now.identifiers other.now.identifiers }
 {
     let first = (
         is_book(one),
-        issn_text(one.print()),
-        issn_text(one.online()),
-        isbn_text(one.print_isbn()),
-        isbn_text(one.online_isbn()),
+        one.print(),
+        one.online(),
+        one.print_isbn(),
+        one.online_isbn(),
     );
     let second = (
         is_book(other),
-        issn_text(other.print()),
-        issn_text(other.online()),
-        isbn_text(other.print_isbn()),
-        isbn_text(other.online_isbn()),
+        other.print(),
+        other.online(),
+        other.print_isbn(),
+        other.online_isbn(),
     );
     first.cmp(&second)
 }
@@ -119,8 +100,7 @@ fn compare_content(one: &Row, other: &Row) -> Ordering
 }
 
 fn first_isbn(row: &Row) -> u32
-    ensures { result
-        ≡ isbn_or (print_isbn row.now.identifiers) (isbn_or (online_isbn row.now.identifiers) 0) }
+    ensures { result ≡ first_isbn row.now.identifiers }
 {
     match row.print_isbn() {
         Some(isbn) => isbn.number(),
