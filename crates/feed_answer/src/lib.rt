@@ -23,7 +23,5 @@ pub use crate::laws::{
 };
 pub use crate::matching::{answer, hit_at};
 pub use crate::pair::{BOOK, JOURNAL, Pair};
-pub use crate::query::{
-    QUERY_LIMIT, Query, has_format, has_other_format, has_other_version, query_isbns, query_issns,
-};
+pub use crate::query::{QUERY_LIMIT, Query, has_format, has_other_format, has_other_version};
 pub use crate::row_places::{RowPlaces, places_of};

@@ -4,7 +4,7 @@ ghost use Rattle.std.specs.List.{list_any};
 ghost use Rattle.std.specs.BTreeSet.{insert_key};
 ghost use Rattle.feed_answer.specs.IdentifierSet.{IsAscending, bytes_cmp};
 ghost use Rattle.feed_answer.specs.Pairs.{first_days, first_volume, is_other_format, is_other_version};
-ghost use Rattle.feed_answer.specs.Pairs.{isbns_among, issns_among, has_format};
+ghost use Rattle.feed_answer.specs.Pairs.{has_format};
 ghost use Rattle.feed_answer.specs.Queries.{has_other_format, query_isbns, query_issns, has_book_format};
 ghost use Rattle.feed_answer.specs.declared.fault.QueryFault.TheVariants as fault;
 
@@ -72,8 +72,7 @@ impl Query {
         if has_other_format(&pairs) {
             return Err(QueryFault::OtherFormat);
         }
-        let issns = query_issns(alloc, &pairs)?;
-        let isbns = query_isbns(alloc, &pairs)?;
+        let (issns, isbns) = query_identifiers(alloc, &pairs)?;
         if issns.is_empty() && isbns.is_empty() {
             return Err(without_identifiers(&pairs));
         }
@@ -169,64 +168,33 @@ fn add<T: Ord + Copy>(identifiers: &mut Vec<T>, identifier: T) -> Result<(), All
     Ok(identifiers.push(identifier)?)
 }
 
-// The set of the ISSNs that pairs name. A query has room for about three hundred, and usually has one.
-fn issns_among(alloc: Global, pairs: &[Pair<'_>]) -> Result<Vec<Issn>, AllocError>
-    ensures value { IfOk result (λ issns. issns.items ≡ issns_among pairs.now) }
-    ensures ascending { IfOk result (λ issns. IsAscending issns.items) }
+// The ISSNs and the ISBNs that the pairs of a query ask for, each as a set. In the format of books ISSNs do not count,
+// and in that of journals ISBNs do not. A query has room for about three hundred, and mostly has one.
+fn query_identifiers(
+    alloc: Global,
+    pairs: &[Pair<'_>],
+) -> Result<(Vec<Issn>, Vec<Isbn>), AllocError>
+    ensures issns { IfOk result (λ asked. asked.0.items ≡ query_issns pairs.now) }
+    ensures isbns { IfOk result (λ asked. asked.1.items ≡ query_isbns pairs.now) }
+    ensures ascending { IfOk result (λ asked. IsAscending asked.0.items × IsAscending asked.1.items) }
 {
     let mut issns = Vec::new(alloc);
+    let mut isbns = Vec::new(alloc);
     for pair in pairs {
         if let Some(issn) = pair.issn() {
             add(&mut issns, issn)?;
         }
-    }
-    Ok(issns)
-}
-
-// The set of the ISBNs that pairs name.
-fn isbns_among(alloc: Global, pairs: &[Pair<'_>]) -> Result<Vec<Isbn>, AllocError>
-    ensures value { IfOk result (λ isbns. isbns.items ≡ isbns_among pairs.now) }
-    ensures ascending { IfOk result (λ isbns. IsAscending isbns.items) }
-{
-    let mut isbns = Vec::new(alloc);
-    for pair in pairs {
         if let Some(isbn) = pair.isbn() {
             add(&mut isbns, isbn)?;
         }
     }
-    Ok(isbns)
-}
-
-/// Returns the ISSNs that the pairs of a query ask for, as a set: each `rft.issn`, `rft.eissn` and `rft_id` that names
-/// one (ANSI/NISO Z39.88-2004, key/value format of journals). In the format of books they do not count.
-///
-/// # Errors
-///
-/// Running out of memory.
-pub fn query_issns(alloc: Global, pairs: &[Pair<'_>]) -> Result<Vec<Issn>, AllocError>
-    ensures value { IfOk result (λ issns. issns.items ≡ query_issns pairs.now) }
-    ensures ascending { IfOk result (λ issns. IsAscending issns.items) }
-{
     if has_format(pairs, BOOK) {
-        return Ok(Vec::new(alloc));
+        issns.clear();
     }
-    issns_among(alloc, pairs)
-}
-
-/// Returns the ISBNs that the pairs of a query ask for, as a set: each `rft.isbn` that names one (ANSI/NISO
-/// Z39.88-2004, key/value format of books). In the format of journals they do not count.
-///
-/// # Errors
-///
-/// Running out of memory.
-pub fn query_isbns(alloc: Global, pairs: &[Pair<'_>]) -> Result<Vec<Isbn>, AllocError>
-    ensures value { IfOk result (λ isbns. isbns.items ≡ query_isbns pairs.now) }
-    ensures ascending { IfOk result (λ isbns. IsAscending isbns.items) }
-{
     if has_format(pairs, JOURNAL) {
-        return Ok(Vec::new(alloc));
+        isbns.clear();
     }
-    isbns_among(alloc, pairs)
+    Ok((issns, isbns))
 }
 
 // The days of the first valid date.
