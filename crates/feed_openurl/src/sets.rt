@@ -1,9 +1,7 @@
 //! Sets of identifiers.
 ghost use Rattle.std.specs.Prelude.{◌≡◌, ◌<◌, ◌↔◌, [], IsTrue, IfOk, fold};
 ghost use Rattle.std.specs.BTreeSet.{insert_key};
-ghost use Rattle.std.specs.List.{filter_map};
-ghost use Rattle.feed_answer.specs.IdentifierSet.{identifier_set};
-ghost use Rattle.feed_openurl.specs.Identifiers.{as_isbn, as_issn, identifiers_among};
+ghost use Rattle.feed_openurl.specs.Identifiers.{identifiers_among};
 
 use crate::number::Number;
 use feed_identifiers::{Isbn, Issn};
@@ -62,32 +60,6 @@ fn set_of<T: Ord + Copy>(alloc: Global, identifiers: &[T]) -> Result<Vec<T>, All
     Ok(ascending)
 }
 
-// The ISSNs among some numbers, as a set.
-fn issns_of(alloc: Global, numbers: &[Number]) -> Result<Vec<Issn>, AllocError>
-    ensures { IfOk result (λ set. set.items ≡ identifier_set (filter_map as_issn numbers.now)) }
-{
-    let mut issns = Vec::new(alloc);
-    for number in numbers {
-        if let Number::Issn(issn) = number {
-            issns.push(*issn)?;
-        }
-    }
-    set_of(alloc, &issns)
-}
-
-// The ISBNs among some numbers, as a set.
-fn isbns_of(alloc: Global, numbers: &[Number]) -> Result<Vec<Isbn>, AllocError>
-    ensures { IfOk result (λ set. set.items ≡ identifier_set (filter_map as_isbn numbers.now)) }
-{
-    let mut isbns = Vec::new(alloc);
-    for number in numbers {
-        if let Number::Isbn(isbn) = number {
-            isbns.push(*isbn)?;
-        }
-    }
-    set_of(alloc, &isbns)
-}
-
 /// Returns the identifiers among some numbers, as sets.
 pub(crate) fn identifiers_among(
     alloc: Global,
@@ -95,7 +67,15 @@ pub(crate) fn identifiers_among(
 ) -> Result<Identifiers, AllocError>
     ensures { IfOk result (λ found. found ≡ identifiers_among numbers.now) }
 {
-    let issns = issns_of(alloc, numbers)?;
-    let isbns = isbns_of(alloc, numbers)?;
+    let mut issns = Vec::new(alloc);
+    let mut isbns = Vec::new(alloc);
+    for number in numbers {
+        match number {
+            Number::Issn(issn) => issns.push(*issn)?,
+            Number::Isbn(isbn) => isbns.push(*isbn)?,
+        }
+    }
+    let issns = set_of(alloc, &issns)?;
+    let isbns = set_of(alloc, &isbns)?;
     Ok(Identifiers { issns, isbns })
 }
