@@ -15,5 +15,5 @@ pub use laws::{all_is_served, requests_are_unique, state_is_right};
 pub use respond::{
     BODY_LIMIT, CONTINUE, IncomingRequest, Reply, ReplySummary, Respond, RespondFault, UNAVAILABLE,
 };
-pub use sides::{Reading, Receive, Transmit, Writing};
+pub use sides::{Reading, Receive, Sides, Transmit, Writing};
 pub use streams::{Progress, Share, TURN_SHARE, advance};

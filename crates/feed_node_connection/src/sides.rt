@@ -81,3 +81,10 @@ impl<W: Write> Transmit for Writing<W> {
         self.writer.write(bytes)
     }
 }
+
+/// Both sides of a stream.
+#[derive(Drop)]
+pub struct Sides<R, W> {
+    pub reader: R,
+    pub writer: W,
+}

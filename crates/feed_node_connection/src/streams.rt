@@ -6,7 +6,7 @@ ghost use Rattle.feed_node_connection.specs.Streams.{IsAdvanced, HasAdvanced, Ha
 
 use crate::connection::{Connection, Wants};
 use crate::respond::Respond;
-use crate::sides::{Receive, Transmit};
+use crate::sides::{Receive, Sides, Transmit};
 use std::alloc::Global;
 use std::io::ErrorKind;
 
@@ -41,25 +41,24 @@ pub fn advance<S: Respond, R: Receive, W: Transmit>(
     connection: &mut Connection,
     alloc: Global,
     responder: &S,
-    reader: &mut R,
-    writer: &mut W,
+    sides: &mut Sides<R, W>,
     buffer: &mut [u8],
     share: &mut Share,
 ) -> Progress
-    requires may_read { R.may_read reader.old }
-    requires may_write { W.may_write writer.old }
+    requires may_read { R.may_read sides.old.reader }
+    requires may_write { W.may_write sides.old.writer }
     ensures advanced { IsAdvanced (S.wanted responder.now, S.replies responder.now) share.old share.new
-        connection.old connection.new (R.remaining reader.old) (R.remaining reader.new) (W.contents writer.old)
-        (W.contents writer.new) }
+        connection.old connection.new (R.remaining sides.old.reader) (R.remaining sides.new.reader)
+        (W.contents sides.old.writer) (W.contents sides.new.writer) }
     ensures still { result ≢ Progress.Moved }
     ensures stopped { IsStopped result share.new connection.new }
     ensures receives { result ≡ Progress.Blocked → wants_in connection.new.phase ≡ Wants.Bytes
-        → R.has_blocked reader.new }
+        → R.has_blocked sides.new.reader }
     ensures sends { result ≡ Progress.Blocked → wants_in connection.new.phase ≡ Wants.Room
-        → W.has_blocked writer.new }
+        → W.has_blocked sides.new.writer }
 {
     for _ in 0..u64::MAX {
-        let progress = step(connection, alloc, responder, reader, writer, share, buffer);
+        let progress = step(connection, alloc, responder, sides, buffer, share);
         if progress != Progress::Moved {
             return progress;
         }
@@ -73,28 +72,27 @@ fn step<S: Respond, R: Receive, W: Transmit>(
     connection: &mut Connection,
     alloc: Global,
     responder: &S,
-    reader: &mut R,
-    writer: &mut W,
-    share: &mut Share,
+    sides: &mut Sides<R, W>,
     buffer: &mut [u8],
+    share: &mut Share,
 ) -> Progress
-    requires may_read { R.may_read reader.old }
-    requires may_write { W.may_write writer.old }
+    requires may_read { R.may_read sides.old.reader }
+    requires may_write { W.may_write sides.old.writer }
     ensures advanced { IsAdvanced (S.wanted responder.now, S.replies responder.now) share.old share.new
-        connection.old connection.new (R.remaining reader.old) (R.remaining reader.new) (W.contents writer.old)
-        (W.contents writer.new) }
+        connection.old connection.new (R.remaining sides.old.reader) (R.remaining sides.new.reader)
+        (W.contents sides.old.writer) (W.contents sides.new.writer) }
     ensures stopped { IsStopped result share.new connection.new }
     ensures receives { result ≡ Progress.Blocked → wants_in connection.new.phase ≡ Wants.Bytes
-        → R.has_blocked reader.new }
+        → R.has_blocked sides.new.reader }
     ensures sends { result ≡ Progress.Blocked → wants_in connection.new.phase ≡ Wants.Room
-        → W.has_blocked writer.new }
-    ensures may_read { result ≡ Progress.Moved → R.may_read reader.new }
-    ensures may_write { result ≡ Progress.Moved → W.may_write writer.new }
+        → W.has_blocked sides.new.writer }
+    ensures may_read { result ≡ Progress.Moved → R.may_read sides.new.reader }
+    ensures may_write { result ≡ Progress.Moved → W.may_write sides.new.writer }
 {
     match connection.wants() {
-        Wants::Bytes => receive_once(connection, reader, buffer, share),
+        Wants::Bytes => receive_once(connection, &mut sides.reader, buffer, share),
         Wants::Parse => parse_once(connection, alloc, responder, share),
-        Wants::Room => send_once(connection, alloc, writer),
+        Wants::Room => send_once(connection, alloc, &mut sides.writer),
         Wants::Next => Progress::Blocked,
         Wants::Close => Progress::Blocked,
     }

@@ -12,4 +12,3 @@ pub use fetching::Fetching;
 pub use laws::{node_is_right, published_files_are_kept};
 pub use machine::NodeMachine;
 pub use occasion::{FeedRespond, Occasion};
-pub use stepping::Turn;

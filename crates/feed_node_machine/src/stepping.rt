@@ -10,19 +10,8 @@ use crate::machine::NodeMachine;
 use crate::occasion::{FeedRespond, MomentResponder};
 use feed_keep::Keep;
 use feed_node_connection::{Progress, Share};
-use feed_node_table::{Log, Outcome, Stream};
+use feed_node_table::{Log, Outcome, Stream, Turn};
 use feed_resolver_request::{FetchPolicy, fetch_to_begin};
-
-/// A turn of a connection.
-#[derive(Clone, Copy)]
-pub struct Turn {
-    /// The key of the connection.
-    pub key: usize,
-    /// Whether the client is on the same machine.
-    pub is_local: bool,
-    /// The moment, in microseconds.
-    pub now: u64,
-}
 
 impl<'a, T: Stream, K: Keep, S: FeedRespond + Drop> NodeMachine<'a, T, K, S> {
     // Returns who may make the node fetch now: a fetch that was requested excludes another one, too.
@@ -36,7 +25,13 @@ impl<'a, T: Stream, K: Keep, S: FeedRespond + Drop> NodeMachine<'a, T, K, S> {
     }
 
     // Gives a connection a share of the turn.
-    fn serve(&mut self, turn: Turn, buffer: &mut [u8], share: &mut Share) -> Progress
+    fn serve(
+        &mut self,
+        turn: Turn,
+        is_local: bool,
+        buffer: &mut [u8],
+        share: &mut Share,
+    ) -> Progress
         requires { bytes_held (table_of self.old) ≤ held_limit }
         ensures history { (history : List NodeEvent) → HasHistory S.wanted S.replies self.old history
             → HasServed S.wanted S.replies turn.key self.new history }
@@ -47,11 +42,10 @@ impl<'a, T: Stream, K: Keep, S: FeedRespond + Drop> NodeMachine<'a, T, K, S> {
             &self.responder,
             &self.feed,
             policy,
-            turn.is_local,
+            is_local,
             self.today,
         );
-        self.table
-            .advance(turn.key, self.alloc, &moment, buffer, turn.now, share)
+        self.table.advance(turn, self.alloc, &moment, buffer, share)
     }
 
     // Notes the release that the request of a connection makes the node fetch, if its reply is streamed.
@@ -71,8 +65,14 @@ impl<'a, T: Stream, K: Keep, S: FeedRespond + Drop> NodeMachine<'a, T, K, S> {
     /// Gives a connection a share of the turn: it receives, replies and sends until its stream would block, a reply was
     /// sent, or the share is used. The replies are those to the feed as it is. A request that has the token may ask for
     /// a release, which is to be fetched next. `free_memory` was called before, so that the reply is the only one past
-    /// the limit.
-    pub fn advance(&mut self, turn: Turn, buffer: &mut [u8], share: &mut Share) -> Progress
+    /// the limit. `is_local` is whether the client is on the same machine.
+    pub fn advance(
+        &mut self,
+        turn: Turn,
+        is_local: bool,
+        buffer: &mut [u8],
+        share: &mut Share,
+    ) -> Progress
         requires { bytes_held (table_of self.old) ≤ held_limit }
         ensures history { (history : List NodeEvent) → HasHistory S.wanted S.replies self.old history
             → HasAdvanced S.wanted S.replies turn.key self.new history }
@@ -80,7 +80,7 @@ impl<'a, T: Stream, K: Keep, S: FeedRespond + Drop> NodeMachine<'a, T, K, S> {
         ensures rest { KeepsRest turn.key self.old self.new }
     {
         let replies = share.replies;
-        let progress = self.serve(turn, buffer, share);
+        let progress = self.serve(turn, is_local, buffer, share);
         if share.replies < replies {
             self.note_request(turn.key);
         }

@@ -9,8 +9,8 @@ use crate::socket::Socket;
 use crate::streamed_reply::StreamedReply;
 use feed_keep::Keep;
 use feed_node_connection::{Share, TURN_SHARE, TimeLimits};
-use feed_node_machine::{FeedRespond, NodeMachine, Turn, node_is_right};
-use feed_node_table::{CloseCause, Log, NewConnection, Outcome};
+use feed_node_machine::{FeedRespond, NodeMachine, node_is_right};
+use feed_node_table::{CloseCause, Log, NewConnection, Outcome, Turn};
 use mio::event::Event;
 use mio::net::{TcpListener, TcpStream};
 use mio::{Events, Interest, Poll, Token};
@@ -382,12 +382,8 @@ impl Server {
     {
         node.free_memory(self.now, log);
         let is_local = node.table().addr(key).is_some_and(is_local);
-        let turn = Turn {
-            key,
-            is_local,
-            now: self.now,
-        };
-        let progress = node.advance(turn, &mut self.buffer, share);
+        let turn = Turn { key, now: self.now };
+        let progress = node.advance(turn, is_local, &mut self.buffer, share);
         self.read_clock(rt)?;
         let outcome = node.settle(key, progress, self.now, log);
         if outcome == Outcome::Streams {

@@ -1,5 +1,7 @@
 //! The socket of a client.
-use feed_node_connection::{Connection, Progress, Reading, Respond, Share, Writing, advance};
+use feed_node_connection::{
+    Connection, Progress, Reading, Respond, Share, Sides, Writing, advance,
+};
 use feed_node_table::Stream;
 use mio::net::TcpStream;
 use mio::{Interest, Registry, Token};
@@ -34,20 +36,14 @@ impl Stream for Socket {
         buffer: &mut [u8],
         share: &mut Share,
     ) -> Progress {
-        let mut reader = Reading {
-            reader: &self.stream,
+        let mut sides = Sides {
+            reader: Reading {
+                reader: &self.stream,
+            },
+            writer: Writing {
+                writer: &self.stream,
+            },
         };
-        let mut writer = Writing {
-            writer: &self.stream,
-        };
-        advance(
-            connection,
-            alloc,
-            responder,
-            &mut reader,
-            &mut writer,
-            buffer,
-            share,
-        )
+        advance(connection, alloc, responder, &mut sides, buffer, share)
     }
 }

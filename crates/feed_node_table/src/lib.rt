@@ -10,4 +10,4 @@ mod table;
 pub use log::{CloseCause, Log};
 pub use peer::{NewConnection, Outcome};
 pub use stream::Stream;
-pub use table::{HELD_LIMIT, Table};
+pub use table::{HELD_LIMIT, Table, Turn};

@@ -19,6 +19,15 @@ use std::net::SocketAddr;
 /// The bytes of replies past which the connection that holds the most is closed.
 pub const HELD_LIMIT: usize = 33_554_432;
 
+/// A turn of a connection.
+#[derive(Clone, Copy)]
+pub struct Turn {
+    /// The key of the connection.
+    pub key: usize,
+    /// The moment.
+    pub now: u64,
+}
+
 /// The connections of a node, each under a key. Times are in microseconds since a moment that the caller chooses.
 #[derive(Drop)]
 pub struct Table<T> {
@@ -326,29 +335,28 @@ impl<T: Stream> Table<T> {
     /// If the last step marked it as ready, it is not any more.
     pub fn advance<S: Respond>(
         &mut self,
-        key: usize,
+        turn: Turn,
         alloc: Global,
         responder: &S,
         buffer: &mut [u8],
-        now: u64,
         share: &mut Share,
     ) -> Progress
         requires { bytes_held self.old ≤ held_limit }
-        ensures served { IsServed (S.wanted responder.now, S.replies responder.now) key result share.old share.new
+        ensures served { IsServed (S.wanted responder.now, S.replies responder.now) turn.key result share.old share.new
             self.old self.new }
-        ensures absent { peer_at self.old key ≡ None → peer_at self.new key ≡ None }
-        ensures others { KeepsOthers key self.old self.new }
+        ensures absent { peer_at self.old turn.key ≡ None → peer_at self.new turn.key ≡ None }
+        ensures others { KeepsOthers turn.key self.old self.new }
         ensures size { size_of self.new ≡ size_of self.old }
         ensures clients { self.new.clients ≡ self.old.clients }
-        ensures fresh { IsDropped key (fresh_keys self.old.ready) (fresh_keys self.new.ready) }
-        ensures behind { IsDropped key (behind_keys self.old.ready) (behind_keys self.new.ready) }
+        ensures fresh { IsDropped turn.key (fresh_keys self.old.ready) (fresh_keys self.new.ready) }
+        ensures behind { IsDropped turn.key (behind_keys self.old.ready) (behind_keys self.new.ready) }
     {
-        self.ready.drop_last(key);
-        let Some(peer) = self.peers.get_mut(key) else {
+        self.ready.drop_last(turn.key);
+        let Some(peer) = self.peers.get_mut(turn.key) else {
             return Progress::Blocked;
         };
         let rest = self.held - peer.held();
-        let progress = peer.advance(alloc, responder, buffer, now, share);
+        let progress = peer.advance(alloc, responder, buffer, turn.now, share);
         self.held = rest + peer.held();
         progress
     }

@@ -9,8 +9,8 @@ use crate::node::Node;
 use crate::print::print_escaped;
 use feed_http_heads::Request;
 use feed_node_connection::{
-    BODY_LIMIT, Connection, IncomingRequest, Reading, Reply, Respond, RespondFault, TURN_SHARE,
-    TimeLimits, Wants, Writing, advance,
+    BODY_LIMIT, Connection, IncomingRequest, Reading, Reply, Respond, RespondFault, Sides,
+    TURN_SHARE, TimeLimits, Wants, Writing, advance,
 };
 use feed_test_output::Out;
 use std::alloc::{AllocError, Global};
@@ -213,27 +213,21 @@ fn converse(
     echo: &Echo,
     reader: ShortReader<'_>,
 ) -> Vec<u8> {
-    let mut reader = Reading { reader };
-    let mut writer = Writing {
-        writer: ShortWriter::new(alloc),
+    let mut sides = Sides {
+        reader: Reading { reader },
+        writer: Writing {
+            writer: ShortWriter::new(alloc),
+        },
     };
     let mut buffer = [0u8; 64];
     for _ in 0..200 {
         let mut share = TURN_SHARE;
-        advance(
-            connection,
-            alloc,
-            echo,
-            &mut reader,
-            &mut writer,
-            &mut buffer,
-            &mut share,
-        );
+        advance(connection, alloc, echo, &mut sides, &mut buffer, &mut share);
         if let Wants::Next = connection.wants() {
             connection.resume();
         }
     }
-    writer.writer.bytes
+    sides.writer.writer.bytes
 }
 
 fn print_wants(out: &mut Out<'_>, wants: Wants) {

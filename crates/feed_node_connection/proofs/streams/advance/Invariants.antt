@@ -7,6 +7,6 @@ use Rattle.feed_node_connection.proofs.streams.advance.Given as goal
 abbrev pub invariant-loop : goal.invariant-loop
 invariant-loop g l =
     ((history : List Event) → HasState l.fn.connection history
-    → HasAdvanced (g.S.Respond.wanted l.responder, g.S.Respond.replies l.responder) l.fn.share l.share l.connection history (g.R.Receive.remaining l.fn.reader) (g.R.Receive.remaining l.reader)
-    (g.W.Transmit.contents l.fn.writer) (g.W.Transmit.contents l.writer))
-    × g.R.Receive.may_read l.reader × g.W.Transmit.may_write l.writer
+    → HasAdvanced (g.S.Respond.wanted l.responder, g.S.Respond.replies l.responder) l.fn.share l.share l.connection history (g.R.Receive.remaining l.fn.sides.reader)
+    (g.R.Receive.remaining l.sides.reader) (g.W.Transmit.contents l.fn.sides.writer) (g.W.Transmit.contents l.sides.writer))
+    × g.R.Receive.may_read l.sides.reader × g.W.Transmit.may_write l.sides.writer

@@ -5,7 +5,7 @@ use Rattle.feed_node_connection.proofs.streams.step.Goals as goal
 pub returns-in-Bytes-clause-advanced : goal.returns-in-Bytes-clause-advanced
 returns-in-Bytes-clause-advanced g c = λ history state.
     after_read (g.S.Respond.wanted c.args.responder.now, g.S.Respond.replies c.args.responder.now) c.args.share.now c.receive_once.new.share c.receive_once.new.connection history _ _
-    (g.W.Transmit.contents c.args.writer.now) (c.receive_once.ensures.read history state)
+    (g.W.Transmit.contents c.args.sides.now.writer) (c.receive_once.ensures.read history state)
 
 pub returns-in-Bytes-clause-receives : goal.returns-in-Bytes-clause-receives
 returns-in-Bytes-clause-receives g c = λ blocked is. bytes_blocked c.receive_once.new.connection (c.receive_once.ensures.blocked blocked) is
@@ -24,8 +24,8 @@ returns-in-Parse-clause-sends g c = λ blocked is. absurd (c.parse_once.ensures.
 
 pub returns-in-Room-clause-advanced : goal.returns-in-Room-clause-advanced
 returns-in-Room-clause-advanced g c = λ history state.
-    after_write (g.S.Respond.wanted c.args.responder.now, g.S.Respond.replies c.args.responder.now) c.args.share.now c.send_once.new.connection history (g.R.Receive.remaining c.args.reader.now) _ _
-    (c.send_once.ensures.written history state)
+    after_write (g.S.Respond.wanted c.args.responder.now, g.S.Respond.replies c.args.responder.now) c.args.share.now c.send_once.new.connection history
+    (g.R.Receive.remaining c.args.sides.now.reader) _ _ (c.send_once.ensures.written history state)
 
 pub returns-in-Room-clause-receives : goal.returns-in-Room-clause-receives
 returns-in-Room-clause-receives g c = λ blocked is. room_no_bytes c.send_once.new.connection (c.send_once.ensures.blocked blocked) is
