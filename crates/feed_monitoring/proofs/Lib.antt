@@ -2,5 +2,4 @@ pub mod ReportHeads
 pub mod Counted
 pub mod LastFields
 pub mod Shown
-pub mod ReportReplies
 pub mod PlainLines

@@ -88,25 +88,6 @@ fn body_of(
     Ok(body)
 }
 
-fn reply_to(
-    alloc: Global,
-    request: &Request<'_>,
-    keeps: bool,
-    report: Report,
-    metrics: &Metrics,
-    gauges: &Gauges<'_>,
-    missing: &[u8],
-) -> Result<ReportReply, AllocError>
-    requires { IsInBuffer request.now }
-    ensures reply { IfOk result (λ reply. (head : RequestHead) → HasHead request.now head
-        → IsReportTo metrics.now gauges.now missing.now head keeps report reply) }
-    ensures says { IfOk result (λ reply. SaysWhetherItKeeps keeps reply.bytes.items) }
-{
-    let kind = kind_to(request, is_ready(gauges, missing), report);
-    let body = body_of(alloc, kind, metrics, gauges, missing)?;
-    report_reply(alloc, kind, keeps, request.is_head(), &body)
-}
-
 /// Returns the reply to a request for a report: the metrics, or the health by whether there are active releases and
 /// none is missing. `missing` has a line for each one that is, which the reply then has. Only GET and HEAD are allowed.
 /// Returns none for any other request. `keeps` is whether the connection persists after the reply.
@@ -132,6 +113,8 @@ pub fn respond_about_node(
     let Some(report) = report_of(&request) else {
         return Ok(None);
     };
-    let reply = reply_to(alloc, &request, keeps, report, metrics, gauges, missing)?;
+    let kind = kind_to(&request, is_ready(gauges, missing), report);
+    let body = body_of(alloc, kind, metrics, gauges, missing)?;
+    let reply = report_reply(alloc, kind, keeps, request.is_head(), &body)?;
     Ok(Some(reply))
 }

@@ -1,17 +1,23 @@
 -- The reply of a node about itself, from the reply that its state makes.
-use Rattle.std.proofs.Common.{◌≡◌, ◌<◌, ◌+◌, ℕ, Bool, List, [], ◌∷◌, ◌++◌, length, take, get_or, map, Option, Some, None, ap, sym, subst, ◌∙◌}
+use Rattle.std.proofs.Common.{◌≡◌, ◌<◌, ◌+◌, ℕ, Bool, List, [], ◌∷◌, ◌++◌, length, take, get_or, map, Option, Some, None, ap, sym, subst, inl, inr, ◌∙◌}
+use Rattle.std.specs.Prelude.{◌&&◌, is_some}
 use Rattle.std.proofs.lemmas.List.{take_more, map-append}
 use Rattle.feed_metrics.specs.Texts.{MetricsValue}
 use Rattle.feed_metrics.specs.declared.text.Gauges.{Gauges}
 use Rattle.feed_metrics.specs.declared.text.ReleaseTime.{ReleaseTime}
-use Rattle.feed_monitoring.specs.Reports.{IsReportAnswer, IsReportReply}
-use Rattle.feed_monitoring.proofs.ReportReplies.{gets_none}
+use Rattle.feed_monitoring.specs.Reports.{AsksForNoReport, GetsNoReport, IsReportAnswer, IsReportReply, may_report}
 use Rattle.feed_monitoring.specs.declared.report_text.ReportReply.{ReportReply}
 use Rattle.feed_model.specs.History.{History}
 use Rattle.feed_releases.specs.Actives.{ActiveValue, AreReported}
 use Rattle.feed_node_service.specs.Reports.{IsSomeReply, HasReport, IsReportIn, time_of, active_time}
 use Rattle.feed_node_service.specs.Wanted.{missing_text}
 use Rattle.feed_node_service.specs.declared.responder.FeedResponder.{FeedResponder}
+
+-- bytes that ask for no report get none
+gets_none : (is_local is_open : Bool) (bytes : List ℕ) → AsksForNoReport bytes → GetsNoReport is_local is_open bytes
+gets_none is_local is_open bytes (inl none) = inl none
+gets_none is_local is_open bytes (inr (head, begins, none)) =
+    inr (head, begins, ap (λ asked. is_some asked && may_report is_local is_open head) none)
 
 pub report_in : (responder : FeedResponder) (is_local : Bool) (h : History) (bytes : List ℕ) (keeps : Bool) (actives : List ActiveValue) (releases : List ReleaseTime)
     (missing : List ℕ) (found : Option ReportReply) → HasReport responder is_local bytes → AreReported h actives → map time_of releases ≡ map active_time actives

@@ -1,11 +1,17 @@
-use Rattle.std.proofs.Common.{◌≡◌, ℕ, Bool, List, [], Option, Some, None, refl}
+use Rattle.std.proofs.Common.{◌≡◌, ℕ, Bool, List, [], Option, Some, None, inl, inr, refl, ap}
+use Rattle.std.specs.Prelude.{◌&&◌, is_some}
 use Rattle.feed_metrics.specs.Texts.{MetricsValue}
 use Rattle.feed_metrics.specs.declared.text.Gauges.{Gauges}
-use Rattle.feed_monitoring.specs.Reports.{GetsReport, IsReportReply}
+use Rattle.feed_monitoring.specs.Reports.{AsksForNoReport, GetsNoReport, GetsReport, IsReportReply, may_report}
 use Rattle.feed_monitoring.specs.Starting.{IsStartingReply}
 use Rattle.feed_monitoring.specs.declared.report_text.ReportReply.{ReportReply}
-use Rattle.feed_monitoring.proofs.ReportReplies.{gets_none}
 use Rattle.feed_monitoring.proofs.starting.respond_at_start.Goals as goal
+
+-- bytes that ask for no report get none
+gets_none : (is_local is_open : Bool) (bytes : List ℕ) → AsksForNoReport bytes → GetsNoReport is_local is_open bytes
+gets_none is_local is_open bytes (inl none) = inl none
+gets_none is_local is_open bytes (inr (head, begins, none)) =
+    inr (head, begins, ap (λ asked. is_some asked && may_report is_local is_open head) none)
 
 starting : (is_local is_open : Bool) (metrics : MetricsValue) (gauges : Gauges) (bytes : List ℕ) (keeps : Bool) (found : Option ReportReply)
     → GetsReport is_local is_open bytes → gauges.releases.now ≡ [] → IsReportReply metrics gauges [] bytes keeps found
