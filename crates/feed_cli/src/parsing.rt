@@ -5,8 +5,8 @@ use crate::node::node_options;
 use clap::error::ErrorKind;
 use clap::{ArgMatches, Error};
 use feed_options::{
-    CheckOptions, Command, DatabaseCommand, DiffOptions, FetchOptions, Form, NodeCommand,
-    ServeOptions,
+    CheckOptions, Command, ComparisonForm, DatabaseCommand, DiffOptions, FetchOptions, Form,
+    NodeCommand, ServeOptions,
 };
 use std::alloc::{AllocError, Global};
 use std::io;
@@ -154,8 +154,10 @@ fn diff<'a>(given: &ArgMatches<'a>) -> Command<'a> {
     let old = text(given, "OLD");
     let options = DiffOptions {
         new: text(given, "NEW"),
-        is_json: given.get_flag("json"),
-        is_summary: given.get_flag("summary"),
+        form: ComparisonForm {
+            is_json: given.get_flag("json"),
+            is_summary: given.get_flag("summary"),
+        },
         max_removed: given.get_one::<u64>("max-removed"),
         max_changed: given.get_one::<u64>("max-changed"),
     };

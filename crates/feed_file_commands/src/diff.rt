@@ -6,7 +6,7 @@ use feed_diff::{Comparison, compare};
 use feed_kbart::{FileRows, list_file};
 use feed_names::ReleaseName;
 use feed_options::DiffOptions;
-use feed_report::{ComparisonForm, NamedList, print_comparison};
+use feed_report::{NamedList, print_comparison};
 use std::io::{Read, Write};
 
 // A list, and its release name.
@@ -94,11 +94,8 @@ fn compare_lists<O: Write, F: Write + Drop>(
         return console.faults.report("Memory", FAILED);
     };
     let status = status_of(old.rows.len(), &comparison, options);
-    let form = ComparisonForm {
-        is_json: options.is_json,
-        is_summary: options.is_summary,
-    };
-    let printed = print_comparison(alloc, &mut console.out, old, new, &comparison, form);
+    let out = &mut console.out;
+    let printed = print_comparison(alloc, out, old, new, &comparison, options.form);
     console.faults.check_print(printed, status)
 }
 

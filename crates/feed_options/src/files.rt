@@ -40,13 +40,19 @@ impl Form {
 pub struct DiffOptions<'a> {
     /// The path of the new list.
     pub new: &'a str,
-    /// Whether the report is a JSON object on one line.
-    pub is_json: bool,
-    /// Whether it has the counts alone.
-    pub is_summary: bool,
+    pub form: ComparisonForm,
     /// The most rows that the new list may remove and change, in percent of those of the old one.
     pub max_removed: Option<u64>,
     pub max_changed: Option<u64>,
+}
+
+/// The form of a report on two lists.
+#[derive(Clone, Copy)]
+pub struct ComparisonForm {
+    /// Whether it is a JSON object on one line.
+    pub is_json: bool,
+    /// Whether it has the counts alone.
+    pub is_summary: bool,
 }
 
 /// What `serve` serves, where, how often, and how long a client may take for its request and its reply.

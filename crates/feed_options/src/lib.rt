@@ -6,5 +6,5 @@ mod files;
 mod node;
 
 pub use command::{Command, DatabaseCommand, FetchOptions, NodeCommand};
-pub use files::{CheckOptions, DiffOptions, Form, ServeOptions};
+pub use files::{CheckOptions, ComparisonForm, DiffOptions, Form, ServeOptions};
 pub use node::{LogOptions, NodeOptions, Source};

@@ -7,18 +7,10 @@ use feed_diff::{Change, Comparison};
 use feed_identifiers::{Isbn, Issn};
 use feed_kbart::{Aside, Kind, LABELS, Label, Row};
 use feed_names::ReleaseName;
+use feed_options::ComparisonForm;
 use std::alloc::Global;
 use std::io;
 use std::io::Write;
-
-/// The form of a report on two lists.
-#[derive(Clone, Copy, Debug, PartialEq, Eq)]
-pub struct ComparisonForm {
-    /// Whether it is a JSON object on one line.
-    pub is_json: bool,
-    /// Whether it has the counts alone.
-    pub is_summary: bool,
-}
 
 /// The rows and the skipped records of a list, with its release name.
 #[derive(Clone, Copy)]

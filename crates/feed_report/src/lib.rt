@@ -8,5 +8,5 @@ mod records;
 mod report;
 mod warnings;
 
-pub use comparison::{ComparisonForm, NamedList, print_comparison};
+pub use comparison::{NamedList, print_comparison};
 pub use report::Report;
