@@ -82,27 +82,31 @@ not_modified tag max_age representation = with_tag tag max_age (reply_with statu
 abbrev pub refusal : Status → Representation → List ℕ → ReplyValue
 refusal code representation name = reply_with code (fault_representation representation) (fault_body representation name)
 
--- the number of a status (RFC 9110, section 15)
+-- the code of a status and its reason phrase (RFC 9110, section 15)
+abbrev pub code_and_reason : Status → ℕ × List ℕ
+code_and_reason status.Good = (200, codes "OK")
+code_and_reason status.Listed = (200, codes "OK")
+code_and_reason status.Ended = (204, codes "No Content")
+code_and_reason status.Preflight = (204, codes "No Content")
+code_and_reason status.QueryPreflight = (204, codes "No Content")
+code_and_reason status.Found = (302, codes "Found")
+code_and_reason status.NotModified = (304, codes "Not Modified")
+code_and_reason status.BadRequest = (400, codes "Bad Request")
+code_and_reason status.Unauthorized = (401, codes "Unauthorized")
+code_and_reason status.NotFound = (404, codes "Not Found")
+code_and_reason status.MethodNotAllowed = (405, codes "Method Not Allowed")
+code_and_reason status.PostOnly = (405, codes "Method Not Allowed")
+code_and_reason status.GetOrPost = (405, codes "Method Not Allowed")
+code_and_reason status.GetOrDelete = (405, codes "Method Not Allowed")
+code_and_reason status.Conflict = (409, codes "Conflict")
+code_and_reason status.LengthRequired = (411, codes "Length Required")
+code_and_reason status.ContentTooLarge = (413, codes "Content Too Large")
+code_and_reason status.UnsupportedMediaType = (415, codes "Unsupported Media Type")
+code_and_reason status.NotImplemented = (501, codes "Not Implemented")
+
+-- the code alone
 abbrev pub status_code : Status → ℕ
-status_code status.Good = 200
-status_code status.Listed = 200
-status_code status.Ended = 204
-status_code status.Preflight = 204
-status_code status.QueryPreflight = 204
-status_code status.Found = 302
-status_code status.NotModified = 304
-status_code status.BadRequest = 400
-status_code status.Unauthorized = 401
-status_code status.NotFound = 404
-status_code status.MethodNotAllowed = 405
-status_code status.PostOnly = 405
-status_code status.GetOrPost = 405
-status_code status.GetOrDelete = 405
-status_code status.Conflict = 409
-status_code status.LengthRequired = 411
-status_code status.ContentTooLarge = 413
-status_code status.UnsupportedMediaType = 415
-status_code status.NotImplemented = 501
+status_code code = (code_and_reason code).0
 
 -- whether a reply with this status code has no body (RFC 9110, sections 15.3.5 and 15.4.5)
 abbrev pub is_bodiless : ℕ → Bool
@@ -113,27 +117,9 @@ abbrev pub is_good : Status → Bool
 is_good status.Good = true
 is_good code = false
 
--- its reason
+-- its reason phrase
 abbrev pub reason_text : Status → List ℕ
-reason_text status.Good = codes "OK"
-reason_text status.Listed = codes "OK"
-reason_text status.Ended = codes "No Content"
-reason_text status.Preflight = codes "No Content"
-reason_text status.QueryPreflight = codes "No Content"
-reason_text status.Found = codes "Found"
-reason_text status.NotModified = codes "Not Modified"
-reason_text status.BadRequest = codes "Bad Request"
-reason_text status.Unauthorized = codes "Unauthorized"
-reason_text status.NotFound = codes "Not Found"
-reason_text status.MethodNotAllowed = codes "Method Not Allowed"
-reason_text status.PostOnly = codes "Method Not Allowed"
-reason_text status.GetOrPost = codes "Method Not Allowed"
-reason_text status.GetOrDelete = codes "Method Not Allowed"
-reason_text status.Conflict = codes "Conflict"
-reason_text status.LengthRequired = codes "Length Required"
-reason_text status.ContentTooLarge = codes "Content Too Large"
-reason_text status.UnsupportedMediaType = codes "Unsupported Media Type"
-reason_text status.NotImplemented = codes "Not Implemented"
+reason_text code = (code_and_reason code).1
 
 -- the status line, without its end (RFC 9112, section 4)
 abbrev pub status_line : Status → List ℕ

@@ -11,7 +11,7 @@ ghost use Rattle.feed_resolver_reply.specs.Messages.{IsLocation, IsMessageFor};
 use crate::escape::put;
 use crate::piece::Piece;
 use crate::response::Response;
-use crate::status::{Status, is_bodiless, reason_text, status_code};
+use crate::status::{Status, code_and_reason, is_bodiless, status_code};
 use crate::utf8::page_in_utf8;
 use feed_pieces::put_all;
 use feed_resolver_request::Representation;
@@ -135,13 +135,14 @@ fn length_of(body: &[u8]) -> u64
 fn put_status_line(out: &mut Vec<u8>, status: Status) -> Result<(), AllocError>
     ensures { OnOk result (out.new.items ≡ out.old.items ++ status_line status) }
 {
+    let (code, reason) = code_and_reason(status);
     put_all(
         out,
         &[
             Piece::Plain(b"HTTP/1.1 "),
-            Piece::Number(u64::from(status_code(status))),
+            Piece::Number(u64::from(code)),
             Piece::Plain(b" "),
-            Piece::Plain(reason_text(status)),
+            Piece::Plain(reason),
         ],
     )
 }

@@ -45,48 +45,36 @@ pub enum Status {
     NotImplemented,
 }
 
-/// Returns the number of a status.
-pub(crate) fn status_code(status: Status) -> u16
-    ensures { result ≡ status_code status }
+/// Returns the code of a status, and the reason phrase that its line gives.
+pub(crate) fn code_and_reason(status: Status) -> (u16, &'static [u8])
+    ensures code { result.0 ≡ status_code status }
+    ensures reason { result.1.now ≡ reason_text status }
 {
     match status {
-        Status::Good | Status::Listed => 200,
-        Status::Ended | Status::Preflight | Status::QueryPreflight => 204,
-        Status::Found => 302,
-        Status::NotModified => 304,
-        Status::BadRequest => 400,
-        Status::Unauthorized => 401,
-        Status::NotFound => 404,
-        Status::MethodNotAllowed | Status::PostOnly | Status::GetOrPost | Status::GetOrDelete =>
+        Status::Good | Status::Listed => (200, b"OK"),
+        Status::Ended | Status::Preflight | Status::QueryPreflight => (204, b"No Content"),
+        Status::Found => (302, b"Found"),
+        Status::NotModified => (304, b"Not Modified"),
+        Status::BadRequest => (400, b"Bad Request"),
+        Status::Unauthorized => (401, b"Unauthorized"),
+        Status::NotFound => (404, b"Not Found"),
+        Status::MethodNotAllowed | Status::PostOnly | Status::GetOrPost | Status::GetOrDelete => (
             405,
-        Status::Conflict => 409,
-        Status::LengthRequired => 411,
-        Status::ContentTooLarge => 413,
-        Status::UnsupportedMediaType => 415,
-        Status::NotImplemented => 501,
+            b"Method Not Allowed",
+        ),
+        Status::Conflict => (409, b"Conflict"),
+        Status::LengthRequired => (411, b"Length Required"),
+        Status::ContentTooLarge => (413, b"Content Too Large"),
+        Status::UnsupportedMediaType => (415, b"Unsupported Media Type"),
+        Status::NotImplemented => (501, b"Not Implemented"),
     }
 }
 
-/// Returns the reason that a status line gives.
-pub(crate) fn reason_text(status: Status) -> &'static [u8]
-    ensures { result.now ≡ reason_text status }
+/// Returns the code of a status.
+pub(crate) fn status_code(status: Status) -> u16
+    ensures { result ≡ status_code status }
 {
-    match status {
-        Status::Good | Status::Listed => b"OK",
-        Status::Ended | Status::Preflight | Status::QueryPreflight => b"No Content",
-        Status::Found => b"Found",
-        Status::NotModified => b"Not Modified",
-        Status::BadRequest => b"Bad Request",
-        Status::Unauthorized => b"Unauthorized",
-        Status::NotFound => b"Not Found",
-        Status::MethodNotAllowed | Status::PostOnly | Status::GetOrPost | Status::GetOrDelete =>
-            b"Method Not Allowed",
-        Status::Conflict => b"Conflict",
-        Status::LengthRequired => b"Length Required",
-        Status::ContentTooLarge => b"Content Too Large",
-        Status::UnsupportedMediaType => b"Unsupported Media Type",
-        Status::NotImplemented => b"Not Implemented",
-    }
+    code_and_reason(status).0
 }
 
 /// Returns whether a reply of this status has no body (RFC 9110, sections 15.3.5 and 15.4.5).
