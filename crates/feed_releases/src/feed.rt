@@ -84,7 +84,7 @@ impl<K: Keep> Feed<K> {
     ghost use Rattle.feed_releases.specs.Events.{event_of};
     ghost use Rattle.feed_keep.specs.Cause.{HasFailedSince, IsCounted};
     ghost use Rattle.feed_keep.specs.Loads.{one_more};
-    ghost use Rattle.feed_releases.specs.Feeds.{CommitsNothing, keeper_of, recorded, releases_of};
+    ghost use Rattle.feed_releases.specs.Feeds.{CommitsNothing, IsAnsweredBy, keeper_of, recorded, releases_of};
     ghost use Rattle.feed_releases.specs.Leftovers.{left_of_all};
     ghost use Rattle.feed_releases.specs.Work.{unread, work_left};
     ghost use Rattle.feed_releases.specs.Statuses.{status_of};
@@ -131,14 +131,7 @@ impl<K: Keep> Feed<K> {
     /// history with the event and the answer added. After a refusal, and after a reply without new bytes, the feed is
     /// as before. It answers `Full` only if it already has the most releases that it may record.
     pub fn handle(&mut self, event: &Event<'_>) -> Result<Reply, Refusal>
-        ensures right { Handles (recorded self.old) (event_of event.now) result (recorded self.new) }
-        ensures refused { OnErr result (releases_of self.new ≡ releases_of self.old) }
-        ensures idle { CommitsNothing result → releases_of self.new ≡ releases_of self.old }
-        ensures full { result ≡ Err Refusal.Full → length (releases_of self.old) ≡ max_held }
-        ensures clean { K.clean (keeper_of self.new) → K.clean (keeper_of self.old) }
-        ensures device { IsCounted (result ≡ Err Refusal.Device) (K.failed (keeper_of self.old))
-            (K.failed (keeper_of self.new)) }
-        ensures unloaded { K.loads (keeper_of self.new) ≡ K.loads (keeper_of self.old) }
+        ensures { IsAnsweredBy self.old self.new (event_of event.now) result }
     {
         match event {
             Event::Offered { name, size } => self.offer(name, *size),
