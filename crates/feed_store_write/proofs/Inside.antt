@@ -1,5 +1,6 @@
 -- A statement inside a transaction.
-use Rattle.std.proofs.Common.{arith, ◌≡◌, ℕ, List, Bool, true, false, Ok, Err, Result, IsErr, OnOk, refl, inl}
+use Rattle.std.proofs.Common.{arith, ◌≡◌, ◌∙◌, ℕ, List, Bool, true, false, Ok, Err, Result, IsErr, OnOk, refl, inl}
+use Rattle.std.specs.Borrow.{MutBor}
 use Rattle.std.proofs.lemmas.Result.{on_ok_weaker}
 use Rattle.sqlite_value.specs.Order.{Row}
 use Rattle.sqlite.specs.declared.error.Error.{Error}
@@ -9,7 +10,7 @@ use Rattle.sqlite.specs.State.{State, Executes, ExecutesInside, HasCleanDisk, Ke
 use Rattle.sqlite.proofs.InsideLemmas.{inside_keeps, keeps_then}
 use Rattle.sqlite.proofs.StateLemmas.{survives_then}
 use Rattle.sqlite_trees.specs.declared.store.Store.{Ghosts}
-use Rattle.feed_store_write.specs.Effects.{CommitsNothing, IsMade, IsRun}
+use Rattle.feed_store_write.specs.Effects.{IsMade, IsRun, StaysInside}
 
 module _ (text : List ℕ) (params : Row) (old new : State) where
   -- a transaction that is open runs it; one that has ended takes no statement
@@ -39,19 +40,21 @@ module _ (text : List ℕ) (params : Row) (old new : State) where
 
 module _ {S : Type 0} {store : Ghosts S} where
   -- nothing was done
-  pub nothing_done : {h : Held S} → CommitsNothing store h h
+  pub nothing_done : {h : MutBor (Held S)} → StaysInside store h h
   nothing_done = record {
+    same_reference = refl;
     kept = λ clean. record { was_open = λ on. on; committed = λ on. refl };
     survives = record { clean = omega arith; shield = λ s. s; counts = omega arith; limit = refl; closes = λ clean on. inl on; crash = λ clean db it. inl it };
   }
 
   -- the disk had returned what was written
-  pub clean_before : {b c : Held S} → CommitsNothing store b c → HasCleanDisk (state store c) → HasCleanDisk (state store b)
+  pub clean_before : {b c : MutBor (Held S)} → StaysInside store b c → HasCleanDisk (state store c.now) → HasCleanDisk (state store b.now)
   clean_before two clean = omega (arith, two.survives.clean)
 
   -- two calls, one after the other
-  pub both_inside : {a b c : Held S} → CommitsNothing store a b → CommitsNothing store b c → CommitsNothing store a c
+  pub both_inside : {a b c : MutBor (Held S)} → StaysInside store a b → StaysInside store b c → StaysInside store a c
   both_inside {a} {b} {c} one two = record {
-    kept = λ clean. keeps_then (state store a) (state store b) (state store c) (one.kept (clean_before two clean)) (two.kept clean);
-    survives = survives_then (state store a) (state store b) (state store c) (λ _. ⊥) (λ _. ⊥) (λ _. ⊥) (λ _ db none. none) (λ _ db none. none) one.survives two.survives;
+    same_reference = two.same_reference ∙ one.same_reference;
+    kept = λ clean. keeps_then (state store a.now) (state store b.now) (state store c.now) (one.kept (clean_before two clean)) (two.kept clean);
+    survives = survives_then (state store a.now) (state store b.now) (state store c.now) (λ _. ⊥) (λ _. ⊥) (λ _. ⊥) (λ _ db none. none) (λ _ db none. none) one.survives two.survives;
   }

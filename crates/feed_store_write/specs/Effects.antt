@@ -1,5 +1,6 @@
 -- The effects of calls on a database.
 use Rattle.std.specs.Prelude.{◌≡◌, ◌↔◌, ◌∷◌, ℕ, List, Bool, IsTrue, [], map, OnOk, Ok, pos, Result}
+use Rattle.std.specs.Borrow.{MutBor}
 use Rattle.feed_model.specs.Change.{Change, IsAllowed, after}
 use Rattle.feed_model.specs.Content.{Content}
 use Rattle.sqlite.specs.Effect.{Database, IsDatabase}
@@ -38,10 +39,11 @@ pub record IsRun (text : List ℕ) (params : Row) (old new : State) : Type 0 whe
 abbrev pub IsRunOnOk : {S X E : Type 0} → Ghosts S → List ℕ → List ValueRef → Held S → Held S → Result X E → Type 0
 IsRunOnOk store text params old new result = HasCleanDisk (state store new) → OnOk result (IsRun text (bound params) (state store old) (state store new))
 
--- a call commits nothing, and a crash leaves what it left before the call
-pub record CommitsNothing {S : Type 0} (store : Ghosts S) (old new : Held S) : Type 0 where
-  pub kept : HasCleanDisk (state store new) → KeepsCommit (state store old) (state store new)
-  pub survives : Survives (state store old) (state store new) (λ _. ⊥)
+-- a call inside a transaction, on the same connection, commits nothing, and a crash leaves what it left before the call
+pub record StaysInside {S : Type 0} (store : Ghosts S) (old new : MutBor (Held S)) : Type 0 where
+  pub same_reference : new.ghost_name ≡ old.ghost_name
+  pub kept : HasCleanDisk (state store new.now) → KeepsCommit (state store old.now) (state store new.now)
+  pub survives : Survives (state store old.now) (state store new.now) (λ _. ⊥)
 
 -- a database of layout 2 stays one, and its content is changed so
 abbrev pub IsContentChange : (Content → Content) → Database → Database → Type 0

@@ -3,7 +3,7 @@ ghost use Rattle.std.specs.Prelude.{◌≡◌, ◌++◌, ◌∷◌, [], false, m
 ghost use Rattle.feed_model.specs.Change.{Activate, Add, Break, changed, grown, without_earlier};
 ghost use Rattle.feed_parts.specs.Shown.{shown_parts};
 ghost use Rattle.feed_keep.specs.Shown.{shown_change};
-ghost use Rattle.feed_store_write.specs.Effects.{CommitsNothing, IsAllowedChange, IsContentChange, IsLive, IsMadeOnOk};
+ghost use Rattle.feed_store_write.specs.Effects.{IsAllowedChange, IsContentChange, IsLive, IsMadeOnOk, StaysInside};
 ghost use Rattle.feed_store_write.specs.Statements.{AddPart, HaveRunOnOk, IsCommitted, SetState, statements_of};
 ghost use Rattle.sqlite.specs.Held.{state};
 ghost use Rattle.sqlite.specs.State.{HasCleanDisk};
@@ -43,11 +43,10 @@ pub fn commit_change<S: Alter>(conn: &mut Connection<S>, change: &Change<'_>) ->
 
 // Runs the statements of a change inside a transaction.
 fn apply_change<S: Alter>(tx: &mut Transaction<'_, S>, change: &Change<'_>) -> Result<(), Error>
-    ensures same_reference { tx.new.conn.ghost_name ≡ tx.old.conn.ghost_name }
     ensures made { IsMadeOnOk S.Store (IsAllowedChange (shown_change change.now))
         tx.old.conn.now tx.new.conn.now result }
     ensures ran { HaveRunOnOk S.Store (statements_of (shown_change change.now)) tx.old.conn.now tx.new.conn.now result }
-    ensures inside { CommitsNothing S.Store tx.old.conn.now tx.new.conn.now }
+    ensures inside { StaysInside S.Store tx.old.conn tx.new.conn }
 {
     match change {
         Change::Add { name, size } => add_release(tx, name, *size),
@@ -67,10 +66,9 @@ fn add_release<S: Alter>(
     name: &ReleaseName,
     size: u64,
 ) -> Result<(), Error>
-    ensures same_reference { tx.new.conn.ghost_name ≡ tx.old.conn.ghost_name }
     ensures made { IsMadeOnOk S.Store (IsAllowedChange (Add name.now size)) tx.old.conn.now tx.new.conn.now result }
     ensures ran { HaveRunOnOk S.Store (statements_of (Add name.now size)) tx.old.conn.now tx.new.conn.now result }
-    ensures inside { CommitsNothing S.Store tx.old.conn.now tx.new.conn.now }
+    ensures inside { StaysInside S.Store tx.old.conn tx.new.conn }
 {
     let Ok(short) = u32::try_from(size) else {
         return Err(Error::SqliteFailure(ErrorCode::TooBig));
@@ -83,10 +81,9 @@ fn add_release<S: Alter>(
 
 // Adds the record of a release with an empty file, which is complete and bad.
 fn add_empty_release<S: Alter>(tx: &mut Transaction<'_, S>, name: &ReleaseName) -> Result<(), Error>
-    ensures same_reference { tx.new.conn.ghost_name ≡ tx.old.conn.ghost_name }
     ensures made { IsMadeOnOk S.Store (IsAllowedChange (Add name.now 0)) tx.old.conn.now tx.new.conn.now result }
     ensures ran { HaveRunOnOk S.Store (statements_of (Add name.now 0)) tx.old.conn.now tx.new.conn.now result }
-    ensures inside { CommitsNothing S.Store tx.old.conn.now tx.new.conn.now }
+    ensures inside { StaysInside S.Store tx.old.conn tx.new.conn }
 {
     insert_release(tx, name, 0, State::Broken)?;
     insert_reason(tx, name, BadFile::NoHeader)
@@ -99,12 +96,11 @@ fn break_release<S: Alter>(
     parts: &[Part],
     why: BadFile,
 ) -> Result<(), Error>
-    ensures same_reference { tx.new.conn.ghost_name ≡ tx.old.conn.ghost_name }
     ensures made { IsMadeOnOk S.Store (IsAllowedChange (Break name.now (shown_parts parts.now) why))
         tx.old.conn.now tx.new.conn.now result }
     ensures ran { HaveRunOnOk S.Store (statements_of (Break name.now (shown_parts parts.now) why))
         tx.old.conn.now tx.new.conn.now result }
-    ensures inside { CommitsNothing S.Store tx.old.conn.now tx.new.conn.now }
+    ensures inside { StaysInside S.Store tx.old.conn tx.new.conn }
 {
     finish(tx, name, parts, State::Broken)?;
     insert_reason(tx, name, why)
@@ -117,12 +113,11 @@ fn finish<S: Alter>(
     parts: &[Part],
     value: State,
 ) -> Result<(), Error>
-    ensures same_reference { tx.new.conn.ghost_name ≡ tx.old.conn.ghost_name }
     ensures made { IsMadeOnOk S.Store (IsContentChange (changed name.now (grown (shown_parts parts.now) value)))
         tx.old.conn.now tx.new.conn.now result }
     ensures ran { HaveRunOnOk S.Store (map (AddPart name.now) (shown_parts parts.now) ++ SetState name.now value ∷ [])
         tx.old.conn.now tx.new.conn.now result }
-    ensures inside { CommitsNothing S.Store tx.old.conn.now tx.new.conn.now }
+    ensures inside { StaysInside S.Store tx.old.conn tx.new.conn }
 {
     insert_parts(tx, name, parts)?;
     set_state(tx, name, value)
@@ -134,13 +129,12 @@ fn activate<S: Alter>(
     name: &ReleaseName,
     parts: &[Part],
 ) -> Result<(), Error>
-    ensures same_reference { tx.new.conn.ghost_name ≡ tx.old.conn.ghost_name }
     ensures made { IsMadeOnOk S.Store (IsContentChange
         (λ c. without_earlier name.now (changed name.now (grown (shown_parts parts.now) State.Active) c)))
         tx.old.conn.now tx.new.conn.now result }
     ensures ran { HaveRunOnOk S.Store (statements_of (Activate name.now (shown_parts parts.now)))
         tx.old.conn.now tx.new.conn.now result }
-    ensures inside { CommitsNothing S.Store tx.old.conn.now tx.new.conn.now }
+    ensures inside { StaysInside S.Store tx.old.conn tx.new.conn }
 {
     finish(tx, name, parts, State::Active)?;
     delete_earlier(tx, name)

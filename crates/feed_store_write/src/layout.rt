@@ -1,6 +1,6 @@
 //! Creates the tables of an empty database.
 ghost use Rattle.std.specs.Prelude.{◌≡◌, ◌∷◌, [], false, IsTrue, OnErr, OnOk};
-ghost use Rattle.feed_store_write.specs.Effects.{CommitsNothing, IsBlank, IsExtension, IsLive, IsMadeOnOk};
+ghost use Rattle.feed_store_write.specs.Effects.{IsBlank, IsExtension, IsLive, IsMadeOnOk, StaysInside};
 ghost use Rattle.feed_store_write.specs.Effects.{IsTransition};
 ghost use Rattle.feed_store_write.specs.Schemas.{HasAllTables, HasLayoutTable, HasNoTable, HasPieceTable};
 ghost use Rattle.feed_store_write.specs.Schemas.{HasReleaseTable};
@@ -40,10 +40,9 @@ pub fn create_tables<S: Alter>(conn: &mut Connection<S>) -> Result<(), Error>
 
 // Creates the tables, and inserts the row of the layout.
 fn create_all<S: Alter>(tx: &mut Transaction<'_, S>) -> Result<(), Error>
-    ensures same_reference { tx.new.conn.ghost_name ≡ tx.old.conn.ghost_name }
     ensures made { IsMadeOnOk S.Store (IsTransition HasNoTable IsBlank) tx.old.conn.now tx.new.conn.now result }
     ensures ran { HaveRunOnOk S.Store creation tx.old.conn.now tx.new.conn.now result }
-    ensures inside { CommitsNothing S.Store tx.old.conn.now tx.new.conn.now }
+    ensures inside { StaysInside S.Store tx.old.conn tx.new.conn }
 {
     create_layout(tx)?;
     create_release(tx)?;
@@ -53,11 +52,10 @@ fn create_all<S: Alter>(tx: &mut Transaction<'_, S>) -> Result<(), Error>
 }
 
 fn create_layout<S: Alter>(tx: &mut Transaction<'_, S>) -> Result<(), Error>
-    ensures same_reference { tx.new.conn.ghost_name ≡ tx.old.conn.ghost_name }
     ensures made { IsMadeOnOk S.Store (IsTransition HasNoTable HasLayoutTable)
         tx.old.conn.now tx.new.conn.now result }
     ensures ran { HaveRunOnOk S.Store (Plain layout_text ∷ []) tx.old.conn.now tx.new.conn.now result }
-    ensures inside { CommitsNothing S.Store tx.old.conn.now tx.new.conn.now }
+    ensures inside { StaysInside S.Store tx.old.conn tx.new.conn }
 {
     run(
         tx,
@@ -67,11 +65,10 @@ fn create_layout<S: Alter>(tx: &mut Transaction<'_, S>) -> Result<(), Error>
 }
 
 fn create_release<S: Alter>(tx: &mut Transaction<'_, S>) -> Result<(), Error>
-    ensures same_reference { tx.new.conn.ghost_name ≡ tx.old.conn.ghost_name }
     ensures made { IsMadeOnOk S.Store (IsTransition HasLayoutTable HasReleaseTable)
         tx.old.conn.now tx.new.conn.now result }
     ensures ran { HaveRunOnOk S.Store (Plain release_text ∷ []) tx.old.conn.now tx.new.conn.now result }
-    ensures inside { CommitsNothing S.Store tx.old.conn.now tx.new.conn.now }
+    ensures inside { StaysInside S.Store tx.old.conn tx.new.conn }
 {
     run(
         tx,
@@ -89,11 +86,10 @@ fn create_release<S: Alter>(tx: &mut Transaction<'_, S>) -> Result<(), Error>
 }
 
 fn create_piece<S: Alter>(tx: &mut Transaction<'_, S>) -> Result<(), Error>
-    ensures same_reference { tx.new.conn.ghost_name ≡ tx.old.conn.ghost_name }
     ensures made { IsMadeOnOk S.Store (IsTransition HasReleaseTable HasPieceTable)
         tx.old.conn.now tx.new.conn.now result }
     ensures ran { HaveRunOnOk S.Store (Plain piece_text ∷ []) tx.old.conn.now tx.new.conn.now result }
-    ensures inside { CommitsNothing S.Store tx.old.conn.now tx.new.conn.now }
+    ensures inside { StaysInside S.Store tx.old.conn tx.new.conn }
 {
     run(
         tx,
@@ -110,12 +106,11 @@ fn create_piece<S: Alter>(tx: &mut Transaction<'_, S>) -> Result<(), Error>
 
 /// Creates the table of the reasons.
 pub(crate) fn create_reason<S: Alter>(tx: &mut Transaction<'_, S>) -> Result<(), Error>
-    ensures same_reference { tx.new.conn.ghost_name ≡ tx.old.conn.ghost_name }
     ensures made { IsMadeOnOk S.Store IsExtension tx.old.conn.now tx.new.conn.now result }
     ensures blank { IsMadeOnOk S.Store (IsTransition HasPieceTable HasAllTables)
         tx.old.conn.now tx.new.conn.now result }
     ensures ran { HaveRunOnOk S.Store (Plain reason_text ∷ []) tx.old.conn.now tx.new.conn.now result }
-    ensures inside { CommitsNothing S.Store tx.old.conn.now tx.new.conn.now }
+    ensures inside { StaysInside S.Store tx.old.conn tx.new.conn }
 {
     run(
         tx,
@@ -131,11 +126,10 @@ pub(crate) fn create_reason<S: Alter>(tx: &mut Transaction<'_, S>) -> Result<(),
 }
 
 fn insert_version<S: Alter>(tx: &mut Transaction<'_, S>) -> Result<(), Error>
-    ensures same_reference { tx.new.conn.ghost_name ≡ tx.old.conn.ghost_name }
     ensures made { IsMadeOnOk S.Store (IsTransition HasAllTables IsBlank)
         tx.old.conn.now tx.new.conn.now result }
     ensures ran { HaveRunOnOk S.Store (Plain insert_version_text ∷ []) tx.old.conn.now tx.new.conn.now result }
-    ensures inside { CommitsNothing S.Store tx.old.conn.now tx.new.conn.now }
+    ensures inside { StaysInside S.Store tx.old.conn tx.new.conn }
 {
     run(tx, "INSERT INTO feed_layout (version) VALUES (2)", &[])
 }

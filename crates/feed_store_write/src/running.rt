@@ -2,7 +2,7 @@
 ghost use Rattle.std.specs.Prelude.{◌≡◌};
 ghost use Rattle.sqlite_value.specs.declared.value.Value.TheVariants.{Text};
 ghost use Rattle.sqlite_value.specs.Value.{owned};
-ghost use Rattle.feed_store_write.specs.Effects.{CommitsNothing, IsRunOnOk};
+ghost use Rattle.feed_store_write.specs.Effects.{IsRunOnOk, StaysInside};
 
 use sqlite::{Alter, Error, Transaction};
 use sqlite_value::value::ValueRef;
@@ -13,9 +13,8 @@ pub fn run<S: Alter>(
     sql: &str,
     params: &[ValueRef<'_>],
 ) -> Result<(), Error>
-    ensures same_reference { tx.new.conn.ghost_name ≡ tx.old.conn.ghost_name }
     ensures ran { IsRunOnOk S.Store sql.now params.now tx.old.conn.now tx.new.conn.now result }
-    ensures inside { CommitsNothing S.Store tx.old.conn.now tx.new.conn.now }
+    ensures inside { StaysInside S.Store tx.old.conn tx.new.conn }
 {
     tx.execute(sql, params)?;
     Ok(())

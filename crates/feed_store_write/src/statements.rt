@@ -6,7 +6,7 @@ ghost use Rattle.feed_parts.specs.Shown.{shown_part, shown_parts};
 ghost use Rattle.feed_store_model.specs.Records.{bare, with_part, with_parts, with_reason, with_state};
 ghost use Rattle.feed_store_model.specs.Tables.{IsStored, number_of, reason_at};
 ghost use Rattle.feed_store_write.specs.Effects.{IsContentChange, IsContentChangeIf, IsReasonChangeIf};
-ghost use Rattle.feed_store_write.specs.Effects.{CommitsNothing, IsMadeOnOk};
+ghost use Rattle.feed_store_write.specs.Effects.{IsMadeOnOk, StaysInside};
 ghost use Rattle.feed_store_write.specs.Statements.{AddPart, AddReason, AddRelease, DeleteEarlier, HaveRunOnOk};
 ghost use Rattle.feed_store_write.specs.Statements.{SetState};
 
@@ -25,11 +25,10 @@ pub fn insert_release<S: Alter>(
     size: u32,
     value: State,
 ) -> Result<(), Error>
-    ensures same_reference { tx.new.conn.ghost_name ≡ tx.old.conn.ghost_name }
     ensures made { IsMadeOnOk S.Store (IsContentChangeIf (size ≤ max_file) (insert_record (bare name.now size value)))
         tx.old.conn.now tx.new.conn.now result }
     ensures ran { HaveRunOnOk S.Store (AddRelease name.now size value ∷ []) tx.old.conn.now tx.new.conn.now result }
-    ensures inside { CommitsNothing S.Store tx.old.conn.now tx.new.conn.now }
+    ensures inside { StaysInside S.Store tx.old.conn tx.new.conn }
 {
     run(
         tx,
@@ -50,12 +49,11 @@ pub fn insert_part<S: Alter>(
     name: &ReleaseName,
     part: &Part,
 ) -> Result<(), Error>
-    ensures same_reference { tx.new.conn.ghost_name ≡ tx.old.conn.ghost_name }
     ensures made { IsMadeOnOk S.Store (IsContentChange (changed name.now (with_part (shown_part part.now))))
         tx.old.conn.now tx.new.conn.now result }
     ensures ran { HaveRunOnOk S.Store (AddPart name.now (shown_part part.now) ∷ [])
         tx.old.conn.now tx.new.conn.now result }
-    ensures inside { CommitsNothing S.Store tx.old.conn.now tx.new.conn.now }
+    ensures inside { StaysInside S.Store tx.old.conn tx.new.conn }
 {
     let Ok(place) = u32::try_from(part.first) else {
         return Err(Error::SqliteFailure(ErrorCode::TooBig));
@@ -73,11 +71,10 @@ pub fn set_state<S: Alter>(
     name: &ReleaseName,
     value: State,
 ) -> Result<(), Error>
-    ensures same_reference { tx.new.conn.ghost_name ≡ tx.old.conn.ghost_name }
     ensures made { IsMadeOnOk S.Store (IsContentChange (changed name.now (with_state value)))
         tx.old.conn.now tx.new.conn.now result }
     ensures ran { HaveRunOnOk S.Store (SetState name.now value ∷ []) tx.old.conn.now tx.new.conn.now result }
-    ensures inside { CommitsNothing S.Store tx.old.conn.now tx.new.conn.now }
+    ensures inside { StaysInside S.Store tx.old.conn tx.new.conn }
 {
     run(
         tx,
@@ -92,11 +89,10 @@ pub fn insert_reason<S: Alter>(
     name: &ReleaseName,
     why: BadFile,
 ) -> Result<(), Error>
-    ensures same_reference { tx.new.conn.ghost_name ≡ tx.old.conn.ghost_name }
     ensures made { IsMadeOnOk S.Store (IsReasonChangeIf (IsStored why) (changed name.now (with_reason why)))
         tx.old.conn.now tx.new.conn.now result }
     ensures ran { HaveRunOnOk S.Store (AddReason name.now why ∷ []) tx.old.conn.now tx.new.conn.now result }
-    ensures inside { CommitsNothing S.Store tx.old.conn.now tx.new.conn.now }
+    ensures inside { StaysInside S.Store tx.old.conn tx.new.conn }
 {
     let (number, place) = numbers_of(why);
     run(
@@ -111,11 +107,10 @@ pub fn delete_earlier<S: Alter>(
     tx: &mut Transaction<'_, S>,
     name: &ReleaseName,
 ) -> Result<(), Error>
-    ensures same_reference { tx.new.conn.ghost_name ≡ tx.old.conn.ghost_name }
     ensures made { IsMadeOnOk S.Store (IsContentChange (without_earlier name.now))
         tx.old.conn.now tx.new.conn.now result }
     ensures ran { HaveRunOnOk S.Store (DeleteEarlier name.now ∷ []) tx.old.conn.now tx.new.conn.now result }
-    ensures inside { CommitsNothing S.Store tx.old.conn.now tx.new.conn.now }
+    ensures inside { StaysInside S.Store tx.old.conn tx.new.conn }
 {
     run(
         tx,
@@ -130,12 +125,11 @@ pub fn insert_parts<S: Alter>(
     name: &ReleaseName,
     parts: &[Part],
 ) -> Result<(), Error>
-    ensures same_reference { tx.new.conn.ghost_name ≡ tx.old.conn.ghost_name }
     ensures made { IsMadeOnOk S.Store (IsContentChange (changed name.now (with_parts (shown_parts parts.now))))
         tx.old.conn.now tx.new.conn.now result }
     ensures ran { HaveRunOnOk S.Store (map (AddPart name.now) (shown_parts parts.now))
         tx.old.conn.now tx.new.conn.now result }
-    ensures inside { CommitsNothing S.Store tx.old.conn.now tx.new.conn.now }
+    ensures inside { StaysInside S.Store tx.old.conn tx.new.conn }
 {
     for part in parts {
         insert_part(tx, name, part)?;

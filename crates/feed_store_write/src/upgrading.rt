@@ -1,7 +1,7 @@
 //! Upgrades a database of layout 1 to layout 2.
 ghost use Rattle.std.specs.Prelude.{◌≡◌, ◌∷◌, [], false, OnErr, OnOk};
 ghost use Rattle.feed_keep.specs.Shown.{shown, shown_record};
-ghost use Rattle.feed_store_write.specs.Effects.{CommitsNothing, IsReasonChangeIf, IsLive, IsMadeOnOk, IsRenumbering};
+ghost use Rattle.feed_store_write.specs.Effects.{IsReasonChangeIf, IsLive, IsMadeOnOk, IsRenumbering, StaysInside};
 ghost use Rattle.feed_store_write.specs.Effects.{IsUpgradeIf};
 ghost use Rattle.feed_store_write.specs.Statements.{HaveRunOnOk, IsCommitted, Plain, reason_of, reasons_of};
 ghost use Rattle.feed_store_write.specs.Statements.{upgrading};
@@ -43,11 +43,10 @@ pub fn upgrade<S: Alter>(conn: &mut Connection<S>, records: &[Record]) -> Result
 
 // Creates the table of the reasons, sets the number of the layout, and inserts the reasons.
 fn upgrade_tables<S: Alter>(tx: &mut Transaction<'_, S>, records: &[Record]) -> Result<(), Error>
-    ensures same_reference { tx.new.conn.ghost_name ≡ tx.old.conn.ghost_name }
     ensures made { IsMadeOnOk S.Store (IsUpgradeIf (AreStored (shown records.now)) (explained_with (shown records.now)))
         tx.old.conn.now tx.new.conn.now result }
     ensures ran { HaveRunOnOk S.Store (upgrading (shown records.now)) tx.old.conn.now tx.new.conn.now result }
-    ensures inside { CommitsNothing S.Store tx.old.conn.now tx.new.conn.now }
+    ensures inside { StaysInside S.Store tx.old.conn tx.new.conn }
 {
     create_reason(tx)?;
     set_layout_number(tx)?;
@@ -56,22 +55,20 @@ fn upgrade_tables<S: Alter>(tx: &mut Transaction<'_, S>, records: &[Record]) -> 
 
 // Sets the number of the layout.
 fn set_layout_number<S: Alter>(tx: &mut Transaction<'_, S>) -> Result<(), Error>
-    ensures same_reference { tx.new.conn.ghost_name ≡ tx.old.conn.ghost_name }
     ensures made { IsMadeOnOk S.Store IsRenumbering tx.old.conn.now tx.new.conn.now result }
     ensures ran { HaveRunOnOk S.Store (Plain set_version_text ∷ []) tx.old.conn.now tx.new.conn.now result }
-    ensures inside { CommitsNothing S.Store tx.old.conn.now tx.new.conn.now }
+    ensures inside { StaysInside S.Store tx.old.conn tx.new.conn }
 {
     run(tx, "UPDATE feed_layout SET version = 2", &[])
 }
 
 // Inserts the reasons of the records that have one.
 fn insert_reasons<S: Alter>(tx: &mut Transaction<'_, S>, records: &[Record]) -> Result<(), Error>
-    ensures same_reference { tx.new.conn.ghost_name ≡ tx.old.conn.ghost_name }
     ensures made { IsMadeOnOk S.Store (IsReasonChangeIf (AreStored (shown records.now))
         (explained_with (shown records.now)))
         tx.old.conn.now tx.new.conn.now result }
     ensures ran { HaveRunOnOk S.Store (reasons_of (shown records.now)) tx.old.conn.now tx.new.conn.now result }
-    ensures inside { CommitsNothing S.Store tx.old.conn.now tx.new.conn.now }
+    ensures inside { StaysInside S.Store tx.old.conn tx.new.conn }
 {
     for record in records {
         insert_reason_of(tx, record)?;
@@ -81,13 +78,12 @@ fn insert_reasons<S: Alter>(tx: &mut Transaction<'_, S>, records: &[Record]) -> 
 
 // Inserts the reason of a record, if it has one.
 fn insert_reason_of<S: Alter>(tx: &mut Transaction<'_, S>, kept: &Record) -> Result<(), Error>
-    ensures same_reference { tx.new.conn.ghost_name ≡ tx.old.conn.ghost_name }
     ensures made { IsMadeOnOk S.Store (IsReasonChangeIf (IsStoredIn (shown_record kept.now))
         (explain (shown_record kept.now)))
         tx.old.conn.now tx.new.conn.now result }
     ensures ran { HaveRunOnOk S.Store (reason_of (shown_record kept.now).name (shown_record kept.now).reason)
         tx.old.conn.now tx.new.conn.now result }
-    ensures inside { CommitsNothing S.Store tx.old.conn.now tx.new.conn.now }
+    ensures inside { StaysInside S.Store tx.old.conn tx.new.conn }
 {
     match kept.reason {
         Some(why) => insert_reason(tx, &kept.name, why),

@@ -11,6 +11,7 @@ returns-clause-ran g c clean =
 
 pub returns-clause-inside : goal.returns-clause-inside
 returns-clause-inside g c = record {
+  same_reference = c.execute.ensures.same_reference;
   kept = λ clean. kept_inside c.args.sql.now (bound c.args.params.now) (state g.S.Store c.args.tx.now.conn.now) (state g.S.Store c.execute.new.self.conn.now) c.execute.result
       (λ off. ap (state g.S.Store) (c.execute.ensures.ended off).1) (λ live. c.execute.ensures.runs clean live);
   survives = c.execute.ensures.survives;
@@ -18,6 +19,7 @@ returns-clause-inside g c = record {
 
 pub returns-in_err-execute-clause-inside : goal.returns-in_err-execute-clause-inside
 returns-in_err-execute-clause-inside g c = record {
+  same_reference = c.execute.ensures.same_reference;
   kept = λ clean. kept_inside c.args.sql.now (bound c.args.params.now) (state g.S.Store c.args.tx.now.conn.now) (state g.S.Store c.execute.new.self.conn.now) c.execute.result
       (λ off. ap (state g.S.Store) (c.execute.ensures.ended off).1) (λ live. c.execute.ensures.runs clean live);
   survives = c.execute.ensures.survives;

@@ -1,4 +1,4 @@
-use Rattle.std.proofs.Common.{◌≡◌, ◌∷◌, ◌++◌, [], ◌+◌, map, take, List, refl, rules, subst, sym, ◌∙◌, ap}
+use Rattle.std.proofs.Common.{◌≡◌, ◌∷◌, ◌++◌, [], ◌+◌, map, take, List, refl, subst, sym, ◌∙◌, ap}
 use Rattle.std.proofs.lemmas.List.{map-append, take_more, take_all}
 use Rattle.sqlite.specs.Held.{state}
 use Rattle.feed_model.specs.Content as model
@@ -15,7 +15,6 @@ use Rattle.feed_store_write.proofs.statements.insert_parts.Goals as goal
 
 pub loop-part-init : goal.loop-part-init
 loop-part-init g c = record {
-  lent = refl;
   inside = nothing_done;
   ran = λ clean. refl;
   made = λ clean. none_added c.args.name.now (state g.S.Store c.args.tx.now.conn.now);
@@ -33,7 +32,6 @@ loop-part-preserved g c =
     take_more parts at c.part-item.result c.loop-part-test.true ∙ ap (λ (p : Part). take at parts ++ p ∷ []) (sym c.part-item.is) in
     let more : shown_parts (take (at + 1) parts) ≡ shown_parts (take at parts) ++ shown_part c.part-item.result ∷ [] =
     ap shown_parts passed ∙ map-append shown_part (take at parts) (c.part-item.result ∷ []) in record {
-      lent = search rules;
       inside = both_inside c.loop-part.invariant.inside c.insert_part.ensures.inside;
       ran = λ clean. subst (λ (l : List Statement). HaveRun g.S.Store l c.args.tx.now.conn.now c.insert_part.new.tx.conn.now) (sym (ap (map (AddPart n)) more ∙ map-append (AddPart n) _ _))
           (runs_then g.S.Store (map (AddPart n) (shown_parts (take at parts))) (AddPart n (shown_part c.part-item.result) ∷ []) c.args.tx.now.conn.now c.loop-part.tx.conn.now

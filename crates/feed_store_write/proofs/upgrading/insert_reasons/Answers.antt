@@ -1,4 +1,4 @@
-use Rattle.std.proofs.Common.{◌≡◌, ◌∷◌, ◌++◌, [], ◌+◌, take, List, refl, rules, subst, sym, ◌∙◌, ap}
+use Rattle.std.proofs.Common.{◌≡◌, ◌∷◌, ◌++◌, [], ◌+◌, take, List, refl, subst, sym, ◌∙◌, ap}
 use Rattle.std.proofs.lemmas.List.{map-append, take_more, take_all}
 use Rattle.sqlite.specs.Held.{state}
 use Rattle.feed_model.specs.Content as model
@@ -14,7 +14,6 @@ use Rattle.feed_store_write.proofs.upgrading.insert_reasons.Goals as goal
 
 pub loop-record-init : goal.loop-record-init
 loop-record-init g c = record {
-  lent = refl;
   inside = nothing_done;
   ran = λ clean. refl;
   made = λ clean. none_explained (state g.S.Store c.args.tx.now.conn.now);
@@ -31,7 +30,6 @@ loop-record-preserved g c =
     take_more records at c.record-item.result c.loop-record-test.true ∙ ap (λ (r : Record). take at records ++ r ∷ []) (sym c.record-item.is) in
     let more : shown (take (at + 1) records) ≡ shown (take at records) ++ shown_record c.record-item.result ∷ [] =
     ap shown passed ∙ map-append shown_record (take at records) (c.record-item.result ∷ []) in record {
-      lent = search rules;
       inside = both_inside c.loop-record.invariant.inside c.insert_reason_of.ensures.inside;
       ran = λ clean. subst (λ (l : List Statement). HaveRun g.S.Store l c.args.tx.now.conn.now c.insert_reason_of.new.tx.conn.now)
           (sym (ap reasons_of more ∙ reasons_last (shown (take at records)) (shown_record c.record-item.result)))
