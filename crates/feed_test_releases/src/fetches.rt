@@ -215,16 +215,12 @@ fn fetch_outcome(
     let mut out = Printer::new(Sink::new(alloc, &calls, fails_at));
     let mut faults = Printer::new(Sink::new(alloc, &calls, fails_at));
     let mut server = Server::new(alloc, turns, &requests);
-    let status = fetch_with(
-        alloc,
-        &mut server,
-        feed,
-        HOST,
-        &name,
+    let order = Order {
+        host: HOST,
+        name: &name,
         piece,
-        &mut out,
-        &mut faults,
-    );
+    };
+    let status = fetch_with(alloc, &mut server, feed, &order, &mut out, &mut faults);
     drop(server);
     Ok(Outcome {
         printed: out.into_writer().text,
