@@ -37,4 +37,7 @@ answering() {
 # Waits until a node with an active release answers readers: the check of large lists takes it a while.
 ready() { until curl -sSf "http://$ADDR/health/ready" > ready 2>&1; do sleep 0.05; done; }
 
+# Waits until the log of a node has N requests: a client has its reply before the line is written.
+logged() { until [ "$(wc -l < access)" -gt "$1" ]; do sleep 0.05; done; }
+
 ended() { kill -9 $NODE; wait $NODE 2> /dev/null; true; }
