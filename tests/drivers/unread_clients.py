@@ -15,7 +15,8 @@ import time
 CLIENTS, DEPTH = 200, 14
 LIMIT = 33_554_432
 MEMORY = 64 * 1_024
-SECONDS = 60
+# A slow machine makes a hundred long replies in minutes. The node has to allow its clients as much time.
+SECONDS = 600
 
 
 def kib_of(process):
@@ -28,7 +29,7 @@ def kib_of(process):
 def answered(address, target):
     """The reply to one request."""
     reply = b""
-    with socket.create_connection(address, timeout=60) as peer:
+    with socket.create_connection(address, timeout=SECONDS) as peer:
         peer.sendall(f"GET {target} HTTP/1.1\r\nHost: h\r\nConnection: close\r\n\r\n".encode())
         while part := peer.recv(65_536):
             reply += part
@@ -52,7 +53,7 @@ class Unread:
         peer = socket.socket()
         # Unread bytes stay with the node, and not with the system.
         peer.setsockopt(socket.SOL_SOCKET, socket.SO_RCVBUF, 4_096)
-        peer.settimeout(60)
+        peer.settimeout(SECONDS)
         peer.connect(self.address)
         peer.sendall(self.requests)
         return peer
