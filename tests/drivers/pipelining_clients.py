@@ -3,8 +3,8 @@
 
 pipelining_clients.py [-v] ADDR LONG MILLIS
 
-The well-behaved client asks for /status, and 98 of 100 answers have to be there within MILLIS, or within thrice the time
-that LONG, a target with a long reply, takes without the others. These are, one kind after the other,
+The well-behaved client asks for /status, and 98 of 100 answers have to be there within MILLIS, or within thrice the
+time that LONG, a target with a long reply, takes without the others. These are, one kind after the other,
 
   unread     300 that pipeline requests for LONG, and read nothing
   titles     8 that pipeline searches for titles, and read
