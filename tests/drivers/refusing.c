@@ -9,26 +9,19 @@
    REFUSED_FOLDER, which also has its output. Up to REFUSED_JOBS copies run side by side. When one ends, the line
    `K STATUS` goes to the descriptor REFUSED_DONE, with a negative STATUS for a signal. The line is `K open` if a socket
    was open at the request, which a copy would share: there is no such copy. */
-#include <dirent.h>
+#include "copying.h"
 #include <errno.h>
-#include <fcntl.h>
-#include <limits.h>
 #include <stddef.h>
-#include <stdio.h>
 #include <stdlib.h>
-#include <string.h>
-#include <sys/stat.h>
 #include <sys/wait.h>
-#include <unistd.h>
 
 extern void *__libc_malloc(size_t);
 extern void *__libc_calloc(size_t, size_t);
 extern void *__libc_realloc(void *, size_t);
 extern void *__libc_memalign(size_t, size_t);
 
-/* The most copies side by side, the descriptors that may be open in a copied process, the seconds that a copy may take,
-   the status of a copy that could not be made, and the longest path. */
-enum { MOST_JOBS = 64, MOST_OPEN = 64, SECONDS = 60, UNCOPIED = 97, LONGEST = 2 * PATH_MAX };
+/* The most copies side by side. */
+enum { MOST_JOBS = 64 };
 
 struct copy {
     pid_t process;
@@ -78,80 +71,11 @@ __attribute__((destructor)) static void end(void) {
     dprintf((int)number_of("REFUSED_COUNT"), "%lu\n", asked);
 }
 
-/* What a descriptor is open on: empty if it is closed. */
-static const char *opened(int descriptor) {
-    static char path[PATH_MAX];
-    char name[32];
-    snprintf(name, sizeof name, "/proc/self/fd/%d", descriptor);
-    ssize_t size = readlink(name, path, sizeof path - 1);
-    path[size < 0 ? 0 : size] = 0;
-    return path;
-}
-
 static int has_socket(void) {
     for (int descriptor = 0; descriptor < MOST_OPEN; descriptor++)
         if (!strncmp(opened(descriptor), "socket:", 7))
             return 1;
     return 0;
-}
-
-static void must(int holds) {
-    if (!holds)
-        _exit(UNCOPIED);
-}
-
-static void copy_file(const char *from, const char *to) {
-    static char block[65536];
-    int source = open(from, O_RDONLY), target = open(to, O_WRONLY | O_CREAT | O_TRUNC, 0600);
-    must(source >= 0 && target >= 0);
-    for (ssize_t size; (size = read(source, block, sizeof block)) != 0;)
-        must(size > 0 && write(target, block, (size_t)size) == size);
-    close(source);
-    close(target);
-}
-
-/* Copies the files of a folder. A link is made again. */
-static void copy_folder(const char *from, const char *to) {
-    static char source[LONGEST], target[LONGEST], link[PATH_MAX];
-    DIR *folder = opendir(from);
-    must(folder && !mkdir(to, 0700));
-    for (struct dirent *entry; (entry = readdir(folder));) {
-        if (!strcmp(entry->d_name, ".") || !strcmp(entry->d_name, ".."))
-            continue;
-        snprintf(source, sizeof source, "%s/%s", from, entry->d_name);
-        snprintf(target, sizeof target, "%s/%s", to, entry->d_name);
-        ssize_t size = readlink(source, link, sizeof link - 1);
-        if (size < 0) {
-            copy_file(source, target);
-        } else {
-            link[size] = 0;
-            must(!symlink(link, target));
-        }
-    }
-    closedir(folder);
-}
-
-/* Moves this process into a copy of its folder. It opens each of its files again at its place, one of the folder in the
-   copy, since a copied process would share the place in a file. */
-static void move_to_copy(unsigned long request) {
-    static char copy[PATH_MAX], target[LONGEST];
-    const char *folder = getenv("REFUSED_FOLDER");
-    size_t size = strlen(folder);
-    snprintf(copy, sizeof copy, "%s/%lu", getenv("REFUSED_COPIES"), request);
-    copy_folder(folder, copy);
-    for (int descriptor = 0; descriptor < MOST_OPEN; descriptor++) {
-        const char *path = opened(descriptor);
-        if (path[0] != '/')
-            continue;
-        int is_copied = !strncmp(path, folder, size) && path[size] == '/';
-        snprintf(target, sizeof target, "%s%s", is_copied ? copy : "", is_copied ? path + size : path);
-        int flags = fcntl(descriptor, F_GETFL), again = open(target, flags & ~(O_CREAT | O_EXCL | O_TRUNC));
-        must(again >= 0 && lseek(again, lseek(descriptor, 0, SEEK_CUR), SEEK_SET) >= 0);
-        must(dup2(again, descriptor) == descriptor && !close(again));
-    }
-    static char here[PATH_MAX];
-    if (getcwd(here, sizeof here) && !strcmp(here, folder))
-        must(!chdir(copy));
 }
 
 /* Makes a copy of this process that is refused its request. Returns whether this process is the copy. */
@@ -170,7 +94,7 @@ static int is_copied(unsigned long request) {
         abort();
     if (process == 0) {
         is_copy = 1;
-        move_to_copy(request);
+        move_to_copy(getenv("REFUSED_FOLDER"), getenv("REFUSED_COPIES"), request);
         must(write(made[1], "", 1) == 1);
         close(made[0]);
         close(made[1]);

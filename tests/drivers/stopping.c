@@ -1,69 +1,71 @@
-/* Loaded into a program by LD_PRELOAD: stops one of its files after some of the calls that read, write, cut, measure
-   and sync it.
+/* Loaded into a program by LD_PRELOAD: stops one of its files at each of the calls that read, write, cut, measure and sync
+   it, each time in a copy of the process. The program itself meets no stop.
 
-   STOP_FILE is the end of the file's path, and the first STOP_AFTER calls on it work. STOP_HOW says what the later ones
-   do: with `fail` each fails and changes nothing; with `half` the process ends at the first, and a write first writes
-   half of its bytes. A stopped call creates the empty file STOP_MARK.
+   STOP_FILE is the end of the file's path. At the call K on it, from 0, the process is copied. The copy works in the
+   folder STOP_COPIES/K, a copy of the process's folder STOP_FOLDER, which also has its output. STOP_HOW says what the
+   copy does: with `fail` this call and each later one on the file fails and changes nothing; with `half` the copy ends
+   at this call, and a write first writes half of its bytes. The process waits for each copy.
    A successful sync of any file copies it to PATH.synced: after a loss of power at least that is left. */
 #define _GNU_SOURCE
+#include "copying.h"
 #include <dlfcn.h>
 #include <errno.h>
-#include <fcntl.h>
-#include <limits.h>
-#include <stdio.h>
 #include <stdlib.h>
-#include <string.h>
-#include <sys/stat.h>
-#include <unistd.h>
+#include <sys/wait.h>
 
 /* The function of the C library that the one here replaces. */
 #define NEXT(name) ((__typeof__(&name))dlsym(RTLD_NEXT, #name))
 
-static const char *file, *how, *mark;
-static unsigned long calls_left;
+/* The status of a copy that ends at its stop. */
+enum { STOPPED = 9 };
+
+static const char *file, *folder, *how, *copies;
+static unsigned long calls;
+static int is_copy;
 
 __attribute__((constructor)) static void begin(void) {
-    const char *after = getenv("STOP_AFTER");
+    copies = getenv("STOP_COPIES");
     file = getenv("STOP_FILE");
+    folder = getenv("STOP_FOLDER");
     how = getenv("STOP_HOW");
-    mark = getenv("STOP_MARK");
-    if (!after || !file || !how || !mark)
+    if (!copies || !file || !folder || !how)
         abort();
-    calls_left = strtoul(after, NULL, 10);
 }
 
-static void path_of(int fd, char path[PATH_MAX]) {
-    char link[64];
-    snprintf(link, sizeof link, "/proc/self/fd/%d", fd);
-    ssize_t len = readlink(link, path, PATH_MAX - 1);
-    path[len < 0 ? 0 : len] = 0;
+/* Makes a copy of this process whose file is stopped. Returns whether this process is the copy. */
+static int is_copied(unsigned long call) {
+    int status;
+    pid_t process = fork();
+    if (process == 0) {
+        is_copy = 1;
+        move_to_copy(folder, copies, call);
+        alarm(SECONDS);
+        return 1;
+    }
+    if (process < 0 || waitpid(process, &status, 0) != process || !WIFEXITED(status) || WEXITSTATUS(status) == UNCOPIED)
+        abort();
+    return 0;
 }
 
 static int is_stopped(int fd) {
-    char path[PATH_MAX];
-    path_of(fd, path);
+    const char *path = opened(fd);
     size_t len = strlen(path), end = strlen(file);
     if (len < end || strcmp(path + len - end, file) != 0)
         return 0;
-    if (calls_left == 0)
-        return 1;
-    calls_left--;
-    return 0;
+    return is_copy || is_copied(calls++);
 }
 
 /* Ends the process, or returns the result of a failed call. */
 static int stopped(void) {
-    close(open(mark, O_CREAT | O_WRONLY, 0666));
     if (strcmp(how, "fail") != 0)
-        _exit(9);
+        _exit(STOPPED);
     errno = EIO;
     return -1;
 }
 
 static void keep_synced(int fd) {
     char path[PATH_MAX + 8], block[65536];
-    path_of(fd, path);
-    int copy = open(strcat(path, ".synced"), O_CREAT | O_TRUNC | O_WRONLY, 0666);
+    int copy = open(strcat(strcpy(path, opened(fd)), ".synced"), O_CREAT | O_TRUNC | O_WRONLY, 0666);
     off_t at = 0;
     for (ssize_t got; (got = NEXT(pread)(fd, block, sizeof block, at)) > 0; at += got)
         if (write(copy, block, (size_t)got) != got)
