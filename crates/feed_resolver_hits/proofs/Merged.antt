@@ -14,7 +14,7 @@ use Rattle.feed_kbart.specs.declared.identifiers.Identifiers.TheVariants.{Serial
 use Rattle.feed_answer.specs.Grades.{is_named}
 use Rattle.feed_answer.specs.QueryValue.{QueryValue}
 use Rattle.feed_resolver_hits.specs.Looks.{asked_places}
-use Rattle.feed_resolver_hits.specs.Merging.{merged, next_place, with_isbns, with_issns}
+use Rattle.feed_resolver_hits.specs.Merging.{merged, next_place, with_each}
 use Rattle.feed_resolver_hits.specs.Searches.{is_asked}
 
 -- the places from a base on
@@ -149,29 +149,17 @@ or_swap true b c d = refl
 or_swap false true c d = sym (or_true c)
 or_swap false false c d = refl
 
-abbrev pub any_issn : List (List ℕ) → RowValue → Bool
-any_issn issns row = list_any (λ issn. has_issn issn row) issns
+abbrev pub any_one : (List ℕ → RowValue → Bool) → List (List ℕ) → RowValue → Bool
+any_one has identifiers row = list_any (λ one. has one row) identifiers
 
-abbrev pub any_isbn : List (List ℕ) → RowValue → Bool
-any_isbn isbns row = list_any (λ isbn. has_isbn isbn row) isbns
-
-issns_are : (test : RowValue → Bool) (limit : ℕ) (rows : List RowValue) (issns : List (List ℕ))
-    → with_issns limit rows (take limit (places_by test rows)) issns ≡ take limit (places_by (either test (any_issn issns)) rows)
-issns_are test limit rows [] = ap (take limit) (alike test (either test (any_issn [])) rows (λ row. sym (or_false (test row))))
-issns_are test limit rows (issn ∷ issns) =
-    ap (λ l. with_issns limit rows l issns) (one_more test (has_issn issn) limit rows)
-    ∙ issns_are (either test (has_issn issn)) limit rows issns
-    ∙ ap (take limit) (alike (either (either test (has_issn issn)) (any_issn issns)) (either test (any_issn (issn ∷ issns))) rows
-    (λ row. or_joint (test row) (has_issn issn row) (any_issn issns row)))
-
-isbns_are : (test : RowValue → Bool) (limit : ℕ) (rows : List RowValue) (isbns : List (List ℕ))
-    → with_isbns limit rows (take limit (places_by test rows)) isbns ≡ take limit (places_by (either test (any_isbn isbns)) rows)
-isbns_are test limit rows [] = ap (take limit) (alike test (either test (any_isbn [])) rows (λ row. sym (or_false (test row))))
-isbns_are test limit rows (isbn ∷ isbns) =
-    ap (λ l. with_isbns limit rows l isbns) (one_more test (has_isbn isbn) limit rows)
-    ∙ isbns_are (either test (has_isbn isbn)) limit rows isbns
-    ∙ ap (take limit) (alike (either (either test (has_isbn isbn)) (any_isbn isbns)) (either test (any_isbn (isbn ∷ isbns))) rows
-    (λ row. or_joint (test row) (has_isbn isbn row) (any_isbn isbns row)))
+each_are : (has : List ℕ → RowValue → Bool) (test : RowValue → Bool) (limit : ℕ) (rows : List RowValue) (identifiers : List (List ℕ))
+    → with_each has limit rows (take limit (places_by test rows)) identifiers ≡ take limit (places_by (either test (any_one has identifiers)) rows)
+each_are has test limit rows [] = ap (take limit) (alike test (either test (any_one has [])) rows (λ row. sym (or_false (test row))))
+each_are has test limit rows (one ∷ others) =
+    ap (λ l. with_each has limit rows l others) (one_more test (has one) limit rows)
+    ∙ each_are has (either test (has one)) limit rows others
+    ∙ ap (take limit) (alike (either (either test (has one)) (any_one has others)) (either test (any_one has (one ∷ others))) rows
+    (λ row. or_joint (test row) (has one row) (any_one has others row)))
 
 -- a row has one of the identifiers, in print or online
 named_next : (identifier : List ℕ) (own : Option (List ℕ)) (asked : List (List ℕ)) → (is_same_identifier identifier own || is_named own asked) ≡ is_named own (identifier ∷ asked)
@@ -196,10 +184,10 @@ asked_by (Serial print online) issns isbns = is_named print issns || is_named on
 asked_by (Book print online) issns isbns = is_named print isbns || is_named online isbns
 
 -- a row has one of the identifiers of a query
-pub asked_either : (query : QueryValue) (row : RowValue) → either (any_issn query.issns) (any_isbn query.isbns) row ≡ is_asked query row
+pub asked_either : (query : QueryValue) (row : RowValue) → either (any_one has_issn query.issns) (any_one has_isbn query.isbns) row ≡ is_asked query row
 asked_either query row = go row.identifiers refl
   where
-    go : (own : Identifiers) → row.identifiers ≡ own → either (any_issn query.issns) (any_isbn query.isbns) row ≡ is_asked query row
+    go : (own : Identifiers) → row.identifiers ≡ own → either (any_one has_issn query.issns) (any_one has_isbn query.isbns) row ≡ is_asked query row
     go (Serial print online) is =
         rw is (ap (λ b. b || list_any (λ isbn. is_same_identifier isbn None || is_same_identifier isbn None) query.isbns) (any_named print online query.issns)
         ∙ ap (λ b. (is_named print query.issns || is_named online query.issns) || b) (any_named None None query.isbns)
@@ -210,13 +198,13 @@ asked_either query row = go row.identifiers refl
 
 -- the first places of all
 pub asked_are : (query : QueryValue) (limit : ℕ) (rows : List RowValue)
-    → with_isbns limit rows (with_issns limit rows [] query.issns) query.isbns ≡ take limit (asked_places query rows)
+    → with_each has_isbn limit rows (with_each has_issn limit rows [] query.issns) query.isbns ≡ take limit (asked_places query rows)
 asked_are query limit rows =
     let none : [] ≡ take limit (places_by (λ row. false) rows) = sym (ap (take limit) (none_placed rows) ∙ none_of limit) in
-    ap (λ l. with_isbns limit rows (with_issns limit rows l query.issns) query.isbns) none
-    ∙ ap (λ l. with_isbns limit rows l query.isbns) (issns_are (λ row. false) limit rows query.issns)
-    ∙ isbns_are (either (λ row. false) (any_issn query.issns)) limit rows query.isbns
-    ∙ ap (take limit) (alike (either (either (λ row. false) (any_issn query.issns)) (any_isbn query.isbns)) (is_asked query) rows (asked_either query))
+    ap (λ l. with_each has_isbn limit rows (with_each has_issn limit rows l query.issns) query.isbns) none
+    ∙ ap (λ l. with_each has_isbn limit rows l query.isbns) (each_are has_issn (λ row. false) limit rows query.issns)
+    ∙ each_are has_isbn (either (λ row. false) (any_one has_issn query.issns)) limit rows query.isbns
+    ∙ ap (take limit) (alike (either (either (λ row. false) (any_one has_issn query.issns)) (any_one has_isbn query.isbns)) (is_asked query) rows (asked_either query))
 
 -- those of one identifier
 sole : {A : Type 0} → (xs : List A) (d : A) → length xs ≡ 1 → xs ≡ get_or xs 0 d ∷ []
@@ -229,14 +217,14 @@ pub issn_alone : (query : QueryValue) (issn : List ℕ) (limit : ℕ) (rows : Li
 issn_alone query issn limit rows issns isbns =
     ap (take limit) (alike (has_issn issn) (is_asked query) rows (λ row.
     sym (or_false (has_issn issn row)) ∙ sym (or_false (has_issn issn row || false))
-    ∙ ap (λ i. any_issn i row || any_isbn [] row) (sym issns) ∙ ap (λ i. any_issn query.issns row || any_isbn i row) (sym isbns) ∙ asked_either query row))
+    ∙ ap (λ i. any_one has_issn i row || any_one has_isbn [] row) (sym issns) ∙ ap (λ i. any_one has_issn query.issns row || any_one has_isbn i row) (sym isbns) ∙ asked_either query row))
 
 pub isbn_alone : (query : QueryValue) (isbn : List ℕ) (limit : ℕ) (rows : List RowValue) → query.issns ≡ [] → query.isbns ≡ isbn ∷ []
     → take limit (places_with_isbn isbn rows) ≡ take limit (asked_places query rows)
 isbn_alone query isbn limit rows issns isbns =
     ap (take limit) (alike (has_isbn isbn) (is_asked query) rows (λ row.
     sym (or_false (has_isbn isbn row))
-    ∙ ap (λ i. any_issn i row || any_isbn (isbn ∷ []) row) (sym issns) ∙ ap (λ i. any_issn query.issns row || any_isbn i row) (sym isbns) ∙ asked_either query row))
+    ∙ ap (λ i. any_one has_issn i row || any_one has_isbn (isbn ∷ []) row) (sym issns) ∙ ap (λ i. any_one has_issn query.issns row || any_one has_isbn i row) (sym isbns) ∙ asked_either query row))
 
 -- ---- the loop of a merge
 

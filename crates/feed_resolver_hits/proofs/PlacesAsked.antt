@@ -4,7 +4,7 @@ use Rattle.std.specs.Prelude.{◌↔◌, if◌then◌else◌}
 use Rattle.std.specs.List.{Contains, cons_option, enumerate_from, filter_map, flat_map}
 use Rattle.std.proofs.lemmas.List.Elements.{Contains-append_cases, Contains-append_left, Contains-append_right}
 use Rattle.feed_embargo.specs.Today.{TodayValue}
-use Rattle.feed_kbart.specs.Places.{has_isbn, has_issn, place_by, places_by, places_with, places_with_isbn}
+use Rattle.feed_kbart.specs.Places.{has_isbn, has_issn, place_by, places_by}
 use Rattle.feed_kbart.specs.RowValue.{RowValue}
 use Rattle.feed_names.specs.ReleaseName.{Name}
 use Rattle.feed_site.specs.Site as site_file
@@ -16,7 +16,7 @@ use Rattle.feed_resolver_hits.specs.Looks.{asked_places, looks_in}
 use Rattle.feed_resolver_hits.specs.Searches.{SearchValue, is_asked}
 use Rattle.feed_resolver_hits.specs.Tallying.{looks_at}
 use Rattle.feed_resolver_hits.proofs.LooksPlaced.{front_map, looks_placed}
-use Rattle.feed_resolver_hits.proofs.Merged.{alike, any_isbn, any_issn, asked_either, either, none_placed}
+use Rattle.feed_resolver_hits.proofs.Merged.{alike, any_one, asked_either, either, none_placed}
 
 -- ---- the elements of a list with one more
 
@@ -106,52 +106,42 @@ module _ (place : ℕ) where
 
   -- ---- the places of some identifiers
 
-  of_issns : (rows : List RowValue) (issns : List (List ℕ)) → At (places_by (any_issn issns) rows) → At (places_of_issns issns rows)
-  of_issns rows [] has = subst At (none_placed rows) has
-  of_issns rows (issn ∷ issns) has = elim (placed_cases (has_issn issn) (any_issn issns) rows has) [
-    | inl first ↦ Contains-append_left (places_with issn rows) (places_of_issns issns rows) place first
-    | inr later ↦ Contains-append_right (places_with issn rows) (places_of_issns issns rows) place (of_issns rows issns later)
-  ]
+  module _ (has : List ℕ → RowValue → Bool) (rows : List RowValue) where
+    abbrev of_each : List (List ℕ) → List ℕ
+    of_each identifiers = flat_map (λ one. places_by (has one) rows) identifiers
 
-  of_isbns : (rows : List RowValue) (isbns : List (List ℕ)) → At (places_by (any_isbn isbns) rows) → At (places_of_isbns isbns rows)
-  of_isbns rows [] has = subst At (none_placed rows) has
-  of_isbns rows (isbn ∷ isbns) has = elim (placed_cases (has_isbn isbn) (any_isbn isbns) rows has) [
-    | inl first ↦ Contains-append_left (places_with_isbn isbn rows) (places_of_isbns isbns rows) place first
-    | inr later ↦ Contains-append_right (places_with_isbn isbn rows) (places_of_isbns isbns rows) place (of_isbns rows isbns later)
-  ]
+    of_all : (identifiers : List (List ℕ)) → At (places_by (any_one has identifiers) rows) → At (of_each identifiers)
+    of_all [] there = subst At (none_placed rows) there
+    of_all (one ∷ others) there = elim (placed_cases (has one) (any_one has others) rows there) [
+      | inl first ↦ Contains-append_left (places_by (has one) rows) (of_each others) place first
+      | inr later ↦ Contains-append_right (places_by (has one) rows) (of_each others) place (of_all others later)
+    ]
 
-  with_issn : (rows : List RowValue) (issns : List (List ℕ)) → At (places_of_issns issns rows) → At (places_by (any_issn issns) rows)
-  with_issn rows [] has = absurd (none_in place has)
-  with_issn rows (issn ∷ issns) has = elim (Contains-append_cases (places_with issn rows) (places_of_issns issns rows) place has) [
-    | inl first ↦ more_placed (has_issn issn) (any_issn (issn ∷ issns)) rows (λ row. first_passes (has_issn issn row) (any_issn issns row)) first
-    | inr later ↦ more_placed (any_issn issns) (any_issn (issn ∷ issns)) rows (λ row. second_passes (has_issn issn row) (any_issn issns row)) (with_issn rows issns later)
-  ]
-
-  with_isbn : (rows : List RowValue) (isbns : List (List ℕ)) → At (places_of_isbns isbns rows) → At (places_by (any_isbn isbns) rows)
-  with_isbn rows [] has = absurd (none_in place has)
-  with_isbn rows (isbn ∷ isbns) has = elim (Contains-append_cases (places_with_isbn isbn rows) (places_of_isbns isbns rows) place has) [
-    | inl first ↦ more_placed (has_isbn isbn) (any_isbn (isbn ∷ isbns)) rows (λ row. first_passes (has_isbn isbn row) (any_isbn isbns row)) first
-    | inr later ↦ more_placed (any_isbn isbns) (any_isbn (isbn ∷ isbns)) rows (λ row. second_passes (has_isbn isbn row) (any_isbn isbns row)) (with_isbn rows isbns later)
-  ]
+    with_any : (identifiers : List (List ℕ)) → At (of_each identifiers) → At (places_by (any_one has identifiers) rows)
+    with_any [] there = absurd (none_in place there)
+    with_any (one ∷ others) there = elim (Contains-append_cases (places_by (has one) rows) (of_each others) place there) [
+      | inl first ↦ more_placed (has one) (any_one has (one ∷ others)) rows (λ row. first_passes (has one row) (any_one has others row)) first
+      | inr later ↦ more_placed (any_one has others) (any_one has (one ∷ others)) rows (λ row. second_passes (has one row) (any_one has others row)) (with_any others later)
+    ]
 
   asked_same : (query : QueryValue) (rows : List RowValue) → At (asked_places query rows) ↔ At (places_among query rows)
   asked_same query rows = (forth, back)
     where
-      same : places_by (either (any_issn query.issns) (any_isbn query.isbns)) rows ≡ asked_places query rows
-      same = alike (either (any_issn query.issns) (any_isbn query.isbns)) (is_asked query) rows (asked_either query)
+      same : places_by (either (any_one has_issn query.issns) (any_one has_isbn query.isbns)) rows ≡ asked_places query rows
+      same = alike (either (any_one has_issn query.issns) (any_one has_isbn query.isbns)) (is_asked query) rows (asked_either query)
 
       forth : At (asked_places query rows) → At (places_among query rows)
-      forth has = elim (placed_cases (any_issn query.issns) (any_isbn query.isbns) rows (subst At (sym same) has)) [
-        | inl first ↦ Contains-append_left (places_of_issns query.issns rows) (places_of_isbns query.isbns rows) place (of_issns rows query.issns first)
-        | inr later ↦ Contains-append_right (places_of_issns query.issns rows) (places_of_isbns query.isbns rows) place (of_isbns rows query.isbns later)
+      forth has = elim (placed_cases (any_one has_issn query.issns) (any_one has_isbn query.isbns) rows (subst At (sym same) has)) [
+        | inl first ↦ Contains-append_left (places_of_issns query.issns rows) (places_of_isbns query.isbns rows) place (of_all has_issn rows query.issns first)
+        | inr later ↦ Contains-append_right (places_of_issns query.issns rows) (places_of_isbns query.isbns rows) place (of_all has_isbn rows query.isbns later)
       ]
 
       back : At (places_among query rows) → At (asked_places query rows)
       back has = subst At same (elim (Contains-append_cases (places_of_issns query.issns rows) (places_of_isbns query.isbns rows) place has) [
-        | inl first ↦ more_placed (any_issn query.issns) (either (any_issn query.issns) (any_isbn query.isbns)) rows
-            (λ row. first_passes (any_issn query.issns row) (any_isbn query.isbns row)) (with_issn rows query.issns first)
-        | inr later ↦ more_placed (any_isbn query.isbns) (either (any_issn query.issns) (any_isbn query.isbns)) rows
-            (λ row. second_passes (any_issn query.issns row) (any_isbn query.isbns row)) (with_isbn rows query.isbns later)
+        | inl first ↦ more_placed (any_one has_issn query.issns) (either (any_one has_issn query.issns) (any_one has_isbn query.isbns)) rows
+            (λ row. first_passes (any_one has_issn query.issns row) (any_one has_isbn query.isbns row)) (with_any has_issn rows query.issns first)
+        | inr later ↦ more_placed (any_one has_isbn query.isbns) (either (any_one has_issn query.issns) (any_one has_isbn query.isbns)) rows
+            (λ row. second_passes (any_one has_issn query.issns row) (any_one has_isbn query.isbns row)) (with_any has_isbn rows query.isbns later)
       ])
 
 are_places : (query : QueryValue) (rows : List RowValue) → ArePlaces query rows

@@ -1,7 +1,7 @@
 -- How the places of several identifiers are merged: the first ones of two ascending lists.
-use Rattle.std.specs.Prelude.{ℕ, zero, suc, ◌==◌, nat_lt, if◌then◌else◌, List, [], ◌∷◌, Option, Some, None, fold}
+use Rattle.std.specs.Prelude.{ℕ, zero, suc, ◌==◌, nat_lt, if◌then◌else◌, Bool, List, [], ◌∷◌, Option, Some, None, fold}
 use Rattle.std.specs.Option.{option_map_or}
-use Rattle.feed_kbart.specs.Places.{places_with, places_with_isbn}
+use Rattle.feed_kbart.specs.Places.{places_by}
 use Rattle.feed_kbart.specs.RowValue.{RowValue}
 
 -- the least place of two lists, and what is left of each
@@ -17,9 +17,6 @@ abbrev pub merged : ℕ → List ℕ → List ℕ → List ℕ
 merged zero xs ys = []
 merged (suc n) xs ys = option_map_or (λ next. next.0 ∷ merged n next.1 next.2) (next_place xs ys) []
 
--- some places with those of a list of ISSNs, and with those of a list of ISBNs
-abbrev pub with_issns : ℕ → List RowValue → List ℕ → List (List ℕ) → List ℕ
-with_issns limit rows places issns = fold (λ some issn. merged limit some (places_with issn rows)) places issns
-
-abbrev pub with_isbns : ℕ → List RowValue → List ℕ → List (List ℕ) → List ℕ
-with_isbns limit rows places isbns = fold (λ some isbn. merged limit some (places_with_isbn isbn rows)) places isbns
+-- some places with those of the rows that have one of some identifiers, each by this test
+abbrev pub with_each : (List ℕ → RowValue → Bool) → ℕ → List RowValue → List ℕ → List (List ℕ) → List ℕ
+with_each has limit rows places identifiers = fold (λ some one. merged limit some (places_by (has one) rows)) places identifiers

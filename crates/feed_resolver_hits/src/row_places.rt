@@ -1,8 +1,9 @@
 //! The places of the first rows that have one of the identifiers of a query.
 ghost use Rattle.std.specs.Prelude.{◌≡◌, IfOk, option_map, take};
 ghost use Rattle.feed_answer.specs.Places.{listed};
+ghost use Rattle.feed_kbart.specs.Places.{has_isbn, has_issn};
 ghost use Rattle.feed_resolver_hits.specs.Looks.{asked_places};
-ghost use Rattle.feed_resolver_hits.specs.Merging.{merged, next_place, with_isbns, with_issns};
+ghost use Rattle.feed_resolver_hits.specs.Merging.{merged, next_place, with_each};
 
 use feed_answer::{Query, RowPlaces};
 use feed_identifiers::{Isbn, Issn};
@@ -73,7 +74,7 @@ fn with_issns(
     issns: &[Issn],
     limit: usize,
 ) -> Result<Vec<u32>, AllocError>
-    ensures { IfOk result (λ all. all.items ≡ with_issns limit holdings.now.rows places.items issns.now) }
+    ensures { IfOk result (λ all. all.items ≡ with_each has_issn limit holdings.now.rows places.items issns.now) }
 {
     let mut all = places;
     for issn in issns {
@@ -89,7 +90,7 @@ fn with_isbns(
     isbns: &[Isbn],
     limit: usize,
 ) -> Result<Vec<u32>, AllocError>
-    ensures { IfOk result (λ all. all.items ≡ with_isbns limit holdings.now.rows places.items isbns.now) }
+    ensures { IfOk result (λ all. all.items ≡ with_each has_isbn limit holdings.now.rows places.items isbns.now) }
 {
     let mut all = places;
     for isbn in isbns {

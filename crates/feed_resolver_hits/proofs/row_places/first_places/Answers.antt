@@ -1,5 +1,6 @@
 use Rattle.std.proofs.Common.{◌∙◌, List, [], ℕ, ap}
-use Rattle.feed_resolver_hits.specs.Merging.{with_isbns, with_issns}
+use Rattle.feed_kbart.specs.Places.{has_isbn, has_issn}
+use Rattle.feed_resolver_hits.specs.Merging.{with_each}
 use Rattle.feed_resolver_hits.proofs.Merged.{asked_are}
 use Rattle.feed_resolver_hits.proofs.row_places.first_places.Goals as goal
 
@@ -8,8 +9,8 @@ returns-in_ok-with_isbns c =
     let rows = c.args.holdings.now.rows in
     let limit : ℕ = c.args.limit in
     c.in_ok-with_isbns.ensures
-    ∙ ap (λ (places : List ℕ). with_isbns limit rows places c.isbns-isbns.result.now) c.in_ok-places.ensures
-    ∙ ap (λ (places : List ℕ). with_isbns limit rows (with_issns limit rows places c.issns-issns.result.now) c.isbns-isbns.result.now) c.new.ensures.items
-    ∙ ap (λ issns. with_isbns limit rows (with_issns limit rows [] issns) c.isbns-isbns.result.now) c.issns-issns.ensures.value
-    ∙ ap (λ isbns. with_isbns limit rows (with_issns limit rows [] c.args.query.now.issns) isbns) c.isbns-isbns.ensures.value
+    ∙ ap (λ (places : List ℕ). with_each has_isbn limit rows places c.isbns-isbns.result.now) c.in_ok-places.ensures
+    ∙ ap (λ (places : List ℕ). with_each has_isbn limit rows (with_each has_issn limit rows places c.issns-issns.result.now) c.isbns-isbns.result.now) c.new.ensures.items
+    ∙ ap (λ issns. with_each has_isbn limit rows (with_each has_issn limit rows [] issns) c.isbns-isbns.result.now) c.issns-issns.ensures.value
+    ∙ ap (λ isbns. with_each has_isbn limit rows (with_each has_issn limit rows [] c.args.query.now.issns) isbns) c.isbns-isbns.ensures.value
     ∙ asked_are c.args.query.now limit rows
