@@ -1,5 +1,5 @@
 -- The titles that contain a text, as text and as JSON.
-use Rattle.std.specs.Prelude.{ℕ, List, [], ◌∷◌, ◌++◌, codes, Option, Some, None, unwrap_or}
+use Rattle.std.specs.Prelude.{ℕ, List, [], ◌∷◌, ◌++◌, codes, Option, Some, None}
 use Rattle.std.specs.List.{flat_map}
 use Rattle.std.specs.Fmt.{decimal}
 use Rattle.feed_kbart.specs.Identifiers.{online_isbn, online_issn, print_isbn, print_issn}
@@ -14,26 +14,26 @@ use Rattle.feed_titles.specs.Asks.{AskValue}
 use Rattle.feed_titles.specs.Titles.{EntryValue}
 use Rattle.feed_titles.specs.Walks.{WalkValue}
 
+-- a text behind another, if there is one
+abbrev pub behind : List ℕ → Option (List ℕ) → List ℕ
+behind front None = []
+behind front (Some text) = front ++ text
+
 -- the printed identifier of a row, an ISSN or an ISBN, or nothing
 abbrev pub print_text : Identifiers → List ℕ
-print_text identifiers = unwrap_or (print_issn identifiers) [] ++ unwrap_or (print_isbn identifiers) []
+print_text identifiers = behind [] (print_issn identifiers) ++ behind [] (print_isbn identifiers)
 
 abbrev pub online_text : Identifiers → List ℕ
-online_text identifiers = unwrap_or (online_issn identifiers) [] ++ unwrap_or (online_isbn identifiers) []
+online_text identifiers = behind [] (online_issn identifiers) ++ behind [] (online_isbn identifiers)
 
--- a pair of a query behind others, if there is a value
-abbrev pub pair_part : List ℕ → Option (List ℕ) → List ℕ
-pair_part key None = []
-pair_part key (Some value) = key ++ value
-
--- those of the identifiers of a row
+-- the pairs of the identifiers of a row, behind others
 unfoldable pub issn_pairs : Identifiers → List ℕ
 issn_pairs identifiers =
-    pair_part (codes "&rft.issn=") (print_issn identifiers) ++ pair_part (codes "&rft.eissn=") (online_issn identifiers)
+    behind (codes "&rft.issn=") (print_issn identifiers) ++ behind (codes "&rft.eissn=") (online_issn identifiers)
 
 unfoldable pub isbn_pairs : Identifiers → List ℕ
 isbn_pairs identifiers =
-    pair_part (codes "&rft.isbn=") (print_isbn identifiers) ++ pair_part (codes "&rft.isbn=") (online_isbn identifiers)
+    behind (codes "&rft.isbn=") (print_isbn identifiers) ++ behind (codes "&rft.isbn=") (online_isbn identifiers)
 
 -- the query for a title in all packages, whose reply has this format
 unfoldable pub link_start : List ℕ → List ℕ

@@ -1,11 +1,10 @@
 //! Writes the titles that contain a text, as text and as JSON.
-ghost use Rattle.std.specs.Prelude.{◌≡◌, ◌++◌, IfOk, OnOk, unwrap_or, []};
+ghost use Rattle.std.specs.Prelude.{◌≡◌, ◌++◌, IfOk, OnOk};
 ghost use Rattle.std.specs.List.{flat_map};
 ghost use Rattle.feed_resolver_reply.specs.JsonLists.{items_from, json_list};
-ghost use Rattle.feed_resolver_page.specs.Titles.{ask_members, back_fields, coverage_members, end_members};
+ghost use Rattle.feed_resolver_page.specs.Titles.{ask_members, back_fields, behind, coverage_members, end_members};
 ghost use Rattle.feed_resolver_page.specs.Titles.{front_fields, identifier_members, isbn_pairs, issn_pairs, link_start};
-ghost use Rattle.feed_resolver_page.specs.Titles.{next_line, next_member, next_value, online_text, pair_part};
-ghost use Rattle.feed_resolver_page.specs.Titles.{print_text};
+ghost use Rattle.feed_resolver_page.specs.Titles.{next_line, next_member, next_value, online_text, print_text};
 ghost use Rattle.feed_resolver_page.specs.Titles.{record_members, row_members};
 ghost use Rattle.feed_resolver_page.specs.Titles.{title_line, title_link, title_object, titles_json, titles_text};
 
@@ -17,20 +16,27 @@ use feed_resolver_reply::{Piece, put, put_comma, put_list_end, put_list_start};
 use feed_titles::{Entry, TitleAsk, Walk};
 use std::alloc::{AllocError, Global};
 
-fn put_issn(out: &mut Vec<u8>, issn: Option<Issn>) -> Result<(), AllocError>
-    ensures { OnOk result (out.new.items ≡ out.old.items ++ unwrap_or issn []) }
+// Writes an ISSN behind a text, if there is one.
+fn put_issn(out: &mut Vec<u8>, front: &[u8], issn: Option<Issn>) -> Result<(), AllocError>
+    ensures { OnOk result (out.new.items ≡ out.old.items ++ behind front.now issn) }
 {
     match issn {
-        Some(issn) => put(out, &issn.text()),
+        Some(issn) => {
+            put(out, front)?;
+            put(out, &issn.text())
+        }
         None => Ok(()),
     }
 }
 
-fn put_isbn(out: &mut Vec<u8>, isbn: Option<Isbn>) -> Result<(), AllocError>
-    ensures { OnOk result (out.new.items ≡ out.old.items ++ unwrap_or isbn []) }
+fn put_isbn(out: &mut Vec<u8>, front: &[u8], isbn: Option<Isbn>) -> Result<(), AllocError>
+    ensures { OnOk result (out.new.items ≡ out.old.items ++ behind front.now isbn) }
 {
     match isbn {
-        Some(isbn) => put(out, &isbn.text()),
+        Some(isbn) => {
+            put(out, front)?;
+            put(out, &isbn.text())
+        }
         None => Ok(()),
     }
 }
@@ -40,8 +46,8 @@ fn print_text(alloc: Global, row: &Row) -> Result<Vec<u8>, AllocError>
     ensures { IfOk result (λ text. text.items ≡ print_text row.now.identifiers) }
 {
     let mut text = Vec::new(alloc);
-    put_issn(&mut text, row.print())?;
-    put_isbn(&mut text, row.print_isbn())?;
+    put_issn(&mut text, b"", row.print())?;
+    put_isbn(&mut text, b"", row.print_isbn())?;
     Ok(text)
 }
 
@@ -49,49 +55,25 @@ fn online_text(alloc: Global, row: &Row) -> Result<Vec<u8>, AllocError>
     ensures { IfOk result (λ text. text.items ≡ online_text row.now.identifiers) }
 {
     let mut text = Vec::new(alloc);
-    put_issn(&mut text, row.online())?;
-    put_isbn(&mut text, row.online_isbn())?;
+    put_issn(&mut text, b"", row.online())?;
+    put_isbn(&mut text, b"", row.online_isbn())?;
     Ok(text)
-}
-
-fn put_issn_pair(out: &mut Vec<u8>, key: &[u8], issn: Option<Issn>) -> Result<(), AllocError>
-    ensures { OnOk result (out.new.items ≡ out.old.items ++ pair_part key.now issn) }
-{
-    match issn {
-        Some(issn) => {
-            put(out, key)?;
-            put(out, &issn.text())
-        }
-        None => Ok(()),
-    }
-}
-
-fn put_isbn_pair(out: &mut Vec<u8>, key: &[u8], isbn: Option<Isbn>) -> Result<(), AllocError>
-    ensures { OnOk result (out.new.items ≡ out.old.items ++ pair_part key.now isbn) }
-{
-    match isbn {
-        Some(isbn) => {
-            put(out, key)?;
-            put(out, &isbn.text())
-        }
-        None => Ok(()),
-    }
 }
 
 #[tactic(auto, unfolding(crate::specs::Titles::issn_pairs))]
 fn put_issn_pairs(out: &mut Vec<u8>, row: &Row) -> Result<(), AllocError>
     ensures { OnOk result (out.new.items ≡ out.old.items ++ issn_pairs row.now.identifiers) }
 {
-    put_issn_pair(out, b"&rft.issn=", row.print())?;
-    put_issn_pair(out, b"&rft.eissn=", row.online())
+    put_issn(out, b"&rft.issn=", row.print())?;
+    put_issn(out, b"&rft.eissn=", row.online())
 }
 
 #[tactic(auto, unfolding(crate::specs::Titles::isbn_pairs))]
 fn put_isbn_pairs(out: &mut Vec<u8>, row: &Row) -> Result<(), AllocError>
     ensures { OnOk result (out.new.items ≡ out.old.items ++ isbn_pairs row.now.identifiers) }
 {
-    put_isbn_pair(out, b"&rft.isbn=", row.print_isbn())?;
-    put_isbn_pair(out, b"&rft.isbn=", row.online_isbn())
+    put_isbn(out, b"&rft.isbn=", row.print_isbn())?;
+    put_isbn(out, b"&rft.isbn=", row.online_isbn())
 }
 
 #[tactic(auto, unfolding(crate::specs::Titles::link_start))]
