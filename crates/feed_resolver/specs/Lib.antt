@@ -1,4 +1,3 @@
-pub mod Asked
 pub mod Answers
 pub mod AnswerTexts
 pub mod Status

@@ -11,8 +11,10 @@ ghost use Rattle.feed_resolver.specs.AnswerTexts.{texts_from};
 use crate::context::Context;
 use feed_answer::Query;
 use feed_releases::ActiveRelease;
-use feed_resolver_hits::{Ask, Lookup, Search, Tally, put_answer_json, put_release};
-use feed_resolver_page::put_hits_page;
+use feed_resolver_hits::{
+    Ask, LibraryRelease, Lookup, Search, Tally, put_answer_json, put_release,
+};
+use feed_resolver_page::{Tallies, put_hits_page};
 use feed_resolver_request::Representation;
 use std::alloc::{AllocError, Global};
 
@@ -27,8 +29,13 @@ fn add_release<'a>(
         ≡ with_looks tally.old
         (release_looks context.now.site.library context.now.actives.today search.now active.now)) }
 {
-    let (site, today) = (context.library(), context.today);
-    tally.add_release(alloc, site, today, active.name(), active.holdings(), search)
+    let release = LibraryRelease {
+        site: context.library(),
+        today: context.today,
+        name: active.name(),
+        holdings: active.holdings(),
+    };
+    tally.add_release(alloc, &release, search)
 }
 
 // Returns the tally of the hits of a search in the releases, in their order.
@@ -119,16 +126,13 @@ fn put_texts(
 {
     let mut tally = Tally::new(alloc);
     for active in context.actives {
-        put_release(
-            alloc,
-            out,
-            &mut tally,
-            context.library(),
-            context.today,
-            active.name(),
-            active.holdings(),
-            lookup,
-        )?;
+        let release = LibraryRelease {
+            site: context.library(),
+            today: context.today,
+            name: active.name(),
+            holdings: active.holdings(),
+        };
+        put_release(alloc, out, &mut tally, &release, lookup)?;
     }
     Ok(())
 }
@@ -164,19 +168,11 @@ fn put_page(
         (tally_among lookup.now (sited_in context.now)) (also_among lookup.now (sited_in context.now))
         (others_among lookup.now (sited_in context.now))) }
 {
-    let tally = tally_among(alloc, context, lookup)?;
+    let hits = tally_among(alloc, context, lookup)?;
     let also = also_beside(alloc, context, lookup)?;
-    let others = others_beside(alloc, context, lookup, tally.count())?;
-    put_hits_page(
-        alloc,
-        out,
-        context.library(),
-        text,
-        ask,
-        &tally,
-        &also,
-        &others,
-    )
+    let others = others_beside(alloc, context, lookup, hits.count())?;
+    let found = Tallies { hits, also, others };
+    put_hits_page(alloc, out, context.library(), text, ask, &found)
 }
 
 /// Writes the answer of the given releases to a query, which is what the text asks for: its hits as text, or what it

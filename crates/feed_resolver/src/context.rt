@@ -7,10 +7,10 @@ use std::marker::Model;
 
 /// The circumstances of a reply beside its request: the settings of the node, the day, and the active releases.
 #[derive(Drop)]
-pub(crate) struct Context<'a> {
-    pub(crate) site: &'a Site,
-    pub(crate) today: &'a Today,
-    pub(crate) actives: &'a [ActiveRelease<'a>],
+pub struct Context<'a> {
+    pub site: &'a Site,
+    pub today: &'a Today,
+    pub actives: &'a [ActiveRelease<'a>],
 }
 
 impl<'a> Model for Context<'a> {

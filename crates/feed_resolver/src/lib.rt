@@ -3,7 +3,6 @@
 #![tactic(auto)]
 
 mod answers;
-mod asked;
 mod context;
 mod feed_replies;
 mod laws;
@@ -12,6 +11,7 @@ mod responses;
 mod status;
 mod validators;
 
+pub use context::Context;
 pub use feed_replies::{Activity, FeedTarget, LastFetch, ends_fetch, respond_about_feed};
 pub use laws::{
     every_page_is_utf8, form_is_get, goes_to_best, head_is_head_of_get, hits_are_held,

@@ -26,7 +26,6 @@ ghost use Rattle.feed_resolver.specs.Messages.{IsMessageTo};
 ghost use Rattle.feed_resolver.specs.Status.{home_page, status_body};
 
 use crate::answers::{put_answer, tally_among};
-use crate::asked::Asked;
 use crate::context::Context;
 use crate::status::{put_home_page, put_status};
 use crate::validators::{preflight_status, tag_to, validated_reply};
@@ -37,7 +36,7 @@ use feed_openurl::Refusal;
 use feed_page_texts::Text;
 use feed_releases::{ActiveRelease, Feed};
 use feed_resolver_hits::{Ask, Lookup, read_query};
-use feed_resolver_page::error_reply;
+use feed_resolver_page::{Asked, error_reply};
 use feed_resolver_reply::{Reply, Response, Status, bad_head_response, refusal};
 use feed_resolver_request::{
     FormFault, Representation, Resource, accepted_representation, find_request, form_of,
@@ -81,9 +80,8 @@ fn unasked_reply(
     ensures { IfOk result (λ reply. reply
         ≡ unasked_reply site.now asked.now.text status asked.now.representation (ask_of asked.now.text) reason) }
 {
-    let (text, representation) = (asked.text, asked.representation);
-    let ask = Ask::read(alloc, text)?;
-    feed_resolver_page::unasked_reply(alloc, site, text, status, representation, &ask, reason)
+    let ask = Ask::read(alloc, asked.text)?;
+    feed_resolver_page::unasked_reply(alloc, site, asked, status, &ask, reason)
 }
 
 fn copied(alloc: Global, link: Option<&[u8]>) -> Result<Option<Vec<u8>>, AllocError>
@@ -176,9 +174,8 @@ fn package_reply(
         None => error_reply(
             alloc,
             context.library(),
-            asked.text,
+            asked,
             Status::NotFound,
-            asked.representation,
             Text::NoList,
             b"NoRelease",
         ),
@@ -245,14 +242,7 @@ fn titles_reply(
     ensures { IfOk result (λ reply. reply
         ≡ titles_reply context.now.site.library asked.now.representation asked.now.text context.now.actives.actives) }
 {
-    let (text, representation) = (asked.text, asked.representation);
-    feed_resolver_page::titles_reply(
-        alloc,
-        context.library(),
-        representation,
-        text,
-        context.actives,
-    )
+    feed_resolver_page::titles_reply(alloc, context.library(), asked, context.actives)
 }
 
 fn home_reply(
@@ -314,9 +304,8 @@ fn resource_reply(
         Resource::Unknown => error_reply(
             alloc,
             context.library(),
-            query,
+            &to_go,
             Status::NotFound,
-            accepted,
             Text::NoPage,
             b"NoTarget",
         ),
@@ -466,30 +455,23 @@ pub(crate) fn response_to(
     sent_response(alloc, request, last, keeps, context)
 }
 
-/// Returns the reply to the head at the front of the bytes, from the given releases on a day. The reply says
+/// Returns the reply to the head at the front of the bytes, from the releases of a context. The reply says
 /// `Connection: close` exactly if the connection is not kept.
 pub fn respond_with(
     alloc: Global,
     bytes: &[u8],
     body: &[u8],
     keeps: bool,
-    site: &Site,
-    today: &Today,
-    actives: &[ActiveRelease<'_>],
+    context: &Context<'_>,
 ) -> Result<Response, AllocError>
     ensures value { IfOk result (λ response.
-        IsResponse site.now bytes.now body.now keeps (dated today.now actives.now) response) }
+        IsResponse context.now.site bytes.now body.now keeps context.now.actives response) }
     ensures message { IfOk result (λ response. IsMessageTo bytes.now keeps response) }
     ensures says { IfOk result (λ response. SaysWhetherItKeeps keeps response.bytes) }
 {
     let mut headers = [EMPTY_HEADER_SPAN; FIELD_LIMIT];
-    let context = Context {
-        site,
-        today,
-        actives,
-    };
     match find_request(bytes, &mut headers) {
-        Some(request) => response_to(alloc, &request, body, keeps, &context),
+        Some(request) => response_to(alloc, &request, body, keeps, context),
         None => bad_head_response(alloc, keeps),
     }
 }
@@ -525,5 +507,10 @@ pub fn respond<K: Keep>(
     ensures says { IfOk result (λ response. SaysWhetherItKeeps keeps response.bytes) }
 {
     let actives = feed.actives()?;
-    respond_with(alloc, bytes, body, keeps, site, today, &actives)
+    let context = Context {
+        site,
+        today,
+        actives: &actives,
+    };
+    respond_with(alloc, bytes, body, keeps, &context)
 }

@@ -75,9 +75,8 @@ unfolding places_by
 all_pass test rows = pass_from test [] rows 0 refl
 
 -- the first places of a release
-pub all_asked : (query : QueryValue) (rows found_rows : List RowValue) (limit : ℕ) (places found : List ℕ)
-    → found_rows ≡ rows → places ≡ found → found ≡ take limit (asked_places query rows) → AllPass (is_asked_at query found_rows) places
-all_asked query rows found_rows limit places found same listed front =
-    subst (λ (rs : List RowValue). AllPass (is_asked_at query rs) places) (sym same)
-    (subst (AllPass (is_asked_at query rows)) (sym (listed ∙ front))
-    (All-take (λ place. is_asked_at query rows place ≡ true) limit (asked_places query rows) (all_pass (is_asked query) rows)))
+pub all_asked : (query : QueryValue) (rows : List RowValue) (limit : ℕ) (places found : List ℕ)
+    → places ≡ found → found ≡ take limit (asked_places query rows) → AllPass (is_asked_at query rows) places
+all_asked query rows limit places found listed front =
+    subst (AllPass (is_asked_at query rows)) (sym (listed ∙ front))
+    (All-take (λ place. is_asked_at query rows place ≡ true) limit (asked_places query rows) (all_pass (is_asked query) rows))

@@ -68,13 +68,12 @@ front_map {X} {Y} f (suc n) (x ∷ xs) = ap (λ l. f x ∷ l) (front_map f n xs)
 
 -- the rows at the first places of a release are as many as a tally looks at
 pub release_added : (site : site_file.SiteValue) (today : TodayValue) (search : SearchValue) (name : Name) (holdings : HoldingsValue)
-    (running new : RunningValue) (query : QueryValue) (rows : List RowValue) (places found : List ℕ)
-    → running.is_whole ≡ true → query ≡ search.query → rows ≡ holdings.rows → places ≡ found → found ≡ take (running.left + 1) (asked_places query holdings.rows)
-    → new ≡ with_looks running (looks_at site today search name rows places)
+    (running new : RunningValue) (query : QueryValue) (places found : List ℕ)
+    → running.is_whole ≡ true → query ≡ search.query → places ≡ found → found ≡ take (running.left + 1) (asked_places query holdings.rows)
+    → new ≡ with_looks running (looks_at site today search name holdings.rows places)
     → new ≡ with_looks running (looks_in site today search name holdings.rows)
-release_added site today search name holdings running new query rows places found whole asks same listed front is =
-    is ∙ ap (λ (rs : List RowValue). with_looks running (looks_at site today search name rs places)) same
-    ∙ ap (λ ps. with_looks running (looks_at site today search name holdings.rows ps)) (listed ∙ front ∙ ap (λ (q : QueryValue). take (running.left + 1) (asked_places q holdings.rows)) asks)
+release_added site today search name holdings running new query places found whole asks listed front is =
+    is ∙ ap (λ ps. with_looks running (looks_at site today search name holdings.rows ps)) (listed ∙ front ∙ ap (λ (q : QueryValue). take (running.left + 1) (asked_places q holdings.rows)) asks)
     ∙ ap (with_looks running) (front_map _ (running.left + 1) (asked_places search.query holdings.rows)
     ∙ ap (take (running.left + 1)) (looks_placed site today search name holdings.rows))
     ∙ front_looks running (looks_in site today search name holdings.rows) whole

@@ -16,12 +16,21 @@ use crate::search::{Scope, Search};
 use feed_answer::{Grade, Hit, Query};
 use feed_dates::DayRange;
 use feed_embargo::{Availability, Today, availability_of};
-use feed_kbart::{Kind, Row};
+use feed_kbart::{Holdings, Kind, Row};
 use feed_names::ReleaseName;
 use feed_site::{SiteFile, library_has, link_to, prefix_for};
 use std::alloc::{AllocError, Global};
 use std::borrow::CowSlice;
 use std::marker::Model;
+
+/// A release among those of a library, on a day.
+#[derive(Clone, Copy)]
+pub struct LibraryRelease<'a> {
+    pub site: &'a SiteFile,
+    pub today: &'a Today,
+    pub name: &'a ReleaseName,
+    pub holdings: &'a Holdings,
+}
 
 /// A hit, its release, how the days that the query asks for lie in those that are open to readers, the prefix of its
 /// link, if that goes through a proxy, the place of its package in the order of the site, whether the library has all
@@ -65,24 +74,23 @@ impl<'a> Model for ReleaseHit<'a> {
 impl<'a> ReleaseHit<'a> {
     /// Returns a hit of a release whose package has this place in the order of the site.
     pub(crate) fn new(
-        site: &'a SiteFile,
-        today: &Today,
-        search: &Search<'_>,
-        name: &'a ReleaseName,
+        release: &LibraryRelease<'a>,
         site_place: usize,
+        search: &Search<'_>,
         hit: &Hit<'a>,
     ) -> ReleaseHit<'a>
-        requires { site_place ≡ package_place site.now name.now.stem }
-        ensures { result ≡ release_hit site.now today.now search.now name.now (hit_of hit.now) }
+        requires { site_place ≡ package_place release.now.site.now release.now.name.now.stem }
+        ensures { result
+            ≡ release_hit release.now.site.now release.now.today.now search.now release.now.name.now (hit_of hit.now) }
     {
-        let row = hit.row;
+        let (today, row) = (release.today, hit.row);
         let (first, last) = (row.first_day(), row.last_day());
         let availability = availability_of(today, row.embargo(), first, last, search.days());
         let kind = row.kind();
         let is_first = search.is_first(kind);
         ReleaseHit {
-            site,
-            name,
+            site: release.site,
+            name: release.name,
             row,
             asked: days_asked(kind, search.days()),
             grade: hit.grade,

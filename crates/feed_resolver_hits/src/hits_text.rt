@@ -6,17 +6,14 @@ ghost use Rattle.feed_resolver_hits.specs.HitsText.{cut_head_line, release_head_
 ghost use Rattle.feed_resolver_hits.specs.Looks.{looks_in};
 ghost use Rattle.feed_resolver_hits.specs.Tallying.{tally_from, with_looks};
 
-use crate::hits::ReleaseHit;
+use crate::hits::{LibraryRelease, ReleaseHit};
 use crate::lookup::Lookup;
 use crate::search::Search;
 use crate::tally::Tally;
 use feed_answer::{write_head, write_hit};
-use feed_embargo::Today;
-use feed_kbart::Holdings;
 use feed_names::ReleaseName;
 use feed_pieces::put_all;
 use feed_resolver_reply::Piece;
-use feed_site::SiteFile;
 use std::alloc::{AllocError, Global};
 
 #[tactic(auto, unfolding(crate::specs::HitsText::cut_head_line))]
@@ -90,22 +87,20 @@ pub fn put_release<'a>(
     alloc: Global,
     out: &mut Vec<u8>,
     tally: &mut Tally<'a>,
-    site: &'a SiteFile,
-    today: &Today,
-    name: &'a ReleaseName,
-    holdings: &'a Holdings,
+    release: &LibraryRelease<'a>,
     lookup: &Lookup,
 ) -> Result<(), AllocError>
     ensures tally { OnOk result (tally.new
-        ≡ with_looks tally.old (looks_in site.now today.now lookup.now name.now holdings.now.rows)) }
+        ≡ with_looks tally.old (looks_in release.now.site.now release.now.today.now lookup.now release.now.name.now
+        release.now.holdings.now.rows)) }
     ensures text { OnOk result (out.new.items
-        ≡ out.old.items ++ release_text (tally_from tally.old) (tally_from tally.new) name.now) }
+        ≡ out.old.items ++ release_text (tally_from tally.old) (tally_from tally.new) release.now.name.now) }
 {
     let counted = tally.count();
     let shown = tally.shown().len();
     let search = Search::of(lookup);
-    tally.add_release(alloc, site, today, name, holdings, &search)?;
+    tally.add_release(alloc, release, &search)?;
     let count = tally.count().saturating_sub(counted);
-    put_head(out, name, count, tally.is_whole())?;
+    put_head(out, release.name, count, tally.is_whole())?;
     put_lines(out, hits_from(tally.shown(), shown))
 }

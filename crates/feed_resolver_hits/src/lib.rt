@@ -26,7 +26,7 @@ pub use answer_json::put_answer_json;
 pub use ask::{Ask, is_blank, names_work};
 pub use asked::read_query;
 pub use coverage::{days_words, volumes_words};
-pub use hits::{ReleaseHit, name_text};
+pub use hits::{LibraryRelease, ReleaseHit, name_text};
 pub use hits_json::put_release_members;
 pub use hits_text::put_release;
 pub use laws::{

@@ -9,17 +9,14 @@ ghost use Rattle.feed_resolver_hits.specs.Searches.{compared, is_asked_at};
 ghost use Rattle.feed_resolver_hits.specs.Tallies.{left_out, shows_all, sole_link};
 ghost use Rattle.feed_resolver_hits.specs.Tallying.{looks_at, no_hits, tally_from, with_look, with_looks};
 
-use crate::hits::{ReleaseHit, is_found};
+use crate::hits::{LibraryRelease, ReleaseHit, is_found};
 use crate::links::Links;
 use crate::ranked_hit::RankedHit;
 use crate::row_places::first_places;
 use crate::search::Search;
 use crate::shown::Shown;
 use crate::top::Top;
-use feed_embargo::Today;
-use feed_kbart::{Holdings, Row};
-use feed_names::ReleaseName;
-use feed_site::{SiteFile, package_place};
+use feed_site::package_place;
 use std::alloc::{AllocError, Global};
 use std::marker::Model;
 
@@ -57,24 +54,23 @@ impl<'a> Model for Tally<'a> {
     ghost invariant = { λ t. t.count + t.left ≤ row_limit };
 }
 
-// Returns what a search finds in the row at a place.
+// Returns what a search finds in the row at a place of a release, whose package has this place in the order of a site.
 fn hit_found<'a>(
-    site: &'a SiteFile,
-    today: &Today,
-    name: &'a ReleaseName,
+    release: &LibraryRelease<'a>,
     site_place: usize,
-    rows: &'a [Row],
     place: u32,
     search: &Search<'_>,
 ) -> Option<ReleaseHit<'a>>
-    requires of { site_place ≡ package_place site.now name.now.stem }
-    requires asked { is_asked_at search.now.query rows.now place ≡ true }
-    ensures { result ≡ hit_found site.now today.now search.now name.now (hit_at (compared search.now) rows.now place) }
+    requires of { site_place ≡ package_place release.now.site.now release.now.name.now.stem }
+    requires asked { is_asked_at search.now.query release.now.holdings.now.rows place ≡ true }
+    ensures { result
+        ≡ hit_found release.now.site.now release.now.today.now search.now release.now.name.now
+        (hit_at (compared search.now) release.now.holdings.now.rows place) }
 {
-    match search.hit_at(rows, place) {
+    match search.hit_at(release.holdings.rows(), place) {
         Some(hit) => {
-            if is_found(site, search, name, &hit) {
-                Some(ReleaseHit::new(site, today, search, name, site_place, &hit))
+            if is_found(release.site, search, release.name, &hit) {
+                Some(ReleaseHit::new(release, site_place, search, &hit))
             } else {
                 None
             }
@@ -167,19 +163,16 @@ impl<'a> Tally<'a> {
     fn look_at(
         &mut self,
         alloc: Global,
-        site: &'a SiteFile,
-        today: &Today,
-        name: &'a ReleaseName,
+        release: &LibraryRelease<'a>,
         site_place: usize,
-        rows: &'a [Row],
         place: u32,
         search: &Search<'_>,
     ) -> Result<(), AllocError>
-        requires of { site_place ≡ package_place site.now name.now.stem }
-        requires asked { is_asked_at search.now.query rows.now place ≡ true }
+        requires of { site_place ≡ package_place release.now.site.now release.now.name.now.stem }
+        requires asked { is_asked_at search.now.query release.now.holdings.now.rows place ≡ true }
         ensures { OnOk result (self.new
-            ≡ with_look self.old (hit_found site.now today.now search.now name.now
-            (hit_at (compared search.now) rows.now place))) }
+            ≡ with_look self.old (hit_found release.now.site.now release.now.today.now search.now release.now.name.now
+            (hit_at (compared search.now) release.now.holdings.now.rows place))) }
     {
         if !self.is_whole {
             return Ok(());
@@ -189,7 +182,7 @@ impl<'a> Tally<'a> {
             return Ok(());
         }
         self.left -= 1;
-        match hit_found(site, today, name, site_place, rows, place, search) {
+        match hit_found(release, site_place, place, search) {
             Some(found) => {
                 self.count += 1;
                 self.links.add(alloc, &found)?;
@@ -203,21 +196,19 @@ impl<'a> Tally<'a> {
     fn look_at_each(
         &mut self,
         alloc: Global,
-        site: &'a SiteFile,
-        today: &Today,
-        name: &'a ReleaseName,
+        release: &LibraryRelease<'a>,
         site_place: usize,
-        rows: &'a [Row],
         places: &[u32],
         search: &Search<'_>,
     ) -> Result<(), AllocError>
-        requires of { site_place ≡ package_place site.now name.now.stem }
-        requires asked { AllPass (is_asked_at search.now.query rows.now) places.now }
+        requires of { site_place ≡ package_place release.now.site.now release.now.name.now.stem }
+        requires asked { AllPass (is_asked_at search.now.query release.now.holdings.now.rows) places.now }
         ensures { OnOk result (self.new
-            ≡ with_looks self.old (looks_at site.now today.now search.now name.now rows.now places.now)) }
+            ≡ with_looks self.old (looks_at release.now.site.now release.now.today.now search.now release.now.name.now
+            release.now.holdings.now.rows places.now)) }
     {
         for place in places {
-            self.look_at(alloc, site, today, name, site_place, rows, *place, search)?;
+            self.look_at(alloc, release, site_place, *place, search)?;
         }
         Ok(())
     }
@@ -227,21 +218,18 @@ impl<'a> Tally<'a> {
     pub fn add_release(
         &mut self,
         alloc: Global,
-        site: &'a SiteFile,
-        today: &Today,
-        name: &'a ReleaseName,
-        holdings: &'a Holdings,
+        release: &LibraryRelease<'a>,
         search: &Search<'_>,
     ) -> Result<(), AllocError>
         ensures { OnOk result (self.new
-            ≡ with_looks self.old (looks_in site.now today.now search.now name.now holdings.now.rows)) }
+            ≡ with_looks self.old (looks_in release.now.site.now release.now.today.now search.now release.now.name.now
+            release.now.holdings.now.rows)) }
     {
         if !self.is_whole {
             return Ok(());
         }
-        let site_place = package_place(site, name.package());
-        let found = first_places(alloc, holdings, search.query(), self.left + 1)?;
-        let (rows, places) = (holdings.rows(), found.as_slice());
-        self.look_at_each(alloc, site, today, name, site_place, rows, places, search)
+        let site_place = package_place(release.site, release.name.package());
+        let found = first_places(alloc, release.holdings, search.query(), self.left + 1)?;
+        self.look_at_each(alloc, release, site_place, found.as_slice(), search)
     }
 }

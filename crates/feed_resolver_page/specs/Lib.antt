@@ -1,3 +1,4 @@
+pub mod Asked
 pub mod Dates
 pub mod EmbargoTexts
 pub mod Coverage

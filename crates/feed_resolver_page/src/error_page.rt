@@ -3,6 +3,7 @@ ghost use Rattle.std.specs.Prelude.{◌≡◌, ◌++◌, IfOk, OnOk};
 ghost use Rattle.feed_resolver_page.specs.ErrorPages.{advice_part, ask_again, error_body, error_page, error_reply};
 ghost use Rattle.feed_resolver_page.specs.ErrorPages.{name_part};
 
+use crate::asked::Asked;
 use crate::form::put_search_form;
 use crate::frame::put_page_top;
 use crate::hits_page::{put_page_foot, put_paragraph, put_section_heading};
@@ -73,20 +74,19 @@ fn put_error(
     alloc: Global,
     out: &mut Vec<u8>,
     site: &SiteFile,
-    text: &[u8],
-    representation: Representation,
+    asked: &Asked<'_>,
     advice: Text,
     name: &[u8],
 ) -> Result<(), AllocError>
     ensures { OnOk result (out.new.items
-        ≡ out.old.items ++ error_body site.now text.now representation advice name.now) }
+        ≡ out.old.items ++ error_body site.now asked.now.text asked.now.representation advice name.now) }
 {
-    match representation {
+    match asked.representation {
         Representation::Html => {
-            let pairs = decode_pairs(alloc, text)?;
+            let pairs = decode_pairs(alloc, asked.text)?;
             put_page(out, site, &pairs, advice, name)
         }
-        Representation::Text | Representation::Json => put_fault(out, representation, name),
+        Representation::Text | Representation::Json => put_fault(out, asked.representation, name),
     }
 }
 
@@ -99,16 +99,15 @@ fn put_error(
 pub fn error_reply(
     alloc: Global,
     site: &SiteFile,
-    text: &[u8],
+    asked: &Asked<'_>,
     status: Status,
-    representation: Representation,
     advice: Text,
     name: &[u8],
 ) -> Result<Reply, AllocError>
     ensures { IfOk result (λ reply. reply
-        ≡ error_reply site.now text.now status representation advice name.now) }
+        ≡ error_reply site.now asked.now.text status asked.now.representation advice name.now) }
 {
     let mut body = Vec::new(alloc);
-    put_error(alloc, &mut body, site, text, representation, advice, name)?;
-    Ok(Reply::new(status, representation, body))
+    put_error(alloc, &mut body, site, asked, advice, name)?;
+    Ok(Reply::new(status, asked.representation, body))
 }

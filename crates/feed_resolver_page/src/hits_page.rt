@@ -23,6 +23,17 @@ use feed_resolver_reply::{Piece, put};
 use feed_site::{Cited, SiteFile, request_link, text_of};
 use std::alloc::{AllocError, Global};
 
+/// The tallies of a query that a page shows.
+#[derive(Drop)]
+pub struct Tallies<'a> {
+    /// The hits.
+    pub hits: Tally<'a>,
+    /// The other rows of the same titles whose date is covered, and whose volume is not.
+    pub also: Tally<'a>,
+    /// Those of other dates.
+    pub others: Tally<'a>,
+}
+
 // The list of cards.
 const LIST: &[u8] = b"<ul class=\"hits\">\n";
 
@@ -243,23 +254,24 @@ fn put_cards_part(
     out: &mut Vec<u8>,
     site: &SiteFile,
     cited: &[u8],
-    tally: &Tally<'_>,
-    also: &Tally<'_>,
-    others: &Tally<'_>,
+    found: &Tallies<'_>,
 ) -> Result<(), AllocError>
     ensures { OnOk result (out.new.items
         ≡ out.old.items
-        ++ cards_part site.now cited.now (tally_from tally.now) (tally_from also.now) (tally_from others.now)) }
+        ++ cards_part site.now cited.now (tally_from found.now.hits) (tally_from found.now.also)
+        (tally_from found.now.others)) }
 {
-    put_held(out, site, tally)?;
-    put_cards(out, site, cited, tally.top(), also.top(), others.top())?;
-    put_more(out, site, tally)
+    let (hits, also, others) = (found.hits.top(), found.also.top(), found.others.top());
+    put_held(out, site, &found.hits)?;
+    put_cards(out, site, cited, hits, also, others)?;
+    put_more(out, site, &found.hits)
 }
 
-fn is_none(tally: &Tally<'_>, also: &Tally<'_>, others: &Tally<'_>) -> bool
-    ensures { result ≡ is_none (tally_from tally.now) (tally_from also.now) (tally_from others.now) }
+fn is_none(found: &Tallies<'_>) -> bool
+    ensures { result
+        ≡ is_none (tally_from found.now.hits) (tally_from found.now.also) (tally_from found.now.others) }
 {
-    tally.count() == 0 && (also.count() == 0 && others.count() == 0)
+    found.hits.count() == 0 && (found.also.count() == 0 && found.others.count() == 0)
 }
 
 // Writes that no holdings match, or that rows which were not looked at may.
@@ -277,18 +289,17 @@ fn put_found(
     out: &mut Vec<u8>,
     site: &SiteFile,
     cited: &[u8],
-    tally: &Tally<'_>,
-    also: &Tally<'_>,
-    others: &Tally<'_>,
+    found: &Tallies<'_>,
 ) -> Result<(), AllocError>
     ensures { OnOk result (out.new.items
         ≡ out.old.items
-        ++ found_part site.now cited.now (tally_from tally.now) (tally_from also.now) (tally_from others.now)) }
+        ++ found_part site.now cited.now (tally_from found.now.hits) (tally_from found.now.also)
+        (tally_from found.now.others)) }
 {
-    if is_none(tally, also, others) {
-        put_none(out, site, tally)
+    if is_none(found) {
+        put_none(out, site, &found.hits)
     } else {
-        put_cards_part(out, site, cited, tally, also, others)
+        put_cards_part(out, site, cited, found)
     }
 }
 
@@ -298,18 +309,16 @@ fn put_answer(
     site: &SiteFile,
     pairs: &[Pair<'_>],
     ask: &Ask,
-    tally: &Tally<'_>,
-    also: &Tally<'_>,
-    others: &Tally<'_>,
+    found: &Tallies<'_>,
 ) -> Result<(), AllocError>
     ensures { OnOk result (out.new.items
         ≡ out.old.items
-        ++ answer_part site.now pairs.now ask.now (tally_from tally.now) (tally_from also.now)
-        (tally_from others.now)) }
+        ++ answer_part site.now pairs.now ask.now (tally_from found.now.hits) (tally_from found.now.also)
+        (tally_from found.now.others)) }
 {
     put_citation(out, site, pairs, ask)?;
     let cited = ask.citation.text(Part::Title).as_bytes();
-    put_found(out, site, cited, tally, also, others)
+    put_found(out, site, cited, found)
 }
 
 /// Writes a link with its label.
@@ -462,38 +471,33 @@ fn put_page(
     site: &SiteFile,
     pairs: &[Pair<'_>],
     ask: &Ask,
-    tally: &Tally<'_>,
-    also: &Tally<'_>,
-    others: &Tally<'_>,
+    found: &Tallies<'_>,
 ) -> Result<(), AllocError>
     ensures { OnOk result (out.new.items
         ≡ out.old.items
-        ++ page_of_hits site.now pairs.now ask.now (tally_from tally.now) (tally_from also.now)
-        (tally_from others.now)) }
+        ++ page_of_hits site.now pairs.now ask.now (tally_from found.now.hits) (tally_from found.now.also)
+        (tally_from found.now.others)) }
 {
-    put_page_top(out, site, page_name(tally))?;
-    put_answer(out, site, pairs, ask, tally, also, others)?;
+    put_page_top(out, site, page_name(&found.hits))?;
+    put_answer(out, site, pairs, ask, found)?;
     put_bottom(alloc, out, site, pairs, ask)
 }
 
-/// Writes the page with the citation of a query, and the cards of the hits that a tally shows. If others are left out,
-/// it says how many. Behind them are the cards of two other tallies of the same titles: those whose date is covered and
-/// whose volume is not, and those of other dates.
+/// Writes the page with the citation of a query, and the cards of the hits that their tally shows. If others are left
+/// out, it says how many. Behind them are the cards of the two other tallies.
 pub fn put_hits_page(
     alloc: Global,
     out: &mut Vec<u8>,
     site: &SiteFile,
     text: &[u8],
     ask: &Ask,
-    tally: &Tally<'_>,
-    also: &Tally<'_>,
-    others: &Tally<'_>,
+    found: &Tallies<'_>,
 ) -> Result<(), AllocError>
     ensures { OnOk result (out.new.items
         ≡ out.old.items
-        ++ hits_page site.now text.now ask.now (tally_from tally.now) (tally_from also.now)
-        (tally_from others.now)) }
+        ++ hits_page site.now text.now ask.now (tally_from found.now.hits) (tally_from found.now.also)
+        (tally_from found.now.others)) }
 {
     let pairs = decode_pairs(alloc, text)?;
-    put_page(alloc, out, site, &pairs, ask, tally, also, others)
+    put_page(alloc, out, site, &pairs, ask, found)
 }

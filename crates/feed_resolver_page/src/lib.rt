@@ -3,6 +3,7 @@
 //! for titles.
 #![tactic(auto)]
 
+mod asked;
 mod card;
 mod citation_page;
 mod coverage;
@@ -17,11 +18,12 @@ mod titles;
 mod titles_form;
 mod titles_page;
 
+pub use asked::Asked;
 pub use card::Fit;
 pub use error_page::error_reply;
 pub use form::put_search_form;
 pub use frame::put_page_top;
-pub use hits_page::{put_hits_page, put_page_foot, put_section_heading};
+pub use hits_page::{Tallies, put_hits_page, put_page_foot, put_section_heading};
 pub use refusals::unasked_reply;
 pub use titles_form::put_titles_form;
 pub use titles_page::titles_reply;

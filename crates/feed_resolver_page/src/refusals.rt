@@ -1,6 +1,7 @@
 //! The replies to queries for which nothing is looked up.
 ghost use Rattle.std.specs.Prelude.{◌≡◌, ◌++◌, IfOk, OnOk, true, false};
 ghost use Rattle.feed_resolver_request.specs.declared.representation.Representation.TheVariants as representation;
+ghost use Rattle.feed_resolver_hits.specs.Asks.{names_work};
 ghost use Rattle.feed_resolver_reply.specs.Replies.{reply_with};
 ghost use Rattle.feed_resolver_reply.specs.declared.status.Status.TheVariants as status;
 ghost use Rattle.feed_resolver_page.specs.QueryRefusals.{asks_for_form, form_page};
@@ -9,6 +10,7 @@ ghost use Rattle.feed_resolver_page.specs.QueryRefusals.{nothing_text, numberles
 ghost use Rattle.feed_resolver_page.specs.QueryRefusals.{page_of_nothing};
 ghost use Rattle.feed_resolver_page.specs.QueryRefusals.{reason_text, unasked_reply};
 
+use crate::asked::Asked;
 use crate::citation_page::put_citation;
 use crate::error_page::error_reply;
 use crate::form::put_search_form;
@@ -112,50 +114,47 @@ fn put_numberless(
     alloc: Global,
     out: &mut Vec<u8>,
     site: &SiteFile,
-    text: &[u8],
-    named: bool,
-    representation: Representation,
+    asked: &Asked<'_>,
     ask: &Ask,
     reason: Refusal,
 ) -> Result<(), AllocError>
     ensures { OnOk result (out.new.items
-        ≡ out.old.items ++ numberless_body site.now text.now named representation ask.now reason) }
+        ≡ out.old.items
+        ++ numberless_body site.now asked.now.text (names_work ask.now.citation) asked.now.representation ask.now
+        reason) }
 {
-    match representation {
-        Representation::Html => put_page(alloc, out, site, text, ask),
+    let named = names_work(&ask.citation);
+    match asked.representation {
+        Representation::Html => put_page(alloc, out, site, asked.text, ask),
         Representation::Text if named => put_text(out, reason),
         Representation::Json if named => put_json(alloc, out, ask, reason),
-        _ => put_fault(out, representation, reason_text(reason)),
+        _ => put_fault(out, asked.representation, reason_text(reason)),
     }
+}
+
+fn numberless_status(named: bool, status: Status) -> Status
+    ensures { result ≡ numberless_status named status }
+{
+    if named { status } else { Status::BadRequest }
 }
 
 fn numberless_reply(
     alloc: Global,
     site: &SiteFile,
-    text: &[u8],
+    asked: &Asked<'_>,
     status: Status,
-    representation: Representation,
     ask: &Ask,
     reason: Refusal,
-    named: bool,
 ) -> Result<Reply, AllocError>
     ensures { IfOk result (λ reply. reply
-        ≡ reply_with (numberless_status named status) representation
-        (numberless_body site.now text.now named representation ask.now reason)) }
+        ≡ reply_with (numberless_status (names_work ask.now.citation) status) asked.now.representation
+        (numberless_body site.now asked.now.text (names_work ask.now.citation) asked.now.representation ask.now
+        reason)) }
 {
-    let status = if named { status } else { Status::BadRequest };
+    let status = numberless_status(names_work(&ask.citation), status);
     let mut body = Vec::new(alloc);
-    put_numberless(
-        alloc,
-        &mut body,
-        site,
-        text,
-        named,
-        representation,
-        ask,
-        reason,
-    )?;
-    Ok(Reply::new(status, representation, body))
+    put_numberless(alloc, &mut body, site, asked, ask, reason)?;
+    Ok(Reply::new(status, asked.representation, body))
 }
 
 fn asks_for_form(text: &[u8], representation: Representation) -> bool
@@ -193,36 +192,25 @@ fn form_reply(alloc: Global, site: &SiteFile) -> Result<Reply, AllocError>
 pub fn unasked_reply(
     alloc: Global,
     site: &SiteFile,
-    text: &[u8],
+    asked: &Asked<'_>,
     status: Status,
-    representation: Representation,
     ask: &Ask,
     reason: Refusal,
 ) -> Result<Reply, AllocError>
-    ensures { IfOk result (λ reply. reply ≡ unasked_reply site.now text.now status representation ask.now reason) }
+    ensures { IfOk result (λ reply. reply
+        ≡ unasked_reply site.now asked.now.text status asked.now.representation ask.now reason) }
 {
-    if asks_for_form(text, representation) {
+    if asks_for_form(asked.text, asked.representation) {
         return form_reply(alloc, site);
     }
     if is_numberless(reason) {
-        let named = names_work(&ask.citation);
-        return numberless_reply(
-            alloc,
-            site,
-            text,
-            status,
-            representation,
-            ask,
-            reason,
-            named,
-        );
+        return numberless_reply(alloc, site, asked, status, ask, reason);
     }
     error_reply(
         alloc,
         site,
-        text,
+        asked,
         Status::BadRequest,
-        representation,
         Text::TooManyNumbers,
         reason_text(reason),
     )

@@ -13,6 +13,7 @@ ghost use Rattle.feed_resolver_reply.specs.Replies.{reply_with};
 ghost use Rattle.feed_resolver_reply.specs.declared.status.Status.TheVariants as status;
 ghost use Rattle.feed_titles.specs.Walks.{titles_from};
 
+use crate::asked::Asked;
 use crate::coverage::put_coverage;
 use crate::error_page::put_advice;
 use crate::frame::put_page_top;
@@ -357,14 +358,14 @@ fn titles_refusal(
 pub fn titles_reply(
     alloc: Global,
     site: &SiteFile,
-    representation: Representation,
-    query: &[u8],
+    asked: &Asked<'_>,
     actives: &[ActiveRelease<'_>],
 ) -> Result<Reply, AllocError>
-    ensures { IfOk result (λ reply. reply ≡ titles_reply site.now representation query.now actives.now) }
+    ensures { IfOk result (λ reply. reply
+        ≡ titles_reply site.now asked.now.representation asked.now.text actives.now) }
 {
-    match TitleAsk::read(alloc, query)? {
-        Ok(ask) => found_reply(alloc, site, representation, &ask, actives),
-        Err(fault) => titles_refusal(alloc, site, representation, fault),
+    match TitleAsk::read(alloc, asked.text)? {
+        Ok(ask) => found_reply(alloc, site, asked.representation, &ask, actives),
+        Err(fault) => titles_refusal(alloc, site, asked.representation, fault),
     }
 }

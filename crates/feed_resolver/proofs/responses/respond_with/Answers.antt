@@ -2,7 +2,6 @@ use Rattle.std.proofs.Common.{inl, inr, false}
 use Rattle.std.proofs.lemmas.Result.{IfOk-weaker}
 use Rattle.feed_http_heads.specs.Options.{SaysWhetherItKeeps}
 use Rattle.feed_http_heads.specs.Requests.{is_head}
-use Rattle.feed_resolver.specs.Answers.{dated}
 use Rattle.feed_resolver.specs.Replies.{IsResponse}
 use Rattle.feed_resolver.specs.Messages.{IsMessageTo}
 use Rattle.feed_resolver.proofs.Connections.{says}
@@ -10,7 +9,7 @@ use Rattle.feed_resolver.proofs.responses.respond_with.Goals as goal
 
 pub returns-in-Some-clause-value : goal.returns-in-Some-clause-value
 returns-in-Some-clause-value c = let found = c.in-Some.ensures.found in
-    IfOk-weaker c.response_to.result _ (λ response. IsResponse c.args.site.now c.args.bytes.now c.args.body.now c.args.keeps (dated c.args.today.now c.args.actives.now) response)
+    IfOk-weaker c.response_to.result _ (λ response. IsResponse c.args.context.now.site c.args.bytes.now c.args.body.now c.args.keeps c.args.context.now.actives response)
     (λ response is. inl (found.head, found.begins, is found.head found.has)) c.response_to.ensures.value
 
 pub returns-in-Some-clause-message : goal.returns-in-Some-clause-message
@@ -20,7 +19,7 @@ returns-in-Some-clause-message c = let found = c.in-Some.ensures.found in
 
 pub returns-in-None-clause-value : goal.returns-in-None-clause-value
 returns-in-None-clause-value c = IfOk-weaker c.bad_head_response.result _
-    (λ response. IsResponse c.args.site.now c.args.bytes.now c.args.body.now c.args.keeps (dated c.args.today.now c.args.actives.now) response)
+    (λ response. IsResponse c.args.context.now.site c.args.bytes.now c.args.body.now c.args.keeps c.args.context.now.actives response)
     (λ response is. inr (c.in-None.ensures.found, is)) c.bad_head_response.ensures.value
 
 pub returns-in-None-clause-message : goal.returns-in-None-clause-message

@@ -4,13 +4,13 @@ use std::marker::Model;
 
 /// The text of a query, and the representation of its reply.
 #[derive(Drop)]
-pub(crate) struct Asked<'a> {
-    pub(crate) text: &'a [u8],
-    pub(crate) representation: Representation,
+pub struct Asked<'a> {
+    pub text: &'a [u8],
+    pub representation: Representation,
 }
 
 impl<'a> Model for Asked<'a> {
-    ghost use Rattle.feed_resolver.specs.Asked.{AskedValue};
+    ghost use Rattle.feed_resolver_page.specs.Asked.{AskedValue};
 
     ghost Value = { AskedValue };
 
