@@ -2,7 +2,7 @@
 use crate::database::{Database, close_keeper, open_feed};
 use crate::progress::Progress;
 use feed_command::{Console, FAILED, MISUSED};
-use feed_fetch::{Order, Printer, fetch_with, is_reported};
+use feed_fetch::{Printer, fetch_with, is_reported};
 use feed_file_checks::{ListCounts, active_counts, rows_before};
 use feed_file_commands::{Advice, note_port, parse_meant_name};
 use feed_http::is_host;
@@ -51,16 +51,13 @@ pub fn fetch_release<D: Database, O: Write, F: Write + Drop>(
         None
     };
     let mut out = Printer::new(Progress::new(rt, &mut console.out, screen));
-    let order = Order {
-        host: addr.as_bytes(),
-        name: &name,
-        piece: options.piece.max(1).min(PIECE_LIMIT as u64),
-    };
     let mut status = fetch_with(
         rt.alloc(),
         &mut dial,
         &mut feed,
-        &order,
+        addr.as_bytes(),
+        &name,
+        options.piece.max(1).min(PIECE_LIMIT as u64),
         &mut out,
         &mut Printer::new(console.faults.out()),
     );

@@ -36,9 +36,9 @@ ghost use Rattle.feed_fetch.specs.Effects.{
 ghost use Rattle.feed_fetch.specs.Steps.{IsReplyOf};
 ghost use Rattle.feed_fetch.specs.Printing.{has_failed};
 ghost use Rattle.feed_http.specs.RequestTexts.{is_host};
-ghost use Rattle.feed_fetch.specs.Orders.{IsOrder};
+ghost use Rattle.feed_limits.specs.Limits.{piece_limit};
 
-use crate::machine::{Fetch, Next, Request};
+use crate::machine::{Fetch, Next, Phase, Request};
 use crate::printer::{Printer, Unprinted};
 use crate::requests::{request_range, request_size};
 use crate::stop::{RequestFault, Stop};
@@ -50,15 +50,6 @@ use feed_names::ReleaseName;
 use feed_releases::Feed;
 use std::alloc::Global;
 use std::io::Write;
-
-/// The release to fetch, the host, which `is_host` accepts (1 to 255 bytes), and for how many places a request may ask:
-/// 1 to 1,048,576.
-#[derive(Clone, Copy)]
-pub struct Order<'a> {
-    pub host: &'a [u8],
-    pub name: &'a ReleaseName,
-    pub piece: u64,
-}
 
 // Makes a request and reads the reply.
 fn send<D: Dial>(
@@ -79,31 +70,33 @@ fn send<D: Dial>(
     }
 }
 
-/// Fetches the file of a release: runs a `Fetch` over a dial, with one connection for each request. Prints each answer
-/// of the feed to `out`, as a line.
+/// Fetches the file of a release: runs a new `Fetch` over a dial, with one connection for each request. Prints each
+/// answer of the feed to `out`, as a line.
 pub fn fetch_file<D: Dial, K: Keep, O: Write>(
     alloc: Global,
     dial: &mut D,
     feed: &mut Feed<K>,
-    order: &Order<'_>,
+    host: &[u8],
+    name: &ReleaseName,
+    mut fetch: Fetch,
     out: &mut Printer<O>,
 ) -> Result<(), Stop>
-    requires { IsOrder order.now }
-    ensures extends { IsExtension (IsFetchEvent D.replies order.now.host.now order.now.name.now)
-        (λ k. IfErr result (λ stop. IsStoppedAt order.now.name.now stop k)) (recorded feed.old) (recorded feed.new) }
-    ensures gets { (file : List ℕ) → ServesFile D.replies order.now.name.now file → IsFetchable file
-        → IsFetched order.now.name.now file result (recorded feed.old) (recorded feed.new) }
-    ensures done { OnOk result ((h : History) → IsContent (recorded feed.new) h → IsAllFetched order.now.name.now h) }
+    requires host { IsTrue (is_host host.now) }
+    requires new { fetch.phase ≡ Phase.New }
+    ensures extends { IsExtension (IsFetchEvent D.replies host.now name.now)
+        (λ k. IfErr result (λ stop. IsStoppedAt name.now stop k)) (recorded feed.old) (recorded feed.new) }
+    ensures gets { (file : List ℕ) → ServesFile D.replies name.now file → IsFetchable file
+        → IsFetched name.now file result (recorded feed.old) (recorded feed.new) }
+    ensures done { OnOk result ((h : History) → IsContent (recorded feed.new) h → IsAllFetched name.now h) }
     ensures caused { IfErr result (λ stop. HasCause (has_failed out.new) (D.last_fault dial.new) stop) }
 {
-    let mut fetch = Fetch::new(order.piece);
     // Each round but the first fills a place, so a file needs no more rounds than this.
     'rounds: for _ in 0..FILE_LIMIT + 2 {
-        let Next::Ask(request) = fetch.next(feed, order.name) else {
+        let Next::Ask(request) = fetch.next(feed, name) else {
             return Ok(());
         };
-        let reply = send(alloc, dial, order.host, order.name, request);
-        if let Err(stop) = fetch.take(feed, order.name, &reply, out) {
+        let reply = send(alloc, dial, host, name, request);
+        if let Err(stop) = fetch.take(feed, name, &reply, out) {
             return Err(stop);
         }
     }
@@ -141,32 +134,37 @@ pub fn print_stop<F: Write>(stop: Stop, faults: &mut Printer<F>) -> u8
     }
 }
 
-/// Fetches the file of a release as `fetch_file` does. Prints the answers of the feed to `out`, and a fault to
-/// `faults`, as `kbfeed: ` and its name. Returns the exit status: 0 if the release, or a later one, is then reported; 1
-/// because of the peer or the file; 3 if a connection, device or print failed, or memory ran out. The bytes received
-/// are stored, and a further fetch resumes from there.
+/// Fetches the file of a release as `fetch_file` does, from a host that `is_host` accepts (1 to 255 bytes), with
+/// requests of 1 to 1,048,576 places. Prints the answers of the feed to `out`, and a fault to `faults`, as `kbfeed: `
+/// and its name. Returns the exit status: 0 if the release, or a later one, is then reported; 1 because of the peer or
+/// the file; 3 if a connection, device or print failed, or memory ran out. The bytes received are stored, and a further
+/// fetch resumes from there.
 pub fn fetch_with<D: Dial, K: Keep, O: Write, F: Write>(
     alloc: Global,
     dial: &mut D,
     feed: &mut Feed<K>,
-    order: &Order<'_>,
+    host: &[u8],
+    name: &ReleaseName,
+    piece: u64,
     out: &mut Printer<O>,
     faults: &mut Printer<F>,
 ) -> u8
-    requires { IsOrder order.now }
-    ensures extends { IsExtension (IsFetchEvent D.replies order.now.host.now order.now.name.now)
-        (EndsWithStatus order.now.name.now result (has_failed out.new || has_failed faults.new)
-        (D.last_fault dial.new)) (recorded feed.old) (recorded feed.new) }
-    ensures gets { (file : List ℕ) → ServesFile D.replies order.now.name.now file → IsFetchable file
-        → (h : History) → IsContent (recorded feed.old) h → IsOpenTo order.now.name.now file h
-        → (result ≡ 0) ⊎ (result ≡ 3) }
+    requires host { IsTrue (is_host host.now) }
+    requires least { 1 ≤ piece }
+    requires most { piece ≤ piece_limit }
+    ensures extends { IsExtension (IsFetchEvent D.replies host.now name.now)
+        (EndsWithStatus name.now result (has_failed out.new || has_failed faults.new) (D.last_fault dial.new))
+        (recorded feed.old) (recorded feed.new) }
+    ensures gets { (file : List ℕ) → ServesFile D.replies name.now file → IsFetchable file → (h : History)
+        → IsContent (recorded feed.old) h → IsOpenTo name.now file h → (result ≡ 0) ⊎ (result ≡ 3) }
 {
-    let outcome = fetch_file(alloc, dial, feed, order, out);
+    let fetch = Fetch::new(piece);
+    let outcome = fetch_file(alloc, dial, feed, host, name, fetch, out);
     let Ok(()) = out.flush() else {
         return 3;
     };
     match outcome {
-        Ok(()) => { if is_reported(feed, order.name) { 0 } else { 1 } }
+        Ok(()) => { if is_reported(feed, name) { 0 } else { 1 } }
         Err(stop) => print_stop(stop, faults),
     }
 }

@@ -10,15 +10,24 @@ ghost use Rattle.feed_fetch.specs.Servers.{IsServed};
 ghost use Rattle.feed_fetch.specs.Orders.{IsOrder};
 ghost use Rattle.feed_fetch.specs.Effects.{IsExtension, IsFetchEvent, EndsWithStatus, IsFetchable, IsOpenTo};
 
-use crate::fetch_loop::{Order, fetch_with};
+use crate::fetch_loop::fetch_with;
 use crate::memory_dial::{Archive, MemoryDial};
 use crate::printer::Printer;
 use feed_http::NamedFile;
 use feed_keep::Keep;
+use feed_names::ReleaseName;
 use feed_releases::Feed;
 use std::alloc::Global;
 use std::io::Write;
 use std::marker::Brand;
+
+/// The release to fetch, the host, and for how many places a request may ask.
+#[derive(Clone, Copy)]
+pub struct Order<'a> {
+    pub host: &'a [u8],
+    pub name: &'a ReleaseName,
+    pub piece: u64,
+}
 
 fn fetch_from<A: Archive, K: Keep, O: Write, F: Write>(
     alloc: Global,
@@ -39,7 +48,16 @@ fn fetch_from<A: Archive, K: Keep, O: Write, F: Write>(
     // The requests have this text, which names the release.
     let _text = order.name.text();
     let mut dial = MemoryDial::<A>::new(alloc, archive);
-    fetch_with(alloc, &mut dial, feed, order, out, faults)
+    fetch_with(
+        alloc,
+        &mut dial,
+        feed,
+        order.host,
+        order.name,
+        order.piece,
+        out,
+        faults,
+    )
 }
 
 /// Fetches the file of a release with `fetch_with` from a server over these files. If a name appears twice, the first

@@ -215,12 +215,16 @@ fn fetch_outcome(
     let mut out = Printer::new(Sink::new(alloc, &calls, fails_at));
     let mut faults = Printer::new(Sink::new(alloc, &calls, fails_at));
     let mut server = Server::new(alloc, turns, &requests);
-    let order = Order {
-        host: HOST,
-        name: &name,
+    let status = fetch_with(
+        alloc,
+        &mut server,
+        feed,
+        HOST,
+        &name,
         piece,
-    };
-    let status = fetch_with(alloc, &mut server, feed, &order, &mut out, &mut faults);
+        &mut out,
+        &mut faults,
+    );
     drop(server);
     Ok(Outcome {
         printed: out.into_writer().text,
