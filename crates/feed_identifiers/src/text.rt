@@ -1,4 +1,4 @@
-//! Trimming the spaces of a field, and passing over its hyphens.
+//! Trimming the spaces of a field, and skipping its hyphens.
 ghost use Rattle.std.specs.Prelude.{◌≡◌, ◌<◌, ◌++◌, ◌∷◌, ℕ, [], IfNone, IfSome, length, replicate};
 ghost use Rattle.std.specs.Bool.{OnTrue};
 ghost use Rattle.std.specs.Int.{to_le_bytes, w64};
@@ -18,8 +18,8 @@ fn is_word(bytes: &[u8; 8], word: u64) -> bool
     u64::from_le_bytes(*bytes) == word
 }
 
-// Passes over the byte of which a word is made, at the front of a text, eight at a time, since a field may have
-// millions. Some may be left.
+// Skips the byte that a word repeats, at the front of a text, eight at a time, since a field may have millions. Some
+// may be left.
 fn skip_many(text: &[u8], word: u64) -> &[u8]
     ensures { (byte : ℕ) → to_le_bytes w64 word ≡ replicate 8 byte
         → (count : ℕ) × (text.now ≡ replicate count byte ++ result.now) }
@@ -51,7 +51,7 @@ pub(crate) fn next_character(text: &[u8]) -> Option<(u8, &[u8])>
     None
 }
 
-// Passes over spaces at the back, eight at a time. Some may be left.
+// Skips spaces at the back, eight at a time. Some may be left.
 fn skip_many_back(text: &[u8]) -> &[u8]
     ensures { trimmed_back result.now ≡ trimmed_back text.now }
 {

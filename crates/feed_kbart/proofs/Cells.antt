@@ -95,7 +95,7 @@ next-below k n = elim (cases_Bool (nat_lt k n)) [
   | inr m ↦ grind (arith, nat_tests)
 ]
 
--- cells of which the first are trimmed, and the others are as they were
+-- the first cells are trimmed, and the others stay as they were
 pub cells-kept : (n : ℕ) (cells : List (Vec ℕ Global)) (columns : List (Option ℕ)) (fields : List (List ℕ)) → length cells ≡ length columns
     → ((slot : ℕ) (c : Option ℕ) (d : Vec ℕ Global) → slot < length cells
     → (slice_index_or cells slot d).items ≡ kept_text (nat_lt slot n) (cell (slice_index_or columns slot c) fields))

@@ -100,7 +100,7 @@ labels-more header field place count was now here all is labels =
     let whole : now.found ≡ map (with_field (length header) field) (map (found_of header) used_labels) = rw (all, labels.found, ← here) at is in
     record { found = whole ∙ all-more header field used_labels }
 
--- a field of spaces alone is no label
+-- a field with spaces alone is not a label
 blank-label : (field : List ℕ) (l : Label) → trimmed field ≡ [] → is_label l field ≡ false
 blank-label field l blank = rw blank (empty-label l)
 

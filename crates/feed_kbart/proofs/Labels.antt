@@ -34,7 +34,7 @@ module _ (P : Label → Type 0) (a : P PublicationTitle) (b : P PrintIdentifier)
 pub placed : (label : Label) → label_at (tag_of the_type label + 1) ≡ Some label
 placed = each_label (λ label. label_at (tag_of the_type label + 1) ≡ Some label) refl refl refl refl refl refl refl refl refl refl refl refl refl
 
--- an empty text is no label
+-- an empty text is not a label
 pub empty-label : (label : Label) → is_label label [] ≡ false
 empty-label = each_label (λ label. is_label label [] ≡ false) refl refl refl refl refl refl refl refl refl refl refl refl refl
 

@@ -14,7 +14,7 @@ abbrev pub held_text : Bool → List ℕ → List ℕ
 held_text true text = skip_spaces text
 held_text false text = text
 
--- these bytes of a cell were taken: what is held of them, and how many of these the cell keeps
+-- what is held after these bytes of a cell, and how many of the held bytes the cell keeps
 pub record IsCellFront (is_parsed : Bool) (text : List ℕ) (cell : CellFront) : Type 0 where
   pub bytes : cell.bytes.items ≡ held_text is_parsed text
   pub end : cell.end ≡ length (kept_text is_parsed text)

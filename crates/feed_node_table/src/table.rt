@@ -24,7 +24,7 @@ pub const HELD_LIMIT: usize = 33_554_432;
 pub struct Turn {
     /// The key of the connection.
     pub key: usize,
-    /// The moment.
+    /// The moment, in microseconds.
     pub now: u64,
 }
 

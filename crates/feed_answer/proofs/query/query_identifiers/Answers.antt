@@ -7,7 +7,8 @@ use Rattle.feed_answer.specs.Pairs.{isbn_of_pair, isbns_among, issn_of_pair, iss
 use Rattle.feed_answer.proofs.Ascending.{set_ascends}
 use Rattle.feed_answer.proofs.Steps.{chosen_next, passed_next}
 use Rattle.feed_answer.proofs.query.query_identifiers.Goals as goal
-use Rattle.feed_answer.proofs.query.query_identifiers.Goals.{else-has_format, else-has_format-2, in-Some+in_ok-add, in-Some-isbn+in_ok-add-2, in_default, in_default-isbn, then-has_format, then-has_format-2}
+use Rattle.feed_answer.proofs.query.query_identifiers.Goals.{else-has_format, else-has_format-2, in-Some+in_ok-add, in-Some-isbn+in_ok-add-2}
+use Rattle.feed_answer.proofs.query.query_identifiers.Goals.{in_default, in_default-isbn, then-has_format, then-has_format-2}
 
 pub loop-pair-preserved : goal.loop-pair-preserved
 loop-pair-preserved c =
