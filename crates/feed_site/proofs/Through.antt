@@ -1,5 +1,5 @@
 -- Which links go through the proxy.
-use Rattle.std.proofs.Common.{◌≡◌, ℕ, ◌+◌, ◌*◌, ◌<◌, ◌≤◌, length, subst, Bool, true, false, not, List, ◌++◌, Some, None, All, if◌then◌else◌, refl, arith, sym, ◌∙◌}
+use Rattle.std.proofs.Common.{◌≡◌, ℕ, ◌+◌, ◌*◌, ◌<◌, ◌≤◌, length, subst, Bool, true, false, not, List, [], ◌∷◌, ◌++◌, ◌&&◌, Option, Some, None, is_some, nat_le, All, if◌then◌else◌, refl, arith, sym, ap, ◌∙◌}
 use Rattle.std.specs.Char.{is_ascii_alphanumeric}
 use Rattle.percent_encoding.specs.Percent.{percent_encode}
 use Rattle.percent_encoding.specs.declared.ascii_set.TheConstants.{NON_ALPHANUMERIC}
@@ -10,9 +10,12 @@ use Rattle.percent_encoding.specs.AsciiSet.{contains, should_percent_encode}
 use Rattle.percent_encoding.proofs.AsciiSetLemmas.{ascii_from_kept, outside_from_kept}
 use Rattle.percent_encoding.proofs.PercentLemmas.{All-percent_encode, IsEscapeByte, length-percent_decode, round_trip}
 use Rattle.percent_encoding.proofs.StandardFacts.{non_alphanumeric}
-use Rattle.feed_site.specs.Hosts.{host_of}
+use Rattle.std.specs.List.{list_all}
+use Rattle.std.specs.Option.{option_map_or}
+use Rattle.feed_site.specs.Hosts.{host_of, is_link}
 use Rattle.feed_site.specs.Site.{SiteValue}
-use Rattle.feed_site.specs.Proxies.{encodes, is_excepted, is_proxied, proxied, through, written_target}
+use Rattle.feed_site.specs.Proxies.{encodes, is_excepted, is_proxied, needs_proxy, prefix_for, proxied, through, written_target}
+use Rattle.feed_site.specs.Urls.{is_visible, url_limit}
 use Rattle.feed_site.specs.Laws.{IsTarget, GoesThrough, LinkFits, is_plain}
 
 not_false : (b : Bool) → not b ≡ false → b ≡ true
@@ -80,3 +83,64 @@ link_fits (Some prefix) target bytes =
     let fits : length (written_target prefix target) ≤ (if encodes prefix then 3 * length target else length target) =
     written_fits (encodes prefix) target bytes in
     grind (arith)
+
+-- ---- links that are not safe
+
+and_right : (a b : Bool) → b ≡ false → (a && b) ≡ false
+and_right true b e = e
+and_right false b e = refl
+
+and_left : (a b : Bool) → a ≡ false → (a && b) ≡ false
+and_left true b e = absurd (cc)
+and_left false b e = refl
+
+-- a target that is too long has no safe link
+pub long_is_unsafe : (site : SiteValue) (target : List ℕ) (is_free : Bool) → All (λ b. b < 256) target → url_limit < length target
+    → is_link (through (prefix_for site target is_free) target) ≡ false
+long_is_unsafe site target is_free bytes long = of (prefix_for site target is_free)
+  where
+    whole : (takes : Bool) → length target ≤ length (if takes then percent_encode NON_ALPHANUMERIC target else target)
+    whole false = omega arith
+    whole true =
+        subst (λ (t : List ℕ). length t ≤ length (percent_encode NON_ALPHANUMERIC target)) (round_trip NON_ALPHANUMERIC target refl bytes)
+        (length-percent_decode (percent_encode NON_ALPHANUMERIC target)).0
+
+    too_long : (link : List ℕ) → url_limit < length link → is_link link ≡ false
+    too_long link more = and_left (nat_le (length link) url_limit) _ (grind (arith, nat_tests))
+
+    of : (prefix : Option (List ℕ)) → is_link (through prefix target) ≡ false
+    of None = too_long target long
+    of (Some prefix) =
+        let joint : length (prefix ++ written_target prefix target) ≡ length prefix + length (written_target prefix target) =
+        length-append prefix (written_target prefix target) in
+        let more : length target ≤ length (written_target prefix target) = whole (encodes prefix) in
+        too_long (prefix ++ written_target prefix target) (omega (arith, joint, more, long))
+
+-- nor has one with a byte that is not visible, where no prefix escapes it
+pub odd_is_unsafe : (site : SiteValue) (target : List ℕ) (is_free : Bool) → option_map_or encodes site.prefix false ≡ false
+    → list_all is_visible target ≡ false → is_link (through (prefix_for site target is_free) target) ≡ false
+odd_is_unsafe site target is_free plain odd = of (is_proxied site target is_free) site.prefix plain
+  where
+    odd_link : (front : List ℕ) → list_all is_visible (front ++ target) ≡ false
+    odd_link [] = odd
+    odd_link (b ∷ front) = and_right (is_visible b) (list_all is_visible (front ++ target)) (odd_link front)
+
+    unsafe : (front : List ℕ) → is_link (front ++ target) ≡ false
+    unsafe front =
+        and_right (nat_le (length (front ++ target)) url_limit) _ (and_left (list_all is_visible (front ++ target)) _ (odd_link front))
+
+    of : (b : Bool) (prefix : Option (List ℕ)) → option_map_or encodes prefix false ≡ false → is_link (through (if b then prefix else None) target) ≡ false
+    of false prefix e = unsafe []
+    of true None e = unsafe []
+    of true (Some prefix) e = ap (λ c. is_link (prefix ++ (if c then percent_encode NON_ALPHANUMERIC target else target))) e ∙ unsafe prefix
+
+-- nor one without a host
+pub hostless_is_unsafe : (site : SiteValue) (target : List ℕ) (is_free : Bool) → is_some (host_of target) ≡ false
+    → is_link (through (prefix_for site target is_free) target) ≡ false
+hostless_is_unsafe site target is_free none =
+    ap (λ b. is_link (through (if b then site.prefix else None) target)) (and_right (not is_free) _ (direct (host_of target) none))
+    ∙ and_right (nat_le (length target) url_limit) _ (and_right (list_all is_visible target) _ none)
+  where
+    direct : (host : Option (List ℕ)) → is_some host ≡ false → needs_proxy site.except host ≡ false
+    direct None e = refl
+    direct (Some host) e = absurd (cc)

@@ -11,7 +11,7 @@ use std::alloc::{AllocError, Global};
 use std::net::{Ipv4Addr, Ipv6Addr};
 
 // The most bytes of a URL: what RFC 9110 (section 4.1) asks every recipient to support.
-const URL_LIMIT: usize = 8_000;
+pub(crate) const URL_LIMIT: usize = 8_000;
 
 // Returns how many bytes are before the first `:` that is not between brackets.
 fn host_len(authority: &[u8]) -> usize

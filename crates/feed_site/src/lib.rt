@@ -35,7 +35,7 @@ pub use laws::{
     link_fits, links_are_standard, no_proxy_is_direct, off_is_not_held, others_go_through,
     parts_add_no_marks, requests_are_links, requests_keep_host, subdomains_are_within,
 };
-pub use links::{left_beside, link_to, prefix_for, proxied};
+pub use links::{left_beside, link_to, may_be_link, prefix_for, proxied};
 pub use packages::{package_name, package_place, shown_package};
 pub use position::Position;
 pub use request::{Cited, request_link};

@@ -1,12 +1,16 @@
 //! The links of a page: which of them go through the library's proxy, and how.
-ghost use Rattle.std.specs.Prelude.{◌≡◌, ◌-◌, ◌++◌, IfOk, OnOk, string_bytes, option_copied};
+ghost use Rattle.std.specs.Prelude.{◌≡◌, ◌-◌, ◌++◌, Bool, IfOk, OnOk, false, string_bytes, option_copied};
+ghost use Rattle.std.specs.Bool.{OnFalse};
+ghost use Rattle.std.specs.Option.{option_map_or};
 ghost use Rattle.std.specs.Cow.{cow_slice_items};
 ghost use Rattle.percent_encoding.specs.Percent.{percent_encode};
 ghost use Rattle.percent_encoding.specs.declared.ascii_set.TheConstants.{NON_ALPHANUMERIC};
+ghost use Rattle.feed_site.specs.Hosts.{is_link};
 ghost use Rattle.feed_site.specs.Proxies.{encodes, is_proxied, prefix_for, proxied, room_of, through, written_target};
 
-use crate::hosts::host_of;
+use crate::hosts::{URL_LIMIT, host_of};
 use crate::site_file::SiteFile;
+use crate::urls::is_all_visible;
 use percent_encoding::{NON_ALPHANUMERIC, percent_encode};
 use std::alloc::{AllocError, Global};
 use std::borrow::CowSlice;
@@ -19,6 +23,16 @@ fn encodes(prefix: &[u8]) -> bool
 {
     let start = prefix.len().saturating_sub(5);
     &prefix[start..] == ENCODING_END
+}
+
+// Returns whether a prefix takes the target percent-encoded.
+fn is_encoded(prefix: Option<&str>) -> bool
+    ensures { result ≡ option_map_or encodes (option_copied prefix.entry) false }
+{
+    match prefix {
+        Some(prefix) => encodes(prefix.as_bytes()),
+        None => false,
+    }
 }
 
 fn is_proxied(site: &SiteFile, target: &[u8], is_free: bool) -> bool
@@ -76,6 +90,17 @@ pub fn prefix_for<'a>(site: &'a SiteFile, target: &[u8], is_free: bool) -> Optio
     } else {
         None
     }
+}
+
+/// Returns whether the link to a target may be safe ([`is_link`](crate::is_link)), by what costs less than to write it:
+/// the length of the target, its bytes and its host.
+pub fn may_be_link(site: &SiteFile, target: &[u8]) -> bool
+    ensures { OnFalse result ((is_free : Bool)
+        → is_link (through (prefix_for site.now target.now is_free) target.now) ≡ false) }
+{
+    target.len() <= URL_LIMIT
+        && (is_encoded(site.prefix()) || is_all_visible(target))
+        && host_of(target).is_some()
 }
 
 /// Returns the link to a target behind a prefix, which takes it as it is or percent-encoded. Without a prefix the link
