@@ -15,7 +15,7 @@ use Rattle.feed_resolver_hits.specs.Laws.{ArePlaces, LooksAreAtPlaces}
 use Rattle.feed_resolver_hits.specs.Looks.{asked_places, looks_in}
 use Rattle.feed_resolver_hits.specs.Searches.{SearchValue, is_asked}
 use Rattle.feed_resolver_hits.specs.Tallying.{looks_at}
-use Rattle.feed_resolver_hits.proofs.LooksPlaced.{front_map, looks_placed}
+use Rattle.feed_resolver_hits.proofs.LooksPlaced.{front_looks_at, looks_placed}
 use Rattle.feed_resolver_hits.proofs.Merged.{alike, any_one, asked_either, either, none_placed}
 
 -- ---- the elements of a list with one more
@@ -150,5 +150,5 @@ are_places query rows = record { ascend = places_ascend (is_asked query) rows; s
 pub at_places : LooksAreAtPlaces
 at_places site today search name rows limit = (
   are_places search.query rows,
-  ap (take limit) (sym (looks_placed site today search name rows)) ∙ sym (front_map _ limit (asked_places search.query rows)),
+  ap (take limit) (sym (looks_placed site today search name rows)) ∙ sym (front_looks_at site today search name rows limit (asked_places search.query rows)),
 )

@@ -1,5 +1,5 @@
 -- A tally that is made row by row is that of the list.
-use Rattle.std.proofs.Common.{◌≡◌, inl, inr, ◌-◌, ◌+◌, ℕ, zero, suc, List, [], ◌∷◌, ◌++◌, Bool, true, false, Option, Some, None, refl, sym, ap, ◌∙◌, arith, length, take, append_assoc}
+use Rattle.std.proofs.Common.{◌≡◌, inl, inr, ◌-◌, ◌+◌, ◌<◌, ◌≤◌, ℕ, zero, suc, List, [], ◌∷◌, ◌++◌, Bool, true, false, Option, Some, None, refl, sym, ap, ◌∙◌, arith, length, replicate, take, append_assoc}
 use Rattle.std.specs.Prelude.{fold, nat_lt, nat_le, ◌&&◌, ◌==◌, if◌then◌else◌}
 use Rattle.std.proofs.lemmas.List.{append-nil}
 use Rattle.std.proofs.lemmas.Bool.{ne_eqb}
@@ -106,16 +106,62 @@ front_from (suc left) count shown top link (Some found ∷ more) =
     ap (λ r. with_looks r (take (suc left) more)) step
     ∙ front_from left (count + 1) (with_shown shown found) (with_top top found) (with_link link found) more ∙ sym (ap (λ r. with_looks r more) step)
 
+whole_of : (running : RunningValue) → running.is_whole ≡ true → running ≡ running_of running.left true running.count running.shown running.top running.link
+whole_of running whole = ap (λ b. running_of running.left b running.count running.shown running.top running.link) whole
+
 pub front_looks : (running : RunningValue) (looks : List (Option ReleaseHitValue)) → running.is_whole ≡ true
     → with_looks running (take (running.left + 1) looks) ≡ with_looks running looks
 front_looks running looks whole =
-    let own : running ≡ running_of running.left true running.count running.shown running.top running.link =
-    ap (λ b. running_of running.left b running.count running.shown running.top running.link) whole in
+    let own = whole_of running whole in
     let next : running.left + 1 ≡ suc running.left = omega arith in
     ap (λ n. with_looks running (take n looks)) next
     ∙ ap (λ r. with_looks r (take (suc running.left) looks)) own
     ∙ front_from running.left running.count running.shown running.top running.link looks
     ∙ ap (λ r. with_looks r looks) (sym own)
+
+-- ---- a row that counts as several
+
+-- it is looked at, if there are more rows left than it counts as more
+looked_from : (more left count : ℕ) (shown : ShownValue) (top : List ReleaseHitValue) (link : Option LinkValue) (look : Option ReleaseHitValue) → more < left
+    → with_looks (running_of left true count shown top link) (replicate more None ++ look ∷ []) ≡ with_found (running_of (left - more) true count shown top link) look
+looked_from zero zero count shown top link look less = absurd (omega (arith, less))
+looked_from zero (suc left) count shown top link look less =
+    let same : suc left ≡ suc left - zero = omega arith in
+    one_look left count shown top link look ∙ ap (λ n. with_found (running_of n true count shown top link) look) same
+looked_from (suc more) zero count shown top link look less = absurd (omega (arith, less))
+looked_from (suc more) (suc left) count shown top link look less =
+    let fewer : left - more ≡ suc left - suc more = omega arith in
+    ap (λ r. with_looks r (replicate more None ++ look ∷ [])) (one_look left count shown top link None ∙ one_less left count shown top link)
+    ∙ looked_from more left count shown top link look (omega (arith, less))
+    ∙ ap (λ n. with_found (running_of n true count shown top link) look) fewer
+
+-- else nothing more is
+passed_from : (more left count : ℕ) (shown : ShownValue) (top : List ReleaseHitValue) (link : Option LinkValue) (look : Option ReleaseHitValue) → left ≤ more
+    → with_looks (running_of left true count shown top link) (replicate more None ++ look ∷ []) ≡ running_of 0 false count shown top link
+passed_from zero zero count shown top link look few = refl
+passed_from zero (suc left) count shown top link look few = absurd (omega (arith, few))
+passed_from (suc more) zero count shown top link look few = cut_stays (running_of zero false count shown top link) (replicate more None ++ look ∷ []) refl
+passed_from (suc more) (suc left) count shown top link look few =
+    ap (λ r. with_looks r (replicate more None ++ look ∷ [])) (one_look left count shown top link None ∙ one_less left count shown top link)
+    ∙ passed_from more left count shown top link look (omega (arith, few))
+
+pub looked : (running : RunningValue) (more : ℕ) (look : Option ReleaseHitValue) → running.is_whole ≡ true → more < running.left
+    → with_looks running (replicate more None ++ look ∷ []) ≡ with_found (record running { left = running.left - more }) look
+looked running more look whole less =
+    ap (λ r. with_looks r (replicate more None ++ look ∷ [])) (whole_of running whole)
+    ∙ looked_from more running.left running.count running.shown running.top running.link look less
+    ∙ ap (λ b. with_found (running_of (running.left - more) b running.count running.shown running.top running.link) look) (sym whole)
+
+pub passed : (running : RunningValue) (more : ℕ) (look : Option ReleaseHitValue) → running.is_whole ≡ true → running.left ≤ more
+    → with_looks running (replicate more None ++ look ∷ []) ≡ running_of 0 false running.count running.shown running.top running.link
+passed running more look whole few =
+    ap (λ r. with_looks r (replicate more None ++ look ∷ [])) (whole_of running whole)
+    ∙ passed_from more running.left running.count running.shown running.top running.link look few
+
+-- looks one after another
+pub looks_joined : (running : RunningValue) (first more : List (Option ReleaseHitValue)) → with_looks running (first ++ more) ≡ with_looks (with_looks running first) more
+looks_joined running [] more = refl
+looks_joined running (look ∷ first) more = looks_joined (with_look running look) first more
 
 no_room : (bytes : ℕ) (hits : List ReleaseHitValue) → first_within 0 bytes hits ≡ []
 no_room bytes [] = refl

@@ -88,13 +88,13 @@ pub record ArePlaces (query : QueryValue) (rows : List RowValue) : Type 0 where
   pub ascend : IsStrictlyIncreasing (asked_places query rows)
   pub same : (place : ℕ) → Contains (asked_places query rows) place ↔ Contains (places_among query rows) place
 
--- what a search finds in the first rows, such as the first `row_limit`, is what it finds at the first places
+-- the first looks of a search, such as the first `row_limit`, are at the first places, at most as many
 abbrev pub LooksAreAtPlaces : Type 0
 LooksAreAtPlaces =
     (site : site_file.SiteValue) (today : TodayValue) (search : SearchValue) (name : Name) (rows : List RowValue) (limit : ℕ)
     → ArePlaces search.query rows
     × (take limit (looks_in site today search name rows)
-    ≡ looks_at site today search name rows (take limit (asked_places search.query rows)))
+    ≡ take limit (looks_at site today search name rows (take limit (asked_places search.query rows))))
 
 -- the hits in JSON are, by its grammar (RFC 8259), an array with one object for each that is shown, in their order, and
 -- one more if others are left out; numbers fit in 64 bits

@@ -1,6 +1,6 @@
 -- The rows that a search looks at, and what it finds in them.
-use Rattle.std.specs.Prelude.{ℕ, if◌then◌else◌, List, Option, Some, None, filter, map, take}
-use Rattle.std.specs.List.{filter_map}
+use Rattle.std.specs.Prelude.{ℕ, ◌+◌, ◌/◌, if◌then◌else◌, List, [], ◌∷◌, ◌++◌, Option, Some, None, filter, length, replicate, take}
+use Rattle.std.specs.List.{filter_map, flat_map}
 use Rattle.feed_embargo.specs.Today.{TodayValue}
 use Rattle.feed_kbart.specs.Places.{places_by}
 use Rattle.feed_kbart.specs.RowValue.{RowValue}
@@ -14,7 +14,21 @@ use Rattle.feed_resolver_hits.specs.Searches.{SearchValue, compared, is_asked}
 
 -- the most rows that are looked at for a query, in all releases together
 abbrev pub row_limit : ℕ
-row_limit = 20000
+row_limit = 5000
+
+-- a row with long texts counts as one more for so many bytes of a text, since a search may read them all
+abbrev pub look_size : ℕ
+look_size = 250
+
+abbrev pub more_looks : Option RowValue → ℕ
+more_looks None = 0
+more_looks (Some row) =
+    length row.title / look_size + length row.url / look_size + length row.title_id / look_size + length row.depth / look_size
+    + length row.embargo / look_size + length row.access / look_size
+
+-- what is found in a row, if there is one, behind the looks that it counts as more
+abbrev pub looks_of : Option RowValue → Option ReleaseHitValue → List (Option ReleaseHitValue)
+looks_of row look = replicate (more_looks row) None ++ look ∷ []
 
 -- the rows that have one of the identifiers of a query, in file order, and their places
 abbrev pub asked_rows : QueryValue → List RowValue → List RowValue
@@ -35,7 +49,8 @@ look_at site today search name row = hit_found site today search name (hit_by (c
 
 -- what it finds in each of the rows of this release that have one of its identifiers
 abbrev pub looks_in : site_file.SiteValue → TodayValue → SearchValue → Name → List RowValue → List (Option ReleaseHitValue)
-looks_in site today search name rows = map (look_at site today search name) (asked_rows search.query rows)
+looks_in site today search name rows =
+    flat_map (λ row. looks_of (Some row) (look_at site today search name row)) (asked_rows search.query rows)
 
 -- the hits that are found
 abbrev pub found_in : List (Option ReleaseHitValue) → List ReleaseHitValue

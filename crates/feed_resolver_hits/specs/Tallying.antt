@@ -1,6 +1,7 @@
 -- How a tally is made, one row after another.
 use Rattle.std.specs.Prelude.{ℕ, ◌+◌, ◌-◌, ◌<◌, ◌≤◌, ◌&&◌, ◌==◌, nat_lt, Bool, true, false, if◌then◌else◌, List, [], ◌∷◌, ◌++◌, Option, Some, None, fold}
-use Rattle.std.specs.Prelude.{insert, length, map, option_map, reverse, take}
+use Rattle.std.specs.Prelude.{insert, length, option_map, reverse, slice_get, take}
+use Rattle.std.specs.List.{flat_map}
 use Rattle.feed_resolver_hits.specs.Hits.{LinkValue, ReleaseHitValue, better, link_of, link_url, rank_of}
 use Rattle.std.specs.List.Sorted.{IsNonDecreasingBy, IsPartitionPoint}
 use Rattle.feed_resolver_hits.specs.Ranks.{rank_limit}
@@ -10,7 +11,7 @@ use Rattle.feed_kbart.specs.RowValue.{RowValue}
 use Rattle.feed_names.specs.ReleaseName.{Name}
 use Rattle.feed_site.specs.Site as site_file
 use Rattle.feed_resolver_hits.specs.Searches.{SearchValue, compared}
-use Rattle.feed_resolver_hits.specs.Looks.{hit_found, row_limit}
+use Rattle.feed_resolver_hits.specs.Looks.{hit_found, looks_of, row_limit}
 use Rattle.feed_resolver_hits.specs.Tallies.{TallyValue, first_within, shown_limit, text_limit, text_size}
 
 -- the hits that are shown, and how many more and with how many bytes may be
@@ -112,7 +113,8 @@ with_looks running looks = fold with_look running looks
 
 -- what a search finds in the rows of a release at these places
 abbrev pub looks_at : site_file.SiteValue → TodayValue → SearchValue → Name → List RowValue → List ℕ → List (Option ReleaseHitValue)
-looks_at site today search name rows places = map (λ place. hit_found site today search name (hit_at (compared search) rows place)) places
+looks_at site today search name rows places =
+    flat_map (λ place. looks_of (slice_get rows place) (hit_found site today search name (hit_at (compared search) rows place))) places
 
 -- the tally of the rows so far
 abbrev pub tally_from : RunningValue → TallyValue

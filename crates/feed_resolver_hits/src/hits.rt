@@ -1,8 +1,10 @@
 //! A hit of a query, with its release and its availability.
-ghost use Rattle.std.specs.Prelude.{◌≡◌, IfOk, option_copied};
+ghost use Rattle.std.specs.Prelude.{◌≡◌, IfOk, false, option_copied};
+ghost use Rattle.std.specs.Bool.{OnFalse};
 ghost use Rattle.std.specs.Cow.{cow_slice_items};
 ghost use Rattle.feed_answer.specs.HitValue.{hit_of};
 ghost use Rattle.feed_site.specs.Held.{library_has};
+ghost use Rattle.feed_site.specs.Hosts.{is_link};
 ghost use Rattle.feed_site.specs.Packages.{package_place};
 ghost use Rattle.feed_kbart.specs.Identifiers.{kind};
 ghost use Rattle.feed_resolver_hits.specs.Hits.{days_asked, holds_day, holds_days, is_certain, is_found, is_held};
@@ -18,7 +20,7 @@ use feed_dates::DayRange;
 use feed_embargo::{Availability, Today, availability_of};
 use feed_kbart::{Holdings, Kind, Row};
 use feed_names::ReleaseName;
-use feed_site::{SiteFile, library_has, link_to, prefix_for};
+use feed_site::{SiteFile, library_has, link_to, may_be_link, prefix_for};
 use std::alloc::{AllocError, Global};
 use std::borrow::CowSlice;
 use std::marker::Model;
@@ -123,6 +125,13 @@ impl<'a> ReleaseHit<'a> {
         ensures { IfOk result (λ link. cow_slice_items link ≡ link_text self.now) }
     {
         link_to(alloc, self.prefix(), self.row.url())
+    }
+
+    /// Returns whether the hit may have a link that is safe, by what costs less than to write it.
+    pub(crate) fn may_have_link(&self) -> bool
+        ensures { OnFalse result (is_link (link_text self.now) ≡ false) }
+    {
+        may_be_link(self.site, self.row.url())
     }
 
     /// Returns the prefix of the link, if it goes through the proxy.

@@ -44,6 +44,9 @@ impl Links {
         if self.link.is_some() && self.rank >= rank {
             return Ok(());
         }
+        if !found.may_have_link() {
+            return Ok(());
+        }
         let link = found.link(alloc)?;
         if is_link(&link) {
             self.rank = rank;

@@ -1,13 +1,16 @@
 //! The tally of a query's hits: how many there are, the first ones, those of the highest ranks, and the best link.
 //! It is made row by row.
-ghost use Rattle.std.specs.Prelude.{◌≡◌, OnOk, option_copied, true};
+ghost use Rattle.std.specs.Prelude.{◌≡◌, ◌<◌, ◌++◌, ◌∷◌, [], None, OnOk, Option, option_copied, option_map, replicate, slice_get};
+ghost use Rattle.std.specs.Prelude.{true};
+ghost use Rattle.std.specs.Bool.{OnFalse, OnTrue};
 ghost use Rattle.std.specs.List.{AllPass};
 ghost use Rattle.feed_answer.specs.Places.{hit_at};
 ghost use Rattle.feed_site.specs.Packages.{package_place};
-ghost use Rattle.feed_resolver_hits.specs.Looks.{hit_found, looks_in};
+ghost use Rattle.feed_resolver_hits.specs.Hits.{ReleaseHitValue};
+ghost use Rattle.feed_resolver_hits.specs.Looks.{hit_found, looks_in, looks_of, more_looks};
 ghost use Rattle.feed_resolver_hits.specs.Searches.{compared, is_asked_at};
 ghost use Rattle.feed_resolver_hits.specs.Tallies.{left_out, shows_all, sole_link};
-ghost use Rattle.feed_resolver_hits.specs.Tallying.{looks_at, no_hits, tally_from, with_look, with_looks};
+ghost use Rattle.feed_resolver_hits.specs.Tallying.{looks_at, no_hits, tally_from, with_found, with_looks};
 
 use crate::hits::{LibraryRelease, ReleaseHit, is_found};
 use crate::links::Links;
@@ -16,12 +19,16 @@ use crate::row_places::first_places;
 use crate::search::Search;
 use crate::shown::Shown;
 use crate::top::Top;
+use feed_kbart::Row;
 use feed_site::package_place;
 use std::alloc::{AllocError, Global};
 use std::marker::Model;
 
 // The most rows that are looked at for a query, in all releases together, so that no list makes a reply slow.
-const ROW_LIMIT: usize = 20_000;
+const ROW_LIMIT: usize = 5_000;
+
+// A row counts as one more for so many bytes of a text, since a search may read them all.
+const LOOK_SIZE: usize = 250;
 
 /// The tally of the hits of a query so far.
 #[derive(Drop)]
@@ -52,6 +59,21 @@ impl<'a> Model for Tally<'a> {
     } };
 
     ghost invariant = { λ t. t.count + t.left ≤ row_limit };
+}
+
+// Returns how many rows a row counts as, beside itself.
+fn more_looks(row: Option<&Row>) -> usize
+    ensures { result ≡ more_looks (option_map (λ r. r.now) row.entry) }
+{
+    let Some(row) = row else {
+        return 0;
+    };
+    row.title().len() / LOOK_SIZE
+        + row.url().len() / LOOK_SIZE
+        + row.title_id().len() / LOOK_SIZE
+        + row.depth().len() / LOOK_SIZE
+        + row.embargo().len() / LOOK_SIZE
+        + row.access().len() / LOOK_SIZE
 }
 
 // Returns what a search finds in the row at a place of a release, whose package has this place in the order of a site.
@@ -159,6 +181,43 @@ impl<'a> Tally<'a> {
         }
     }
 
+    // Adds what is found in a row that is looked at.
+    fn add_look(&mut self, alloc: Global, look: Option<ReleaseHit<'a>>) -> Result<(), AllocError>
+        requires { 0 < self.old.left }
+        ensures { OnOk result (self.new ≡ with_found self.old look.entry) }
+    {
+        self.left -= 1;
+        match look {
+            Some(found) => {
+                self.count += 1;
+                self.links.add(alloc, &found)?;
+                self.shown.add(&found)?;
+                self.top.add(alloc, found)
+            }
+            None => Ok(()),
+        }
+    }
+
+    // Counts the rows that a row counts as beside itself. Returns whether the row is looked at.
+    fn count_more(&mut self, more: usize) -> bool
+        ensures looked { OnTrue result ((look : Option ReleaseHitValue)
+            → with_looks self.old (replicate more None ++ look ∷ []) ≡ with_found self.new look) }
+        ensures left { OnTrue result (0 < self.new.left) }
+        ensures passed { OnFalse result ((look : Option ReleaseHitValue)
+            → with_looks self.old (replicate more None ++ look ∷ []) ≡ self.new) }
+    {
+        if !self.is_whole {
+            return false;
+        }
+        if self.left <= more {
+            self.left = 0;
+            self.is_whole = false;
+            return false;
+        }
+        self.left -= more;
+        true
+    }
+
     // Looks at the row at a place, unless no more rows are looked at.
     fn look_at(
         &mut self,
@@ -171,25 +230,14 @@ impl<'a> Tally<'a> {
         requires of { site_place ≡ package_place release.now.site.now release.now.name.now.stem }
         requires asked { is_asked_at search.now.query release.now.holdings.now.rows place ≡ true }
         ensures { OnOk result (self.new
-            ≡ with_look self.old (hit_found release.now.site.now release.now.today.now search.now release.now.name.now
-            (hit_at (compared search.now) release.now.holdings.now.rows place))) }
+            ≡ with_looks self.old (looks_of (slice_get release.now.holdings.now.rows place)
+            (hit_found release.now.site.now release.now.today.now search.now release.now.name.now
+            (hit_at (compared search.now) release.now.holdings.now.rows place)))) }
     {
-        if !self.is_whole {
-            return Ok(());
-        }
-        if self.left == 0 {
-            self.is_whole = false;
-            return Ok(());
-        }
-        self.left -= 1;
-        match hit_found(release, site_place, place, search) {
-            Some(found) => {
-                self.count += 1;
-                self.links.add(alloc, &found)?;
-                self.shown.add(&found)?;
-                self.top.add(alloc, found)
-            }
-            None => Ok(()),
+        if self.count_more(more_looks(release.holdings.rows().get(place as usize))) {
+            self.add_look(alloc, hit_found(release, site_place, place, search))
+        } else {
+            Ok(())
         }
     }
 
