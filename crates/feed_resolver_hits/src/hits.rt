@@ -127,7 +127,7 @@ impl<'a> ReleaseHit<'a> {
         link_to(alloc, self.prefix(), self.row.url())
     }
 
-    /// Returns whether the hit may have a link that is safe, by what costs less than to write it.
+    /// Returns false only if the link of the hit is not safe. Does not write it.
     pub(crate) fn may_have_link(&self) -> bool
         ensures { OnFalse result (is_link (link_text self.now) ≡ false) }
     {

@@ -1,7 +1,7 @@
 //! The tally of a query's hits: how many there are, the first ones, those of the highest ranks, and the best link.
 //! It is made row by row.
-ghost use Rattle.std.specs.Prelude.{◌≡◌, ◌<◌, ◌++◌, ◌∷◌, [], None, OnOk, Option, option_copied, option_map, replicate, slice_get};
-ghost use Rattle.std.specs.Prelude.{true};
+ghost use Rattle.std.specs.Prelude.{◌≡◌, ◌<◌, ◌++◌, ◌∷◌, [], None, OnOk, Option, option_copied, option_map};
+ghost use Rattle.std.specs.Prelude.{replicate, slice_get, true};
 ghost use Rattle.std.specs.Bool.{OnFalse, OnTrue};
 ghost use Rattle.std.specs.List.{AllPass};
 ghost use Rattle.feed_answer.specs.Places.{hit_at};

@@ -92,8 +92,8 @@ pub fn prefix_for<'a>(site: &'a SiteFile, target: &[u8], is_free: bool) -> Optio
     }
 }
 
-/// Returns whether the link to a target may be safe ([`is_link`](crate::is_link)), by what costs less than to write it:
-/// the length of the target, its bytes and its host.
+/// Returns false only if the link to a target is not safe ([`is_link`](crate::is_link)). Looks at the length of the
+/// target, its bytes and its host, and does not write the link.
 pub fn may_be_link(site: &SiteFile, target: &[u8]) -> bool
     ensures { OnFalse result ((is_free : Bool)
         → is_link (through (prefix_for site.now target.now is_free) target.now) ≡ false) }
