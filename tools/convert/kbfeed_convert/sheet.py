@@ -1,6 +1,7 @@
 """A spreadsheet as tab-separated text, so that what follows has one form to read."""
 import datetime
 import errno
+import importlib
 import io
 import re
 import tempfile
@@ -16,7 +17,7 @@ Finder = Callable[[list[list[str]]], bool]
 def as_text(file: IO[bytes], wanted: str, has_header: Finder) -> tuple[IO[bytes], str]:
     """Returns the text of a sheet and the sheet's name: of the wanted one, or of the first with a header."""
     try:
-        import openpyxl     # type: ignore[import]
+        openpyxl = importlib.import_module("openpyxl")
     except ImportError as error:
         raise Refused("a spreadsheet: install python3-openpyxl") from error
     try:
