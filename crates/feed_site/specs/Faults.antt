@@ -35,7 +35,7 @@ or_misfit None other = other
 
 -- the reason why a text is not a value of its kind
 abbrev pub reason_of : Kind → Reason
-reason_of Text = bad.Empty
+reason_of Text = bad.TextSize
 reason_of Language = bad.Language
 reason_of Color = bad.Color
 reason_of Url = bad.Url

@@ -10,9 +10,9 @@ use Rattle.feed_site.specs.Hosts.{is_link}
 use Rattle.feed_site.specs.declared.kind.Kind.{Kind}
 use Rattle.feed_site.specs.declared.kind.Kind.TheVariants.{Text, Language, Color, Url, Template, Package, Date}
 
--- a text to show
+-- a text to show, which a page may have a thousand times
 abbrev pub is_text : List ℕ → Bool
-is_text text = not (length text == 0)
+is_text text = is_sized 1 250 text
 
 -- the language at the front of a tag: two to eight letters
 abbrev pub is_primary : List ℕ → Bool

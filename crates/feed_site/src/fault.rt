@@ -16,8 +16,8 @@ pub enum Reason {
     NotText,
     /// The value has to be `true` or `false`.
     NotSwitch,
-    /// The text is empty.
-    Empty,
+    /// The text does not have 1 to 250 bytes.
+    TextSize,
     /// The text is not a tag of a language.
     Language,
     /// The text is not a colour.
@@ -46,7 +46,7 @@ impl Reason {
             Reason::NotList => "it is not a list",
             Reason::NotText => "it is not a text in quotation marks",
             Reason::NotSwitch => "it is neither true nor false",
-            Reason::Empty => "the text is empty",
+            Reason::TextSize => "the text does not have 1 to 250 bytes",
             Reason::Language => "it is not a tag of a language, as en-GB",
             Reason::Color => "it is not a colour, as #00539f",
             Reason::Url => {

@@ -2,6 +2,7 @@
 ghost use Rattle.std.specs.Prelude.{◌≡◌};
 ghost use Rattle.feed_site.specs.Kinds.{is_of};
 
+use crate::cuts::is_sized;
 use crate::hosts::is_link;
 use crate::template::is_template;
 use crate::text::{is_color, is_date, is_language, is_package};
@@ -9,7 +10,7 @@ use crate::text::{is_color, is_date, is_language, is_package};
 /// A kind of value.
 #[derive(Clone, Copy)]
 pub enum Kind {
-    /// A text that is not empty.
+    /// A text of at most 250 bytes that is not empty. A page may have it a thousand times.
     Text,
     /// A tag of a language, such as `en-GB`.
     Language,
@@ -35,7 +36,7 @@ impl Kind {
         ensures { result ≡ is_of self text.now }
     {
         match self {
-            Kind::Text => !text.is_empty(),
+            Kind::Text => is_sized(1, 250, text),
             Kind::Language => is_language(text),
             Kind::Color => is_color(text),
             Kind::Url => is_link(text),

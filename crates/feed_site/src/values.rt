@@ -20,7 +20,7 @@ fn reason_of(kind: Kind) -> Reason
     ensures { result ≡ reason_of kind }
 {
     match kind {
-        Kind::Text => Reason::Empty,
+        Kind::Text => Reason::TextSize,
         Kind::Language => Reason::Language,
         Kind::Color => Reason::Color,
         Kind::Url => Reason::Url,
