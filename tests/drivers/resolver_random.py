@@ -20,9 +20,9 @@ import sys
 import urllib.parse
 
 WORLD = 20
-# Every so many worlds one has a long list. A query looks at the first ROWS rows that have one of its identifiers, and a
-# reply shows SHOWN hits at most.
-LONG, ROWS, SHOWN = 25, 20_000, 1_000
+# Every so many worlds one has a long list. A query looks at the first ROWS rows that have one of its identifiers, where a
+# row counts as one more for each SIZE bytes of a text, and a reply shows SHOWN hits at most.
+LONG, ROWS, SIZE, SHOWN = 25, 5_000, 250, 1_000
 LABELS = ["publication_title", "print_identifier", "online_identifier", "date_first_issue_online",
           "num_first_vol_online", "date_last_issue_online", "num_last_vol_online", "title_url", "title_id",
           "embargo_info", "coverage_depth", "access_type", "publication_type"]
@@ -244,6 +244,12 @@ class Hit:
                 not (full and self.row.cells["access_type"] == "F"), place)
 
 
+def looks_at(cells):
+    """Returns how many rows a row counts as, by its texts."""
+    texts = ["publication_title", "title_url", "title_id", "coverage_depth", "embargo_info", "access_type"]
+    return 1 + sum(len(cells[label].encode()) // SIZE for label in texts)
+
+
 class World:
     """Lists, a site file and a day."""
 
@@ -287,7 +293,11 @@ class World:
             {"title_url": "https://a.example/", "coverage_depth": "fulltext"},
             {"date_first_issue_online": "1950", "date_last_issue_online": "1951", "coverage_depth": "fulltext"}])
         others = [self.random_record("long") | journal for _ in range(2)]
-        return self.dice.choices([most, *others], [98, 1, 1], k=count)
+        others[0]["publication_title"] = "T" * self.dice.choice([SIZE - 1, SIZE, 3 * SIZE])
+        records = self.dice.choices([most, *others], [98, 1, 1], k=count)
+        while sum(map(looks_at, records)) > count:
+            records.pop()
+        return records
 
     def random_site(self, names):
         chance = self.dice.random
@@ -300,7 +310,7 @@ class World:
                 self.packages.append({"id": name, **self.random_held()})
         for name in names:
             for title in dict.fromkeys(row.cells["title_id"] for row in self.lists[name]):
-                if chance() < 0.15:
+                if title and chance() < 0.15:
                     self.titles.append({"package": name, "id": title, **self.random_held()})
         self.dice.shuffle(self.packages)
 
@@ -361,10 +371,13 @@ class World:
 
     def looked_at(self, query, packages):
         """Returns the rows by package at which a query looks."""
-        found, left = {}, ROWS
+        found, left = {package: [] for package in packages}, ROWS
         for package in packages:
-            found[package] = self.rows_with(query, package)[:left]
-            left -= len(found[package])
+            for row in self.rows_with(query, package):
+                left -= looks_at(row.cells)
+                if left < 0:
+                    return found
+                found[package].append(row)
         return found
 
     def rows_with(self, query, package):
@@ -372,7 +385,7 @@ class World:
 
     def is_whole(self, query, packages):
         """Returns whether a query looks at all rows of some packages that have one of its identifiers."""
-        return sum(len(self.rows_with(query, package)) for package in packages) <= ROWS
+        return sum(looks_at(row.cells) for package in packages for row in self.rows_with(query, package)) <= ROWS
 
     def hits(self, query, packages):
         """Returns the hits of a query by package, in the order of the files."""
