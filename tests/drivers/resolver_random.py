@@ -20,8 +20,8 @@ import sys
 import urllib.parse
 
 WORLD = 20
-# Every so many worlds one has a long list. A query looks at the first ROWS rows that have one of its identifiers, where a
-# row counts as one more for each SIZE bytes of a text, and a reply shows SHOWN hits at most.
+# Every so many worlds one has a long list. A query looks at the first ROWS rows that have one of its identifiers. A row
+# counts as one more for each SIZE bytes of a text. A reply shows SHOWN hits at most.
 LONG, ROWS, SIZE, SHOWN = 25, 5_000, 250, 1_000
 LABELS = ["publication_title", "print_identifier", "online_identifier", "date_first_issue_online",
           "num_first_vol_online", "date_last_issue_online", "num_last_vol_online", "title_url", "title_id",
