@@ -1,5 +1,5 @@
 //! Parsing the query of an OpenURL.
-ghost use Rattle.std.specs.Prelude.{◌≡◌, IfOk, OnOk, if◌then◌else◌};
+ghost use Rattle.std.specs.Prelude.{◌≡◌, [], IfOk, OnOk, fold, if◌then◌else◌};
 ghost use Rattle.std.specs.List.{list_any};
 ghost use Rattle.std.specs.BTreeSet.{insert_key};
 ghost use Rattle.feed_answer.specs.IdentifierSet.{IsAscending, bytes_cmp};
@@ -43,6 +43,7 @@ impl Model for Query {
 impl Query {
     ghost use Rattle.feed_answer.specs.IdentifierSet.{IsAscending};
     ghost use Rattle.feed_answer.specs.Queries.{IsQueryResult};
+    ghost use Rattle.feed_answer.specs.QueryValue.{query_with};
 
     /// Parses the bytes after the `?` of an OpenURL: pairs of `application/x-www-form-urlencoded` text. Keys are
     /// compared exactly.
@@ -81,6 +82,28 @@ impl Query {
             isbns,
             days: first_days(&pairs),
             volume: first_volume(&pairs),
+        })
+    }
+
+    /// Returns the query for identifiers in any order, days and a volume.
+    ///
+    /// # Errors
+    ///
+    /// Running out of memory.
+    pub fn of(
+        alloc: Global,
+        issns: &[Issn],
+        isbns: &[Isbn],
+        days: Option<DayRange>,
+        volume: Option<u32>,
+    ) -> Result<Query, AllocError>
+        ensures { IfOk result (λ query. query ≡ query_with issns.now isbns.now days volume) }
+    {
+        Ok(Query {
+            issns: set_of(alloc, issns)?,
+            isbns: set_of(alloc, isbns)?,
+            days,
+            volume,
         })
     }
 
@@ -166,6 +189,17 @@ fn add<T: Ord + Copy>(identifiers: &mut Vec<T>, identifier: T) -> Result<(), All
         }
     }
     Ok(identifiers.push(identifier)?)
+}
+
+// Returns the set of some identifiers.
+fn set_of<T: Ord + Copy>(alloc: Global, identifiers: &[T]) -> Result<Vec<T>, AllocError>
+    ensures { IfOk result (λ set. set.items ≡ fold (insert_key T.cmp) [] identifiers.now) }
+{
+    let mut set = Vec::new(alloc);
+    for identifier in identifiers {
+        add(&mut set, *identifier)?;
+    }
+    Ok(set)
 }
 
 // The ISSNs and the ISBNs that the pairs of a query ask for, each as a set. In the format of books ISSNs do not count,

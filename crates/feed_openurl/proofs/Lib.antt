@@ -14,3 +14,4 @@ pub mod Shows
 pub mod Cited
 pub mod Counting
 pub mod Steps
+pub mod Queries

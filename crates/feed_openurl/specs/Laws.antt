@@ -13,6 +13,7 @@ use Rattle.feed_openurl.specs.Citations.{citation_of_pairs}
 use Rattle.feed_openurl.specs.Dropped.{is_dropped}
 use Rattle.feed_openurl.specs.Identifiers.{count, identifier_limit, identifiers_of, looked_up}
 use Rattle.feed_openurl.specs.Keys.{is_name, mended}
+use Rattle.feed_openurl.specs.Queries.{query_for}
 use Rattle.feed_openurl.specs.Values.{IsWellFormed, UnderstandingValue, understood, understood_pairs}
 use Rattle.feed_openurl.specs.Written.{written, written_limit}
 use Rattle.feed_openurl.specs.declared.fault.Refusal.{Refusal}
@@ -66,8 +67,7 @@ WrittenIsShort = (u : UnderstandingValue) → IsWellFormed u → length (written
 abbrev pub WrittenIsAccepted : Type 0
 WrittenIsAccepted =
     (u : UnderstandingValue) → IsWellFormed u → u.refusal ≡ None
-    → query_of (written u)
-    ≡ Ok (record { issns = u.issns; isbns = u.isbns; days = option_and_then query_days_of u.date; volume = option_and_then volume_of u.volume })
+    → query_of (written u) ≡ Ok (query_for u)
 
 -- a query that is refused has nothing to look up once it is written, whatever the reason was
 abbrev pub refusal_of_written : Option Refusal → Option Refusal

@@ -17,4 +17,5 @@ pub mod Citations
 pub mod Dropped
 pub mod Values
 pub mod Written
+pub mod Queries
 pub mod Laws

@@ -8,8 +8,10 @@ use crate::value::values_of;
 use crate::volume::VolumeText;
 use crate::volumes::volume_of;
 use crate::writing::write_query;
-use feed_answer::{decode_pairs, sets_ascend};
+use feed_answer::{Query, decode_pairs, sets_ascend};
+use feed_dates::DayRange;
 use feed_identifiers::{Isbn, Issn, printed_isbn_parses, printed_issn_parses};
+use feed_kbart::read_volume;
 use std::alloc::{AllocError, Global};
 use std::marker::Model;
 
@@ -43,6 +45,10 @@ impl Model for Understanding {
 impl Understanding {
     ghost use Rattle.std.specs.Prelude.{◌≡◌, IfOk, IfSome, option_copied};
     ghost use Rattle.feed_openurl.specs.Texts.{IsDateText, IsVolumeText};
+    ghost use Rattle.std.specs.Option.{option_and_then};
+    ghost use Rattle.feed_dates.specs.DayRanges.{query_days_of};
+    ghost use Rattle.feed_kbart.specs.Volumes.{volume_of};
+    ghost use Rattle.feed_openurl.specs.Queries.{asked_by};
     ghost use Rattle.feed_openurl.specs.Values.{AreIdentifiers, IsCounted, IsWellFormed, understood};
     ghost use Rattle.feed_openurl.specs.Written.{written};
 
@@ -114,6 +120,38 @@ impl Understanding {
         ensures { result ≡ self.now.refusal }
     {
         self.refusal
+    }
+
+    // Returns the days of the date.
+    fn days(&self) -> Option<DayRange>
+        ensures { result ≡ option_and_then query_days_of self.now.date }
+    {
+        DayRange::of_query(self.date()?)
+    }
+
+    // Returns the number of the volume.
+    fn volume_number(&self) -> Option<u32>
+        ensures { result ≡ option_and_then volume_of self.now.volume }
+    {
+        read_volume(self.volume()?)
+    }
+
+    /// Returns the query of the core for the same, or why there is nothing to look up.
+    ///
+    /// # Errors
+    ///
+    /// Running out of memory.
+    pub fn query(&self, alloc: Global) -> Result<Result<Query, Refusal>, AllocError>
+        ensures { IfOk result (λ asked. asked ≡ asked_by self.now) }
+    {
+        match self.refusal() {
+            Some(reason) => Ok(Err(reason)),
+            None => {
+                let (days, volume) = (self.days(), self.volume_number());
+                let query = Query::of(alloc, self.issns(), self.isbns(), days, volume)?;
+                Ok(Ok(query))
+            }
+        }
     }
 
     /// Returns the OpenURL 1.0 query that asks the core for the same. If the query is refused, it has no identifiers.

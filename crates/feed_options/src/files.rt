@@ -55,7 +55,7 @@ pub struct ComparisonForm {
     pub is_summary: bool,
 }
 
-/// What `serve` serves, where, how often, and how long a client may take for its request and its reply.
+/// The options of `serve`: the folder, the address, and the limits for clients.
 #[derive(Clone, Copy)]
 pub struct ServeOptions<'a> {
     /// The path of the folder.
