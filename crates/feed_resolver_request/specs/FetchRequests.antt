@@ -10,7 +10,9 @@ use Rattle.feed_http_heads.specs.Targets.{origin_form}
 use Rattle.feed_identifiers.specs.Text.{trimmed}
 use Rattle.feed_names.specs.ReleaseName.{Name, IsName, IsNameFault}
 use Rattle.feed_names.specs.declared.name_fault.NameFault.{NameFault}
-use Rattle.feed_resolver_request.specs.Targets.{path_in}
+use Rattle.feed_resolver_request.specs.Routes.{path_in, route_of}
+use Rattle.feed_resolver_request.specs.declared.route.Route.{Route}
+use Rattle.feed_resolver_request.specs.declared.route.Route.TheVariants.{Fetch}
 use Rattle.feed_resolver_request.specs.FoundRequests.{BeginsWith, HasNoHead}
 
 -- who may make a node fetch: the token that authorizes a client, if one is configured, and whether a fetch is under way
@@ -22,9 +24,14 @@ pub record FetchPolicyValue : Type 0 where
 abbrev pub name_after_feed : List ℕ → Option (List ℕ)
 name_after_feed path = if bytes_eq (take 6 path) (codes "/feed/") then Some (drop 6 path) else None
 
+-- the release that a path of this route names
+abbrev pub name_at : Route → List ℕ → Option (List ℕ)
+name_at Fetch path = name_after_feed path
+name_at route path = None
+
 -- the release to fetch, as a POST names it
 abbrev pub name_to_fetch : RequestHead → Option (List ℕ)
-name_to_fetch head = if bytes_eq head.method (codes "POST") then name_after_feed (path_in (origin_form head.target)) else None
+name_to_fetch head = if bytes_eq head.method (codes "POST") then name_at (route_of head) (path_in (origin_form head.target)) else None
 
 -- the value is `Bearer`, in any case (RFC 9110, section 11.1), a space and the token (RFC 6750, section 2.1)
 abbrev pub has_token : List ℕ → List ℕ → Bool

@@ -7,10 +7,9 @@ use Rattle.feed_range.specs.Text.{split_once, number_in_64_bits}
 use Rattle.feed_identifiers.specs.Text.{trimmed}
 use Rattle.feed_http_heads.specs.Fields.{values_named, only, has_any}
 use Rattle.feed_http_heads.specs.Requests.{lacks_host}
-use Rattle.feed_http_heads.specs.Targets.{origin_form}
-use Rattle.feed_resolver_request.specs.Targets.{path_in, resource_of}
-use Rattle.feed_resolver_request.specs.declared.target.Resource.{Resource}
-use Rattle.feed_resolver_request.specs.declared.target.Resource.TheVariants.{Home, Status, Resolve, Package, Go, Titles, Unknown}
+use Rattle.feed_resolver_request.specs.Routes.{route_of}
+use Rattle.feed_resolver_request.specs.declared.route.Route.{Route}
+use Rattle.feed_resolver_request.specs.declared.route.Route.TheVariants.{Resolve, Package, Go}
 use Rattle.feed_resolver_request.specs.declared.form.FormFault.{FormFault}
 use Rattle.feed_resolver_request.specs.declared.form.FormFault.TheVariants.{Coding, NoLength, BadLength, TooLong, MediaType}
 
@@ -18,17 +17,16 @@ use Rattle.feed_resolver_request.specs.declared.form.FormFault.TheVariants.{Codi
 abbrev pub form_limit : ℕ
 form_limit = 8192
 
--- the resources that answer a query
-abbrev pub takes_form : Resource → Bool
+-- the routes that answer a query
+abbrev pub takes_form : Route → Bool
 takes_form Resolve = true
 takes_form Package = true
 takes_form Go = true
-takes_form resource = false
+takes_form route = false
 
--- the request is a POST of such a resource
+-- the request is a POST of such a route
 abbrev pub is_form_post : RequestHead → Bool
-is_form_post head =
-    bytes_eq head.method (codes "POST") && (not (lacks_host head) && takes_form (resource_of (path_in (origin_form head.target))))
+is_form_post head = bytes_eq head.method (codes "POST") && (not (lacks_host head) && takes_form (route_of head))
 
 -- a Content-Type of forms, whatever its parameters
 abbrev pub is_form_type : List ℕ → Bool

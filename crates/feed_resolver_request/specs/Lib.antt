@@ -1,5 +1,5 @@
 pub mod Representations
-pub mod Targets
+pub mod Routes
 pub mod FoundRequests
 pub mod FetchRequests
 pub mod Forms

@@ -3,12 +3,13 @@
 ghost use Rattle.std.specs.Prelude.{◌≡◌};
 ghost use Rattle.httparse.specs.Grammar.{RequestHead};
 ghost use Rattle.feed_http_heads.specs.Fields.{AreWithin, AreFieldsOf};
-ghost use Rattle.feed_http_heads.specs.Requests.{IsInBuffer, HasHead};
+ghost use Rattle.feed_http_heads.specs.Requests.{HasHead};
 ghost use Rattle.feed_resolver_request.specs.Forms.{takes_form, is_form_post, is_form_type, has_form_type};
 ghost use Rattle.feed_resolver_request.specs.Forms.{stated_length, form_in, form_of, form_length};
 
-use crate::target::{Resource, path_in, resource_of};
-use feed_http_heads::{Fields, Request, origin_form};
+use crate::received::ParsedRequest;
+use crate::route::Route;
+use feed_http_heads::Fields;
 use feed_identifiers::trim_spaces;
 use feed_range::{read_number, split_once};
 
@@ -30,23 +31,19 @@ pub enum FormFault {
     MediaType,
 }
 
-/// Returns whether a resource takes a form: whether it answers a query.
-pub fn takes_form(resource: Resource) -> bool
-    ensures { result ≡ takes_form resource }
+/// Returns whether a route takes a form: whether it answers a query.
+pub fn takes_form(route: Route) -> bool
+    ensures { result ≡ takes_form route }
 {
-    match resource {
-        Resource::Resolve | Resource::Package | Resource::Go => true,
-        Resource::Home | Resource::Status | Resource::Titles | Resource::Unknown => false,
-    }
+    matches!(route, Route::Resolve | Route::Package | Route::Go)
 }
 
-fn is_form_post(request: &Request<'_>) -> bool
-    requires { IsInBuffer request.now }
-    ensures { (head : RequestHead) → HasHead request.now head → result ≡ is_form_post head }
+fn is_form_post(parsed: &ParsedRequest<'_>) -> bool
+    ensures { (head : RequestHead) → HasHead parsed.now.request head → result ≡ is_form_post head }
 {
-    request.method() == b"POST".as_slice()
-        && !request.lacks_host()
-        && takes_form(resource_of(path_in(origin_form(request.target()))))
+    parsed.request.method() == b"POST".as_slice()
+        && !parsed.request.lacks_host()
+        && takes_form(parsed.route)
 }
 
 fn is_form_type(value: &[u8]) -> bool
@@ -107,12 +104,11 @@ fn form_in(fields: &Fields<'_>) -> Result<u64, FormFault>
 
 /// Returns the length of the form that a request submits, or why it is not read. Returns none if the request is not
 /// such a POST.
-pub fn form_of(request: &Request<'_>) -> Option<Result<u64, FormFault>>
-    requires { IsInBuffer request.now }
-    ensures { (head : RequestHead) → HasHead request.now head → result ≡ form_of head }
+pub fn form_of(parsed: &ParsedRequest<'_>) -> Option<Result<u64, FormFault>>
+    ensures { (head : RequestHead) → HasHead parsed.now.request head → result ≡ form_of head }
 {
-    if is_form_post(request) {
-        Some(form_in(&request.fields()))
+    if is_form_post(parsed) {
+        Some(form_in(&parsed.request.fields()))
     } else {
         None
     }
@@ -120,11 +116,10 @@ pub fn form_of(request: &Request<'_>) -> Option<Result<u64, FormFault>>
 
 /// Returns the number of bytes of body to be read after the head of a request: those of its form, at most 8,192, and 0
 /// for every other request.
-pub fn form_length(request: &Request<'_>) -> u64
-    requires { IsInBuffer request.now }
-    ensures { (head : RequestHead) → HasHead request.now head → result ≡ form_length head }
+pub fn form_length(parsed: &ParsedRequest<'_>) -> u64
+    ensures { (head : RequestHead) → HasHead parsed.now.request head → result ≡ form_length head }
 {
-    match form_of(request) {
+    match form_of(parsed) {
         Some(Ok(length)) => length,
         _ => 0,
     }
