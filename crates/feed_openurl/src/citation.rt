@@ -155,7 +155,12 @@ impl Citation {
         Ok(Citation { texts })
     }
 
-    fn of(alloc: Global, pairs: &[Pair<'_>]) -> Result<Citation, AllocError>
+    /// Reads the citation of the decoded pairs of a query.
+    ///
+    /// # Errors
+    ///
+    /// Running out of memory.
+    pub fn of_pairs(alloc: Global, pairs: &[Pair<'_>]) -> Result<Citation, AllocError>
         ensures { IfOk result (λ c. c ≡ citation_of_pairs pairs.now) }
     {
         let offers = offers_of(alloc, pairs)?;
@@ -172,7 +177,7 @@ impl Citation {
         ensures { IfOk result (λ c. c ≡ citation_of text.now) }
     {
         let pairs = decode_pairs(alloc, text)?;
-        Citation::of(alloc, &pairs)
+        Citation::of_pairs(alloc, &pairs)
     }
 
     /// Returns the text of a part.

@@ -8,7 +8,7 @@ use crate::value::values_of;
 use crate::volume::VolumeText;
 use crate::volumes::volume_of;
 use crate::writing::write_query;
-use feed_answer::{Query, decode_pairs, sets_ascend};
+use feed_answer::{Pair, Query, decode_pairs, sets_ascend};
 use feed_dates::DayRange;
 use feed_identifiers::{Isbn, Issn, printed_isbn_parses, printed_issn_parses};
 use feed_kbart::read_volume;
@@ -49,7 +49,8 @@ impl Understanding {
     ghost use Rattle.feed_dates.specs.DayRanges.{query_days_of};
     ghost use Rattle.feed_kbart.specs.Volumes.{volume_of};
     ghost use Rattle.feed_openurl.specs.Queries.{asked_by};
-    ghost use Rattle.feed_openurl.specs.Values.{AreIdentifiers, IsCounted, IsWellFormed, understood};
+    ghost use Rattle.feed_openurl.specs.Values.{AreIdentifiers, IsCounted, IsWellFormed};
+    ghost use Rattle.feed_openurl.specs.Values.{understood, understood_pairs};
     ghost use Rattle.feed_openurl.specs.Written.{written};
 
     /// Reads the bytes after the `?` of an OpenURL, or the body of a form, of any length.
@@ -60,14 +61,25 @@ impl Understanding {
     pub fn read(alloc: Global, text: &[u8]) -> Result<Understanding, ReadFault>
         ensures { IfOk result (λ u. u ≡ understood text.now) }
     {
+        let pairs = decode_pairs(alloc, text)?;
+        Understanding::of_pairs(alloc, &pairs)
+    }
+
+    /// Reads the decoded pairs of a query.
+    ///
+    /// # Errors
+    ///
+    /// `Memory`.
+    pub fn of_pairs(alloc: Global, pairs: &[Pair<'_>]) -> Result<Understanding, ReadFault>
+        ensures { IfOk result (λ u. u ≡ understood_pairs pairs.now) }
+    {
         sets_ascend();
         printed_issn_parses();
         printed_isbn_parses();
-        let pairs = decode_pairs(alloc, text)?;
-        let values = values_of(alloc, &pairs)?;
-        let date = date_of(alloc, &pairs, &values)?;
-        let volume = volume_of(alloc, &pairs, &values)?;
-        let found = looked_up(alloc, &pairs, &values)?;
+        let values = values_of(alloc, pairs)?;
+        let date = date_of(alloc, pairs, &values)?;
+        let volume = volume_of(alloc, pairs, &values)?;
+        let found = looked_up(alloc, pairs, &values)?;
         Ok(Understanding {
             issns: found.issns,
             isbns: found.isbns,
