@@ -1,8 +1,6 @@
 -- The reply of a responder in a turn.
-use Rattle.std.proofs.Common.{◌≡◌, ◌≤◌, ◌⊎◌, ℕ, Bool, true, false, List, length, take, drop, Some, None, Option, inl, inr, refl, sym, ap, ◌∙◌, subst, arith}
+use Rattle.std.proofs.Common.{◌≡◌, ◌≤◌, ◌⊎◌, ℕ, Bool, true, false, List, length, Some, None, Option, inl, inr, refl, sym, ap, ◌∙◌, subst, arith}
 use Rattle.std.proofs.lemmas.Bool.{cases_Bool, false≢true, ltb-false}
-use Rattle.std.proofs.lemmas.Slice.Eq.{bytes_eq-Decides}
-use Rattle.std.proofs.lemmas.List.{take-take}
 use Rattle.std.specs.Prelude.{◌==◌, ◌&&◌, ◌||◌, not, nat_lt, is_some, if◌then◌else◌, codes, MatchBool, Result, Ok, Err}
 use Rattle.std.specs.Str.{bytes_eq}
 use Rattle.httparse.specs.Grammar.{RequestHead}
@@ -14,10 +12,11 @@ use Rattle.feed_model.specs.History.{History}
 use Rattle.feed_http_heads.specs.Fields.{values_named, has_any}
 use Rattle.feed_http_heads.specs.Requests.{lacks_host}
 use Rattle.feed_http_heads.specs.Targets.{origin_form}
-use Rattle.feed_resolver_request.specs.Targets.{path_in, resource_of, names_package}
-use Rattle.feed_resolver_request.specs.FetchRequests.{FetchPolicyValue, name_to_fetch, name_after_feed}
+use Rattle.feed_resolver_request.specs.Routes.{path_in, route_of}
+use Rattle.feed_resolver_request.specs.FetchRequests.{FetchPolicyValue, name_to_fetch, name_at}
 use Rattle.feed_resolver_request.specs.Forms.{form_limit, takes_form, is_form_post, has_form_type, stated_length, form_by, form_in, length_of_form, form_length}
-use Rattle.feed_resolver_request.specs.declared.target.Resource.TheVariants.{Home, Status, Resolve, Package, Go, Titles, Unknown}
+use Rattle.feed_resolver_request.specs.declared.route.Route.{Route}
+use Rattle.feed_resolver_request.specs.declared.route.Route.TheVariants.{Resolve, Package, Go}
 use Rattle.feed_resolver_request.specs.declared.form.FormFault.{FormFault}
 use Rattle.feed_resolver_request.specs.declared.form.FormFault.TheVariants.{Coding}
 use Rattle.feed_resolver_reply.specs.Replies.{ResponseValue}
@@ -45,37 +44,16 @@ same_response r bytes status size b s l = rw (b, s, l) refl
 
 -- ---- a request to fetch has no form
 
-names_fetch : (is_post is_below : Bool) (rest : List ℕ) → is_some (if is_post then (if is_below then Some rest else None) else None) ≡ true → is_below ≡ true
-names_fetch true true rest is = refl
-names_fetch true false rest is = absurd (cc)
-names_fetch false is_below rest is = absurd (cc)
+none_named : (post : Bool) → is_some (if post then None {A = List ℕ} else None) ≡ true → ⊥
+none_named true named = false≢true named
+none_named false named = false≢true named
 
--- a path that begins with `/feed/` differs from one that begins otherwise
-differs : (path other : List ℕ) → take 6 path ≡ codes "/feed/" → bytes_eq (take 6 other) (codes "/feed/") ≡ false → bytes_eq path other ≡ false
-differs path other feed not_feed = by (cases_Bool (bytes_eq path other))
-  where
-    by : (bytes_eq path other ≡ true) ⊎ (bytes_eq path other ≡ false) → bytes_eq path other ≡ false
-    by (inl same) =
-        let is : path ≡ other = (bytes_eq-Decides path other).0 same in
-        absurd (false≢true (sym not_feed ∙ (bytes_eq-Decides (take 6 other) (codes "/feed/")).1 (ap (take 6) (sym is) ∙ feed)))
-    by (inr other_is) = other_is
-
-no_form_by : (home status resolve go titles packaged : Bool) → resolve ≡ false → go ≡ false → packaged ≡ false
-    → takes_form (if home then Home else (if status then Status else (if resolve then Resolve else (if go then Go
-    else (if titles then Titles else (if packaged then Package else Unknown)))))) ≡ false
-no_form_by true status resolve go titles packaged r g p = refl
-no_form_by false true resolve go titles packaged r g p = refl
-no_form_by false false true go titles packaged r g p = absurd (cc)
-no_form_by false false false true titles packaged r g p = absurd (cc)
-no_form_by false false false false true packaged r g p = refl
-no_form_by false false false false false true r g p = absurd (cc)
-no_form_by false false false false false false r g p = refl
-
-no_form_below_feed : (path : List ℕ) → take 6 path ≡ codes "/feed/" → takes_form (resource_of path) ≡ false
-no_form_below_feed path feed =
-    no_form_by (bytes_eq path (codes "/")) (bytes_eq path (codes "/status")) (bytes_eq path (codes "/resolve")) (bytes_eq path (codes "/go"))
-    (bytes_eq path (codes "/titles")) (names_package path) (differs path (codes "/resolve") feed refl) (differs path (codes "/go") feed refl)
-    (differs (take 9 path) (codes "/resolve/") (take-take 6 9 path (omega arith) ∙ feed) refl)
+-- what names a release to fetch has the route of a fetch, which takes no form
+named_takes_none : (route : Route) (post : Bool) (path : List ℕ) → is_some (if post then name_at route path else None) ≡ true → takes_form route ≡ false
+named_takes_none Resolve post path named = absurd (none_named post named)
+named_takes_none Package post path named = absurd (none_named post named)
+named_takes_none Go post path named = absurd (none_named post named)
+named_takes_none route post path named = refl
 
 no_form_post : (is_post has_host takes : Bool) (form : Result ℕ FormFault) → takes ≡ false
     → length_of_form (if is_post && (has_host && takes) then Some form else None) ≡ 0
@@ -85,10 +63,9 @@ no_form_post false has_host takes form none = refl
 
 fetch_has_no_form : (head : RequestHead) → is_some (name_to_fetch head) ≡ true → form_length head ≡ 0
 fetch_has_no_form head named =
-    let path = path_in (origin_form head.target) in
-    let below = names_fetch (bytes_eq head.method (codes "POST")) (bytes_eq (take 6 path) (codes "/feed/")) (drop 6 path) named in
-    no_form_post (bytes_eq head.method (codes "POST")) (not (lacks_host head)) (takes_form (resource_of path)) (form_in head)
-    (no_form_below_feed path ((bytes_eq-Decides (take 6 path) (codes "/feed/")).0 below))
+    let post = bytes_eq head.method (codes "POST") in
+    no_form_post post (not (lacks_host head)) (takes_form (route_of head)) (form_in head)
+    (named_takes_none (route_of head) post (path_in (origin_form head.target)) named)
 
 -- ---- a form is short
 
@@ -140,7 +117,7 @@ asks_by_post true name named none = false≢true (sym none)
 asks_by_post false name named none = false≢true named
 
 fetch_is_post : (head : RequestHead) → is_some (name_to_fetch head) ≡ true → is_post head ≡ false → ⊥
-fetch_is_post head named none = asks_by_post (is_post head) (name_after_feed (path_in (origin_form head.target))) named none
+fetch_is_post head named none = asks_by_post (is_post head) (name_at (route_of head) (path_in (origin_form head.target))) named none
 
 pub says_in_turn : (bytes body : List ℕ) (keeps : Bool) (response : ResponseValue) → (keeps ≡ true → IsPersistent form_length bytes body)
     → SaysOfConnection bytes keeps response → SaysWhetherItKeeps keeps response.bytes

@@ -6,6 +6,7 @@ use feed_monitoring::{Exchange, LogPolicy, put_exchange};
 use feed_node_connection::{Connection, ReplySummary};
 use feed_node_server::{CloseCause, Log, is_local};
 use feed_options::LogOptions;
+use feed_resolver_request::ReceivedRequest;
 use std::io::Write;
 use std::net::{IpAddr, SocketAddr};
 
@@ -82,7 +83,7 @@ impl<'o, W: Write, F: Write> AccessLog<'o, W, F> {
         let exchange = Exchange {
             peer: &self.peer_text,
             seconds,
-            request: connection.request_bytes(),
+            received: connection.request(),
             status: summary.status,
             sent: connection.sent_len() as u64,
             body_sent: summary.body_len.saturating_sub(unsent) as u64,
@@ -98,7 +99,7 @@ impl<'o, W: Write, F: Write> AccessLog<'o, W, F> {
     }
 
     // Adds the line of a connection that timed out before its request was whole (RFC 9110, section 15.5.9).
-    fn put_timeout(&mut self, addr: SocketAddr, request: &[u8]) {
+    fn put_timeout(&mut self, addr: SocketAddr, received: ReceivedRequest<'_>) {
         self.note_peer(addr);
         let seconds = unix_seconds(self.rt);
         let policy = self.policy(addr);
@@ -106,7 +107,7 @@ impl<'o, W: Write, F: Write> AccessLog<'o, W, F> {
         let exchange = Exchange {
             peer: &self.peer_text,
             seconds,
-            request,
+            received,
             status: 408,
             sent: 0,
             body_sent: 0,
@@ -161,8 +162,8 @@ impl<'o, W: Write, F: Write> Log for AccessLog<'o, W, F> {
         match connection.summary() {
             Some(summary) => self.put_reply(addr, connection, summary, micros),
             None => {
-                let held = connection.held_bytes();
-                if cause == CloseCause::TimedOut && !held.is_empty() {
+                let held = connection.held_request();
+                if cause == CloseCause::TimedOut && !held.bytes.is_empty() {
                     self.put_timeout(addr, held);
                 }
             }

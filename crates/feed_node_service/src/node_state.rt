@@ -21,7 +21,7 @@ use feed_node_server::CloseCause;
 use feed_releases::Feed;
 use feed_resolver::{Activity, LastFetch, respond_about_feed};
 use feed_resolver_reply::Response;
-use feed_resolver_request::FetchPolicy;
+use feed_resolver_request::{FetchPolicy, ReceivedRequest};
 use std::alloc::{AllocError, Global};
 use std::cell::{Cell, RefCell};
 
@@ -155,12 +155,12 @@ impl NodeState {
     pub fn feed_reply<K: Keep>(
         &self,
         alloc: Global,
-        bytes: &[u8],
+        received: &ReceivedRequest<'_>,
         persists: bool,
         policy: &FetchPolicy<'_>,
         feed: &Feed<K>,
     ) -> Result<Option<Response>, AllocError>
-        ensures value { IfOk result (IsFeedResponse policy.now bytes.now persists) }
+        ensures value { IfOk result (IsFeedResponse policy.now received.now.bytes.now persists) }
         ensures says { IfOk result (λ found. IfSome found (λ response. SaysWhetherItKeeps persists response.bytes)) }
     {
         let (Ok(fetches), Ok(activations)) = (
@@ -174,7 +174,7 @@ impl NodeState {
             fetches: fetches.as_slice(),
             activations: activations.as_slice(),
         };
-        respond_about_feed(alloc, bytes, persists, policy, feed, activity)
+        respond_about_feed(alloc, received, persists, policy, feed, activity)
     }
 
     /// Counts lines of the log that were not written.
@@ -216,7 +216,7 @@ impl NodeState {
         missing: &[u8],
     ) -> Result<Option<ReportReply>, AllocError>
         ensures value { IfOk result
-            (IsSomeReply request.now.head.now request.now.persists releases.now missing.now) }
+            (IsSomeReply request.now.received.bytes.now request.now.persists releases.now missing.now) }
         ensures says { IfOk result (λ found. IfSome found (λ reply.
             SaysWhetherItKeeps request.now.persists reply.bytes.items)) }
     {
@@ -232,7 +232,7 @@ impl NodeState {
                 };
                 respond_about_node(
                     alloc,
-                    request.head,
+                    &request.received,
                     request.persists,
                     &counts.metrics,
                     &gauges,
@@ -256,7 +256,8 @@ impl NodeState {
         version: &[u8],
     ) -> Result<Option<ReportReply>, AllocError>
         ensures value { IfOk result
-            (IsSomeStartingReply request.now.is_local request.now.is_open request.now.bytes.now request.now.keeps) }
+            (IsSomeStartingReply request.now.is_local request.now.is_open request.now.received.bytes.now
+            request.now.keeps) }
         ensures says { IfOk result (λ found. IfSome found (λ reply.
             SaysWhetherItKeeps request.now.keeps reply.bytes.items)) }
     {

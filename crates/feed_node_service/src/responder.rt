@@ -14,7 +14,6 @@ use crate::node_state::NodeState;
 use crate::release_times::release_times;
 use crate::wanted::{WantedPackage, is_answerable, missing_text};
 use feed_file_checks::ExpectedFile;
-use feed_http_heads::Request;
 use feed_keep::Keep;
 use feed_monitoring::{ReportReply, gets_report};
 use feed_node_connection::{BODY_LIMIT, IncomingRequest, Reply, ReplySummary, RespondFault};
@@ -22,7 +21,9 @@ use feed_node_machine::{FeedRespond, Occasion};
 use feed_releases::Feed;
 use feed_resolver::{ends_fetch, keep_releases, respond_as_node};
 use feed_resolver_reply::Response;
-use feed_resolver_request::{FetchPolicy, fetch_to_begin, form_length};
+use feed_resolver_request::{
+    FetchPolicy, ParsedRequest, ReceivedRequest, fetch_to_begin, form_length,
+};
 use feed_resolver_tag::Site;
 use std::alloc::{AllocError, Global};
 
@@ -61,13 +62,13 @@ fn into_reply(response: Response, is_streamed: bool) -> Reply
 // only a client that has the token says anything, such as that it accepts any list.
 fn expected_by(
     alloc: Global,
-    bytes: &[u8],
+    received: &ReceivedRequest<'_>,
     policy: &FetchPolicy<'_>,
 ) -> Option<Option<ExpectedFile>>
-    ensures { IsWhetherToBegin policy.now bytes.now (is_some result) }
+    ensures { IsWhetherToBegin policy.now received.now.bytes.now (is_some result) }
 {
-    match fetch_to_begin(alloc, bytes, policy) {
-        Some(_) => Some(ExpectedFile::of_request(bytes)),
+    match fetch_to_begin(alloc, received, policy) {
+        Some(_) => Some(ExpectedFile::of_request(received)),
         None => None,
     }
 }
@@ -84,27 +85,28 @@ impl<'a> FeedResponder<'a> {
         ensures reply { IfOk result (λ found. IfSome found (λ response.
             (h : History) → IsContent (recorded occasion.now.feed.now) h
             → IsReplyBy self.now occasion.now.policy occasion.now.today h
-            request.now.head.now request.now.body.now request.now.persists response)) }
+            request.now.received.bytes.now request.now.body.now request.now.persists response)) }
         ensures says { IfOk result (λ found. IfSome found (λ response.
-            SaysOfConnection request.now.head.now request.now.persists response)) }
+            SaysOfConnection request.now.received.bytes.now request.now.persists response)) }
         ensures held { IfOk result (λ found. IfNone found (
             (h : History) → IsContent (recorded occasion.now.feed.now) h
-            → IsHeldBack self.now occasion.now.policy h request.now.head.now request.now.persists)) }
+            → IsHeldBack self.now occasion.now.policy h request.now.received.bytes.now request.now.persists)) }
     {
         let policy = &occasion.policy;
         let feed = occasion.feed;
+        let received = &request.received;
         match self
             .state
-            .feed_reply(alloc, request.head, request.persists, policy, feed)?
+            .feed_reply(alloc, received, request.persists, policy, feed)?
         {
             Some(response) => Ok(Some(response)),
             None => {
-                if !is_answerable(feed, self.wanted, request.head) {
+                if !is_answerable(feed, self.wanted, received) {
                     return Ok(None);
                 }
                 let response = respond_as_node(
                     alloc,
-                    request.head,
+                    received,
                     request.body,
                     request.persists,
                     policy,
@@ -118,10 +120,11 @@ impl<'a> FeedResponder<'a> {
     }
 
     // Returns whether the request asks for a reply about the node and the client may have it.
-    fn is_report(&self, is_local: bool, bytes: &[u8]) -> bool
-        ensures { MatchBool result (HasReport self.now is_local bytes.now) (HasNoReport self.now is_local bytes.now) }
+    fn is_report(&self, is_local: bool, received: &ReceivedRequest<'_>) -> bool
+        ensures { MatchBool result (HasReport self.now is_local received.now.bytes.now)
+            (HasNoReport self.now is_local received.now.bytes.now) }
     {
-        gets_report(is_local, self.has_open_reports, bytes)
+        gets_report(is_local, self.has_open_reports, received)
     }
 
     // Returns the reply about the node, if the request asks for one and the client may have it.
@@ -133,11 +136,11 @@ impl<'a> FeedResponder<'a> {
         request: &IncomingRequest<'_>,
     ) -> Result<Option<ReportReply>, AllocError>
         ensures value { IfOk result (λ found. (h : History) → IsContent (recorded occasion.now.feed.now) h
-            → IsReportIn self.now occasion.now.is_local h request.now.head.now request.now.persists found) }
+            → IsReportIn self.now occasion.now.is_local h request.now.received.bytes.now request.now.persists found) }
         ensures says { IfOk result (λ found. IfSome found (λ reply.
             SaysWhetherItKeeps request.now.persists reply.bytes.items)) }
     {
-        if !self.is_report(occasion.is_local, request.head) {
+        if !self.is_report(occasion.is_local, &request.received) {
             return Ok(None);
         }
         let actives = occasion.feed.actives()?;
@@ -157,17 +160,17 @@ impl<'a> FeedResponder<'a> {
     ) -> Result<Reply, RespondFault>
         ensures turn { IfOk result (λ reply. (h : History) → IsContent (recorded occasion.now.feed.now) h
             → IsTurnReply self.now occasion.now.policy occasion.now.today h
-            request.now.head.now request.now.body.now request.now.persists
+            request.now.received.bytes.now request.now.body.now request.now.persists
             (response_in reply) reply.summary.is_streamed) }
         ensures says { IfOk result (λ reply.
-            SaysOfConnection request.now.head.now request.now.persists (response_in reply)) }
+            SaysOfConnection request.now.received.bytes.now request.now.persists (response_in reply)) }
         ensures held { result ≡ Err RespondFault.Busy → (h : History) → IsContent (recorded occasion.now.feed.now) h
-            → IsHeldBack self.now occasion.now.policy h request.now.head.now request.now.persists }
+            → IsHeldBack self.now occasion.now.policy h request.now.received.bytes.now request.now.persists }
     {
-        let expected = expected_by(alloc, request.head, &occasion.policy);
+        let expected = expected_by(alloc, &request.received, &occasion.policy);
         match self.response(alloc, occasion, request) {
             Ok(Some(response)) => {
-                self.note(request.head, &occasion.policy, expected);
+                self.note(&request.received, &occasion.policy, expected);
                 Ok(into_reply(response, expected.is_some()))
             }
             Ok(None) => Err(RespondFault::Busy),
@@ -177,16 +180,21 @@ impl<'a> FeedResponder<'a> {
 
     // Notes what a request says of the file that the node begins to fetch for it, or that the fetch under way ends by
     // it.
-    fn note(&self, bytes: &[u8], policy: &FetchPolicy<'_>, expected: Option<Option<ExpectedFile>>) {
-        self.note_end(bytes, policy);
+    fn note(
+        &self,
+        received: &ReceivedRequest<'_>,
+        policy: &FetchPolicy<'_>,
+        expected: Option<Option<ExpectedFile>>,
+    ) {
+        self.note_end(received, policy);
         if let Some(expected) = expected {
             self.state.expect(expected);
         }
     }
 
     // Has the node end the fetch that is under way, if the request asks for that and has the token.
-    fn note_end(&self, bytes: &[u8], policy: &FetchPolicy<'_>) {
-        if policy.is_busy && ends_fetch(bytes, policy) {
+    fn note_end(&self, received: &ReceivedRequest<'_>, policy: &FetchPolicy<'_>) {
+        if policy.is_busy && ends_fetch(received, policy) {
             self.state.cancel_fetch();
         }
     }
@@ -200,8 +208,8 @@ impl<'a> FeedRespond for FeedResponder<'a> {
 
     ghost replies = { IsTurnText };
 
-    fn body_len(&self, request: &Request<'_>) -> usize {
-        (form_length(request) as usize).min(BODY_LIMIT)
+    fn body_len(&self, parsed: &ParsedRequest<'_>) -> usize {
+        (form_length(parsed) as usize).min(BODY_LIMIT)
     }
 
     fn respond<K: Keep>(

@@ -1,11 +1,11 @@
 //! The replies of a node whose feed is not open yet: reports of itself, and no others.
 use crate::node_state::NodeState;
-use feed_http_heads::Request;
 use feed_keep::Keep;
 use feed_monitoring::ReportRequest;
 use feed_node_connection::{IncomingRequest, Reply, RespondFault};
 use feed_node_machine::{FeedRespond, Occasion};
 use feed_releases::Feed;
+use feed_resolver_request::ParsedRequest;
 use std::alloc::{AllocError, Global};
 
 /// A responder that makes replies about the node alone, as of one without an active release. To any other request it
@@ -26,7 +26,7 @@ impl<'a> FeedRespond for StartingResponder<'a> {
 
     ghost replies = { IsStartingText };
 
-    fn body_len(&self, _request: &Request<'_>) -> usize {
+    fn body_len(&self, _parsed: &ParsedRequest<'_>) -> usize {
         0
     }
 
@@ -37,7 +37,7 @@ impl<'a> FeedRespond for StartingResponder<'a> {
         request: &IncomingRequest<'_>,
     ) -> Result<Reply, RespondFault> {
         let report = ReportRequest {
-            bytes: request.head,
+            received: request.received,
             is_local: occasion.is_local,
             is_open: self.has_open_reports,
             keeps: request.persists,

@@ -1,7 +1,7 @@
 //! The packages that a node waits for before it answers readers.
 ghost use Rattle.std.specs.Prelude.{◌≡◌, ◌&&◌, ◌++◌, IfOk, MatchBool, OnOk, is_some, not};
 ghost use Rattle.httparse.specs.Grammar.{RequestHead};
-ghost use Rattle.feed_http_heads.specs.Requests.{HasHead, IsInBuffer, lacks_host};
+ghost use Rattle.feed_http_heads.specs.Requests.{HasHead, lacks_host};
 ghost use Rattle.feed_model.specs.History.{History};
 ghost use Rattle.feed_model.specs.Content.{IsContent};
 ghost use Rattle.feed_releases.specs.Feeds.{recorded};
@@ -10,11 +10,9 @@ ghost use Rattle.feed_resolver.specs.NodeReplies.{AsksForFetch, AsksForNoFetch};
 ghost use Rattle.feed_node_service.specs.Wanted.{HasEach, IsAnswerable, IsUnanswerable, LacksOne};
 ghost use Rattle.feed_node_service.specs.Wanted.{has_package, missing_line, missing_text};
 
-use feed_http_heads::{FIELD_LIMIT, Request};
 use feed_keep::Keep;
 use feed_releases::{ActiveRelease, Feed};
-use feed_resolver_request::{find_request, name_to_fetch};
-use httparse::spans::EMPTY_HEADER_SPAN;
+use feed_resolver_request::{ParsedRequest, ReceivedRequest, name_to_fetch};
 use std::alloc::{AllocError, Global};
 use std::marker::Model;
 
@@ -101,33 +99,36 @@ pub(crate) fn missing_text(
     Ok(text)
 }
 
-fn is_fetch(request: &Request<'_>) -> bool
-    requires { IsInBuffer request.now }
-    ensures { (head : RequestHead) → HasHead request.now head
+fn is_fetch(parsed: &ParsedRequest<'_>) -> bool
+    ensures { (head : RequestHead) → HasHead parsed.now.request head
         → result ≡ (not (lacks_host head) && is_some (name_to_fetch head)) }
 {
-    !request.lacks_host() && name_to_fetch(request).is_some()
+    !parsed.request.lacks_host() && name_to_fetch(parsed).is_some()
 }
 
 // Returns whether a request asks the node to fetch, whoever sent it.
-fn asks_for_fetch(bytes: &[u8]) -> bool
-    ensures { MatchBool result (AsksForFetch bytes.now) (AsksForNoFetch bytes.now) }
+fn asks_for_fetch(received: &ReceivedRequest<'_>) -> bool
+    ensures { MatchBool result (AsksForFetch received.now.bytes.now) (AsksForNoFetch received.now.bytes.now) }
 {
-    let mut headers = [EMPTY_HEADER_SPAN; FIELD_LIMIT];
-    match find_request(bytes, &mut headers) {
-        Some(request) => is_fetch(&request),
+    match received.parsed() {
+        Some(parsed) => is_fetch(&parsed),
         None => false,
     }
 }
 
 /// Returns whether a request that asks nothing of the feed is answered: each wanted package has an active release, or
 /// the request asks the node to fetch.
-pub(crate) fn is_answerable<K: Keep>(feed: &Feed<K>, wanted: &[WantedPackage], bytes: &[u8]) -> bool
+pub(crate) fn is_answerable<K: Keep>(
+    feed: &Feed<K>,
+    wanted: &[WantedPackage],
+    received: &ReceivedRequest<'_>,
+) -> bool
     ensures { (h : History) → IsContent (recorded feed.now) h
-        → MatchBool result (IsAnswerable wanted.now h bytes.now) (IsUnanswerable wanted.now h bytes.now) }
+        → MatchBool result (IsAnswerable wanted.now h received.now.bytes.now)
+        (IsUnanswerable wanted.now h received.now.bytes.now) }
 {
     if has_each(feed, wanted) {
         return true;
     }
-    asks_for_fetch(bytes)
+    asks_for_fetch(received)
 }

@@ -12,13 +12,13 @@ use Rattle.feed_http_heads.specs.Requests.{lacks_host, is_get, is_head}
 use Rattle.feed_http_heads.specs.Targets.{origin_form}
 use Rattle.feed_resolver_request.specs.Conditions.{has_tag, names_tag}
 use Rattle.feed_resolver_request.specs.Representations.{accepted_representation, representation_of, preferred_in, format_of}
-use Rattle.feed_resolver_request.specs.Targets.{query_in, resource_of}
+use Rattle.feed_resolver_request.specs.Routes.{query_in, route_at}
 use Rattle.feed_resolver_request.specs.declared.representation.Representation.TheVariants.{Text}
 use Rattle.feed_resolver_reply.specs.Replies.{ReplyValue, with_tag, not_modified, is_good}
 use Rattle.feed_resolver_tag.specs.Tags.{SiteValue}
 use Rattle.feed_resolver.specs.Answers.{Dated, Sited, sited}
 use Rattle.feed_resolver.specs.Replies.{target_query, path_of, has_coded_body, reply_to, tagged_reply}
-use Rattle.feed_resolver.specs.Validators.{is_tagged, tag_of, has_validator, resource_in, validated_by, tag_to}
+use Rattle.feed_resolver.specs.Validators.{is_tagged, tag_of, has_validator, validated_by, tag_to}
 use Rattle.feed_resolver.specs.TagLaws.{without_condition, conditional, NotModifiedHasTagOfGood}
 use Rattle.feed_resolver.proofs.Requests.{reply_by, query_answer, read_reply, read_tagged, same_parts}
 use Rattle.feed_resolver.proofs.Tagged.{final_by, tag_asked}
@@ -82,7 +82,7 @@ same_coded : (head : RequestHead) → has_coded_body (without_condition head) �
 same_coded head = ap (λ (vs : List (List ℕ)). has_any vs) (values_stay (codes "transfer-encoding") refl head.fields)
 
 same_target : (head : RequestHead) (actives : Sited) → query_answer (without_condition head) actives ≡ query_answer head actives
-same_target head actives = same_parts (resource_of (path_of head)) (without_condition head) head (path_of head) (target_query head) actives
+same_target head actives = same_parts (route_of head) (without_condition head) head (path_of head) (target_query head) actives
     (same_representation (target_query head) head) (same_accepted head)
 
 same_plain : (head : RequestHead) (body : List ℕ) (actives : Sited) → (is_get head || is_head head) ≡ true
@@ -123,9 +123,9 @@ by_condition false true tag max_age reply is =
 read_validated : (site : SiteValue) (head : RequestHead) (body : List ℕ) (actives : Dated) → is_tagged head ≡ true
     → tagged_reply site head body actives ≡ validated_by (has_tag (tag_asked site actives head) head) (tag_asked site actives head) site.max_age (reply_to head body (sited site actives))
 read_validated site head body actives tagged =
-    read_tagged site head body actives (and_left (is_get head || is_head head) (has_validator (resource_in head)) tagged)
+    read_tagged site head body actives (and_left (is_get head || is_head head) (has_validator (route_of head)) tagged)
     ∙ ap (λ v. final_by v None head (tag_asked site actives head) site.max_age (reply_to head body (sited site actives)))
-    (and_right (is_get head || is_head head) (has_validator (resource_in head)) tagged)
+    (and_right (is_get head || is_head head) (has_validator (route_of head)) tagged)
 
 pub tag_of_good : NotModifiedHasTagOfGood
 tag_of_good site head body actives tagged =
@@ -136,7 +136,7 @@ tag_of_good site head body actives tagged =
     ∙ ap (λ h. validated_by h (tag_asked site actives (without_condition head)) site.max_age (reply_to (without_condition head) body (sited site actives))) (no_tag _ head)
     ∙ ap (λ t. validated_by false t site.max_age (reply_to (without_condition head) body (sited site actives)))
     (ap (tag_of site actives) (same_representation (query_in (origin_form head.target)) head))
-    ∙ ap (validated_by false tag site.max_age) (same_plain head body (sited site actives) (and_left (is_get head || is_head head) (has_validator (resource_in head)) tagged)) in
+    ∙ ap (validated_by false tag site.max_age) (same_plain head body (sited site actives) (and_left (is_get head || is_head head) (has_validator (route_of head)) tagged)) in
     let stated : tag_to site actives head ≡ tag = ap (λ (b : Bool). if b then tag else []) tagged in
     read_validated site head body actives tagged
     ∙ by_condition (is_good reply.status) (has_tag tag head) tag site.max_age reply refl

@@ -11,14 +11,14 @@ use Rattle.feed_http_heads.specs.Requests.{lacks_host, is_get, is_head}
 use Rattle.feed_resolver_hits.specs.Searches.{SearchValue}
 use Rattle.feed_openurl.specs.declared.fault.Refusal.{Refusal}
 use Rattle.feed_resolver_request.specs.Representations.{accepted_representation, representation_of}
-use Rattle.feed_resolver_request.specs.Targets.{resource_of, package_in, is_unsupported_method}
+use Rattle.feed_resolver_request.specs.Routes.{route_at, package_in, is_unsupported_method}
 use Rattle.feed_resolver_request.specs.Forms.{form_of}
 use Rattle.feed_resolver_request.specs.declared.form.FormFault.{FormFault}
 use Rattle.feed_resolver_request.specs.declared.form.FormFault.TheVariants as fault
 use Rattle.feed_resolver_request.specs.declared.representation.Representation.{Representation}
 use Rattle.feed_resolver_request.specs.declared.representation.Representation.TheVariants.{Text, Json, Html}
-use Rattle.feed_resolver_request.specs.declared.target.Resource.{Resource}
-use Rattle.feed_resolver_request.specs.declared.target.Resource.TheVariants as resource
+use Rattle.feed_resolver_request.specs.declared.route.Route.{Route}
+use Rattle.feed_resolver_request.specs.declared.route.Route.TheVariants as route
 use Rattle.feed_resolver_reply.specs.Replies.{ReplyValue, refusal, redirect_to, reply_with}
 use Rattle.feed_resolver_reply.specs.Messages.{IsLocation}
 use Rattle.feed_resolver_reply.specs.declared.status.Status.{Status}
@@ -44,7 +44,7 @@ use Rattle.feed_resolver_hits.specs.Tallies.{sole_link}
 use Rattle.feed_resolver_hits.proofs.Redirects.{best_is}
 use Rattle.feed_resolver.specs.Answers.{Sited, is_of, looks_among, tally_among}
 use Rattle.feed_resolver.specs.Replies.{found_reply, sole_redirect, status_without}
-use Rattle.feed_resolver.specs.Replies.{query_reply, hits_reply, resolve_reply, resolve_reply_at, redirect_reply, go_reply, resource_reply, path_of, target_query, target_reply, has_coded_body}
+use Rattle.feed_resolver.specs.Replies.{query_reply, hits_reply, resolve_reply, resolve_reply_at, redirect_reply, go_reply, route_reply, path_of, target_query, target_reply, has_coded_body}
 use Rattle.feed_resolver.specs.Replies.{method_refusal, plain_reply, form_refusal, reply_by_form, reply_to}
 
 pub nowhere : IsLocation []
@@ -142,35 +142,35 @@ titles_located site Html actives (Err BadStart) = plain
 titles_located site Text actives (Err why) = plain
 titles_located site Json actives (Err why) = plain
 
-resource_located : (r : Resource) (head : RequestHead) (path query : List ℕ) (actives : Sited) → IsLocated (resource_reply r head path query actives)
-resource_located resource.Home head path query actives = plain
-resource_located resource.Status head path query actives = plain
-resource_located resource.Resolve head path query actives = resolve_located (representation_of query head) query actives
-resource_located resource.Package head path query actives =
+route_located : (r : Route) (head : RequestHead) (path query : List ℕ) (actives : Sited) → IsLocated (route_reply r head path query actives)
+route_located route.Home head path query actives = plain
+route_located route.Status head path query actives = plain
+route_located route.Resolve head path query actives = resolve_located (representation_of query head) query actives
+route_located route.Package head path query actives =
     package_located (representation_of query head) query actives (error_reply actives.library query status.NotFound (representation_of query head) advice.NoList (codes "NoRelease"))
     (position (is_of (package_in path)) actives.actives) plain
-resource_located resource.Go head path query actives = go_located (accepted_representation head) query actives
-resource_located resource.Titles head path query actives =
+route_located route.Go head path query actives = go_located (accepted_representation head) query actives
+route_located route.Titles head path query actives =
     titles_located actives.library (representation_of query head) actives.actives (title_asks.ask_of query)
-resource_located resource.Unknown head path query actives = plain
+route_located route.Unknown head path query actives = plain
 
 target_located : (head : RequestHead) (query : List ℕ) (actives : Sited) → IsLocated (target_reply head query actives)
-target_located head query actives = resource_located (resource_of (path_of head)) head (path_of head) query actives
+target_located head query actives = route_located (route_of head) head (path_of head) query actives
 
-method_located : (r : Resource) → IsLocated (method_refusal r)
-method_located resource.Home = plain
-method_located resource.Status = plain
-method_located resource.Resolve = plain
-method_located resource.Package = plain
-method_located resource.Go = plain
-method_located resource.Titles = plain
-method_located resource.Unknown = plain
+method_located : (r : Route) → IsLocated (method_refusal r)
+method_located route.Home = plain
+method_located route.Status = plain
+method_located route.Resolve = plain
+method_located route.Package = plain
+method_located route.Go = plain
+method_located route.Titles = plain
+method_located route.Unknown = plain
 
 plain_located : (head : RequestHead) (actives : Sited) → IsLocated (plain_reply head actives)
 plain_located head actives =
     let coded : ReplyValue = if has_coded_body head then refusal status.NotImplemented Text (codes "Coding") else target_reply head (target_query head) actives in
     let unknown : ReplyValue = if not (is_get head || is_head head) then refusal status.NotImplemented Text (codes "Method") else coded in
-    either_located (is_unsupported_method head.method) (method_refusal (resource_of (path_of head))) unknown (method_located (resource_of (path_of head)))
+    either_located (is_unsupported_method head.method) (method_refusal (route_of head)) unknown (method_located (route_of head))
     (either_located (not (is_get head || is_head head)) (refusal status.NotImplemented Text (codes "Method")) coded plain
     (either_located (has_coded_body head) (refusal status.NotImplemented Text (codes "Coding")) (target_reply head (target_query head) actives) plain
     (target_located head (target_query head) actives)))

@@ -21,12 +21,12 @@ use Rattle.feed_resolver_request.specs.Forms.{form_of, form_in, form_by, is_form
 use Rattle.feed_resolver_request.specs.declared.form.FormFault.{FormFault}
 use Rattle.feed_resolver_request.specs.declared.form.FormFault.TheVariants as fault
 use Rattle.feed_resolver_request.specs.declared.representation.Representation.{Representation}
-use Rattle.feed_resolver_request.specs.Targets.{path_in, query_in, resource_of, package_in, is_unsupported_method}
+use Rattle.feed_resolver_request.specs.Routes.{path_in, query_in, route_at, package_in, is_unsupported_method}
 use Rattle.feed_resolver.specs.Status.{home_page, status_body}
 use Rattle.feed_resolver_request.specs.declared.representation.Representation.TheVariants.{Text, Json, Html}
 use Rattle.feed_resolver_page.specs.TitlesPage.{titles_reply}
-use Rattle.feed_resolver_request.specs.declared.target.Resource.{Resource}
-use Rattle.feed_resolver_request.specs.declared.target.Resource.TheVariants as resource
+use Rattle.feed_resolver_request.specs.declared.route.Route.{Route}
+use Rattle.feed_resolver_request.specs.declared.route.Route.TheVariants as route
 use Rattle.feed_resolver_reply.specs.Replies.{ReplyValue, ResponseValue, reply_with, refusal, redirect_to, of_site, response_of, reply_body, status_code}
 use Rattle.feed_resolver_reply.specs.Messages.{IsMessage, IsMessageFor, BeginsStream, IsSentAs}
 use Rattle.feed_resolver_reply.specs.declared.status.Status.TheVariants as status
@@ -44,10 +44,10 @@ use Rattle.feed_resolver_hits.proofs.BestLinks as links
 use Rattle.feed_resolver_tag.specs.Tags.{SiteValue}
 use Rattle.feed_resolver.specs.Answers.{Dated, Sited, sited, is_of, looks_among, tally_among}
 use Rattle.feed_resolver.specs.Replies.{found_reply, sole_redirect, status_without}
-use Rattle.feed_resolver.specs.Replies.{resource_reply, resolve_reply, package_reply, redirect_reply, go_reply, hits_reply, query_reply, target_reply, target_query, path_of}
+use Rattle.feed_resolver.specs.Replies.{route_reply, resolve_reply, package_reply, redirect_reply, go_reply, hits_reply, query_reply, target_reply, target_query, path_of}
 use Rattle.feed_resolver.specs.Replies.{method_refusal, has_coded_body, resolve_reply_at, reply_by_form, reply_to, sent_reply, tagged_reply, response_to, IsResponse}
 use Rattle.feed_resolver.specs.Answered.{IsGoodIn, IsAnswered, IsAnsweredTo}
-use Rattle.feed_resolver.specs.Validators.{is_tagged, has_validator, resource_in}
+use Rattle.feed_resolver.specs.Validators.{is_tagged, has_validator}
 use Rattle.feed_resolver.specs.NodeReplies.{node_reply, IsNodeReply, AsksForNoFetch}
 use Rattle.feed_resolver.specs.Messages.{as_get, HeadIsHeadOfGet, AsksToGo, GoesTo, GoesToBest, FormIsGet, RedirectsSoleHit}
 use Rattle.feed_resolver.proofs.Locations.{link_location, reply_located, sole_hit}
@@ -96,7 +96,7 @@ not_post head read = elim (cases_Bool (is_get head)) [
 ]
 
 formless : (head : RequestHead) → (is_get head || is_head head) ≡ true → form_of head ≡ None
-formless head read = ap (λ b. if b && (not (lacks_host head) && takes_form (resource_of (path_of head))) then Some (form_in head) else None) (not_post head read)
+formless head read = ap (λ b. if b && (not (lacks_host head) && takes_form (route_of head)) then Some (form_in head) else None) (not_post head read)
 
 -- the reply to a GET or a HEAD without a body
 pub read_reply : (head : RequestHead) (body : List ℕ) (actives : Sited) → (is_get head || is_head head) ≡ true
@@ -104,7 +104,7 @@ pub read_reply : (head : RequestHead) (body : List ℕ) (actives : Sited) → (i
 read_reply head body actives read =
     ap (λ o. if lacks_host head then refusal status.BadRequest Text (codes "NoHost") else reply_by_form head body actives o) (formless head read)
     ∙ ap (λ u. if lacks_host head then refusal status.BadRequest Text (codes "NoHost")
-    else (if u then method_refusal (resource_of (path_of head))
+    else (if u then method_refusal (route_of head)
     else reply_by false false (not (is_get head || is_head head)) (has_coded_body head) (query_answer head actives))) (supported head read)
     ∙ ap (λ r. reply_by (lacks_host head) false (not r) (has_coded_body head) (query_answer head actives)) read
 
@@ -115,7 +115,7 @@ pub answered_to : (head : RequestHead) (actives : Sited) → lacks_host head ≡
     → IsAnswered (origin_form head.target) actives → IsAnsweredTo head actives
 answered_to head actives host plain tagged answered body =
     subst (IsGoodIn (representation_of (query_in (origin_form head.target)) head))
-    (sym (read_reply head body actives (and_left (is_get head || is_head head) (has_validator (resource_in head)) tagged)
+    (sym (read_reply head body actives (and_left (is_get head || is_head head) (has_validator (route_of head)) tagged)
     ∙ ap (λ l. reply_by l false false (has_coded_body head) (query_answer head actives)) host
     ∙ ap (λ c. reply_by false false false c (query_answer head actives)) plain))
     (answered head)
@@ -125,9 +125,9 @@ answered_to head actives host plain tagged answered body =
     and_left false b e = absurd (cc)
 
 -- the reply to each request of a target whose query is valid
-pub status_answered : (target : List ℕ) (actives : Sited) → resource_of (path_in target) ≡ resource.Status → IsAnswered target actives
+pub status_answered : (target : List ℕ) (actives : Sited) → route_at (path_in target) ≡ route.Status → IsAnswered target actives
 status_answered target actives is head =
-    subst (λ r. IsGoodIn (representation_of (query_in target) head) (resource_reply r head (path_in target) (query_in target) actives)) (sym is) (refl, refl)
+    subst (λ r. IsGoodIn (representation_of (query_in target) head) (route_reply r head (path_in target) (query_in target) actives)) (sym is) (refl, refl)
 
 -- a library that redirects no browser
 shown : (representation : Representation) (text : List ℕ) (actives : Sited) (query : SearchValue) → actives.library.redirects_sole_hit ≡ false
@@ -144,10 +144,10 @@ query_answered : (representation : Representation) (text : List ℕ) (actives : 
 query_answered representation text actives (Ok other) query off is = shown representation text actives other off
 query_answered representation text actives (Err why) query off is = absurd (cc)
 
-pub resolve_answered : (target : List ℕ) (actives : Sited) (query : SearchValue) → resource_of (path_in target) ≡ resource.Resolve
+pub resolve_answered : (target : List ℕ) (actives : Sited) (query : SearchValue) → route_at (path_in target) ≡ route.Resolve
     → actives.library.redirects_sole_hit ≡ false → asked_of (query_in target) ≡ Ok query → IsAnswered target actives
 resolve_answered target actives query is off valid head =
-    subst (λ r. IsGoodIn (representation_of (query_in target) head) (resource_reply r head (path_in target) (query_in target) actives)) (sym is)
+    subst (λ r. IsGoodIn (representation_of (query_in target) head) (route_reply r head (path_in target) (query_in target) actives)) (sym is)
     (query_answered (representation_of (query_in target) head) (query_in target) actives (asked_of (query_in target)) query off valid)
 
 placed_answered : (representation : Representation) (text : List ℕ) (actives : Sited) (query : SearchValue) (o : Option ℕ) (other : ReplyValue) → is_some o ≡ true
@@ -155,34 +155,34 @@ placed_answered : (representation : Representation) (text : List ℕ) (actives :
 placed_answered representation text actives query (Some place) other some off valid = query_answered representation text _ (asked_of text) query off valid
 placed_answered representation text actives query None other some off valid = absurd (cc)
 
-pub package_answered : (target : List ℕ) (actives : Sited) (query : SearchValue) → resource_of (path_in target) ≡ resource.Package
+pub package_answered : (target : List ℕ) (actives : Sited) (query : SearchValue) → route_at (path_in target) ≡ route.Package
     → is_some (position (is_of (package_in (path_in target))) actives.actives) ≡ true → actives.library.redirects_sole_hit ≡ false → asked_of (query_in target) ≡ Ok query
     → IsAnswered target actives
 package_answered target actives query is some off valid head =
-    subst (λ r. IsGoodIn (representation_of (query_in target) head) (resource_reply r head (path_in target) (query_in target) actives)) (sym is)
+    subst (λ r. IsGoodIn (representation_of (query_in target) head) (route_reply r head (path_in target) (query_in target) actives)) (sym is)
     (placed_answered (representation_of (query_in target) head) (query_in target) actives query (position (is_of (package_in (path_in target))) actives.actives) _ some off valid)
 
 -- ---- HEAD
 
 -- a reply depends on the fields only by the representation that they prefer
-pub same_parts : (r : Resource) (head other : RequestHead) (path query : List ℕ) (actives : Sited)
+pub same_parts : (r : Route) (head other : RequestHead) (path query : List ℕ) (actives : Sited)
     → representation_of query head ≡ representation_of query other → accepted_representation head ≡ accepted_representation other
-    → resource_reply r head path query actives ≡ resource_reply r other path query actives
-same_parts resource.Home head other path query actives wants accepts = refl
-same_parts resource.Status head other path query actives wants accepts = rw wants refl
-same_parts resource.Resolve head other path query actives wants accepts = rw wants refl
-same_parts resource.Package head other path query actives wants accepts = rw wants refl
-same_parts resource.Go head other path query actives wants accepts = rw accepts refl
-same_parts resource.Titles head other path query actives wants accepts = rw wants refl
-same_parts resource.Unknown head other path query actives wants accepts = rw accepts refl
+    → route_reply r head path query actives ≡ route_reply r other path query actives
+same_parts route.Home head other path query actives wants accepts = refl
+same_parts route.Status head other path query actives wants accepts = rw wants refl
+same_parts route.Resolve head other path query actives wants accepts = rw wants refl
+same_parts route.Package head other path query actives wants accepts = rw wants refl
+same_parts route.Go head other path query actives wants accepts = rw accepts refl
+same_parts route.Titles head other path query actives wants accepts = rw wants refl
+same_parts route.Unknown head other path query actives wants accepts = rw accepts refl
 
-same_resource : (r : Resource) (head : RequestHead) (path query : List ℕ) (actives : Sited) → resource_reply r (as_get head) path query actives ≡ resource_reply r head path query actives
-same_resource r head path query actives = same_parts r (as_get head) head path query actives refl refl
+same_route : (r : Route) (head : RequestHead) (path query : List ℕ) (actives : Sited) → route_reply r (as_get head) path query actives ≡ route_reply r head path query actives
+same_route r head path query actives = same_parts r (as_get head) head path query actives refl refl
 
 same_reply : (head : RequestHead) (body other : List ℕ) (actives : Sited) → is_head head ≡ true → reply_to (as_get head) other actives ≡ reply_to head body actives
 same_reply head body other actives is =
     read_reply (as_get head) other actives refl
-    ∙ ap (λ t. reply_by (lacks_host head) false false (has_coded_body head) t) (same_resource (resource_of (path_of head)) head (path_of head) (target_query head) actives)
+    ∙ ap (λ t. reply_by (lacks_host head) false false (has_coded_body head) t) (same_route (route_of head) head (path_of head) (target_query head) actives)
     ∙ sym (read_reply head body actives (or_true (is_get head) (is_head head) is))
 
 -- neither a GET nor a HEAD is a preflight
@@ -194,17 +194,17 @@ not_options head read = elim (cases_Bool (is_get head)) [
 
 -- the reply to a GET or a HEAD, with its tag
 pub read_tagged : (site : SiteValue) (head : RequestHead) (body : List ℕ) (actives : Dated) → (is_get head || is_head head) ≡ true
-    → tagged_reply site head body actives ≡ final_by (has_validator (resource_in head)) None head (tag_asked site actives head) site.max_age (reply_to head body (sited site actives))
+    → tagged_reply site head body actives ≡ final_by (has_validator (route_of head)) None head (tag_asked site actives head) site.max_age (reply_to head body (sited site actives))
 read_tagged site head body actives read =
     tagged_cases site head body actives
     ∙ ap (λ p. final_by (is_tagged head) p head (tag_asked site actives head) site.max_age (reply_to head body (sited site actives))) (no_preflight head (not_options head read))
-    ∙ ap (λ r. final_by (r && has_validator (resource_in head)) None head (tag_asked site actives head) site.max_age (reply_to head body (sited site actives))) read
+    ∙ ap (λ r. final_by (r && has_validator (route_of head)) None head (tag_asked site actives head) site.max_age (reply_to head body (sited site actives))) read
 
 same_tagged : (site : SiteValue) (head : RequestHead) (body other : List ℕ) (actives : Dated) → is_head head ≡ true
     → tagged_reply site (as_get head) other actives ≡ tagged_reply site head body actives
 same_tagged site head body other actives is =
     read_tagged site (as_get head) other actives refl
-    ∙ ap (λ (r : ReplyValue). final_by (has_validator (resource_in head)) None head (tag_asked site actives head) site.max_age r) (same_reply head body other (sited site actives) is)
+    ∙ ap (λ (r : ReplyValue). final_by (has_validator (route_of head)) None head (tag_asked site actives head) site.max_age r) (same_reply head body other (sited site actives) is)
     ∙ sym (read_tagged site head body actives (or_true (is_get head) (is_head head) is))
 
 pub head_alone : HeadIsHeadOfGet
@@ -232,12 +232,12 @@ go_replied head body query actives asks =
     read_reply head body actives asks.method
     ∙ ap (λ l. reply_by l false false (has_coded_body head) (query_answer head actives)) asks.host
     ∙ ap (λ c. reply_by false false false c (query_answer head actives)) asks.body
-    ∙ ap (λ r. resource_reply r head (path_of head) (target_query head) actives) asks.resource
+    ∙ ap (λ r. route_reply r head (path_of head) (target_query head) actives) asks.resource
     ∙ ap (λ q. query_reply actives status.NotFound (accepted_representation head) (target_query head) (redirect_reply (accepted_representation head) (target_query head) actives) q) asks.asked
 
 -- `/go` has no tag
-untagged_go : (site : SiteValue) (head : RequestHead) (body : List ℕ) (actives : Dated) → resource_in head ≡ resource.Go
-    → final_by (has_validator (resource_in head)) None head (tag_asked site actives head) site.max_age (reply_to head body (sited site actives))
+untagged_go : (site : SiteValue) (head : RequestHead) (body : List ℕ) (actives : Dated) → route_of head ≡ route.Go
+    → final_by (has_validator (route_of head)) None head (tag_asked site actives head) site.max_age (reply_to head body (sited site actives))
     ≡ reply_to head body (sited site actives)
 untagged_go site head body actives is = ap (λ r. final_by (has_validator r) None head (tag_asked site actives head) site.max_age (reply_to head body (sited site actives))) is
 
@@ -325,8 +325,8 @@ record IsReadForm (post : RequestHead) : Type 0 where
 read_form : (post : RequestHead) (n : ℕ) → form_of post ≡ Some (Ok n) → IsReadForm post
 read_form post n is =
     let parts = chosen_form (is_form_post post) (form_in post) n is in
-    let posted = both (bytes_eq post.method (codes "POST")) (not (lacks_host post) && takes_form (resource_of (path_of post))) parts.0 in
-    let hosted = both (not (lacks_host post)) (takes_form (resource_of (path_of post))) posted.1 in
+    let posted = both (bytes_eq post.method (codes "POST")) (not (lacks_host post) && takes_form (route_at (path_of post))) parts.0 in
+    let hosted = both (not (lacks_host post)) (takes_form (route_at (path_of post))) posted.1 in
     record {
       method = posted.0;
       host = not_true (lacks_host post) hosted.0;
@@ -334,28 +334,28 @@ read_form post n is =
     }
 
 -- the answer by the representations that a request names and accepts
-abbrev answer_by : Resource → Representation → Representation → List ℕ → List ℕ → Sited → ReplyValue
-answer_by resource.Home named accepted path query actives = reply_with status.Good Html (home_page actives.library actives.actives)
-answer_by resource.Status named accepted path query actives = reply_with status.Good named (status_body actives.library named actives.actives)
-answer_by resource.Resolve named accepted path query actives = resolve_reply named query actives
-answer_by resource.Package named accepted path query actives = package_reply named (package_in path) query actives
-answer_by resource.Go named accepted path query actives = go_reply accepted query actives
-answer_by resource.Titles named accepted path query actives = titles_reply actives.library named query actives.actives
-answer_by resource.Unknown named accepted path query actives = error_reply actives.library query status.NotFound accepted advice.NoPage (codes "NoTarget")
+abbrev answer_by : Route → Representation → Representation → List ℕ → List ℕ → Sited → ReplyValue
+answer_by route.Home named accepted path query actives = reply_with status.Good Html (home_page actives.library actives.actives)
+answer_by route.Status named accepted path query actives = reply_with status.Good named (status_body actives.library named actives.actives)
+answer_by route.Resolve named accepted path query actives = resolve_reply named query actives
+answer_by route.Package named accepted path query actives = package_reply named (package_in path) query actives
+answer_by route.Go named accepted path query actives = go_reply accepted query actives
+answer_by route.Titles named accepted path query actives = titles_reply actives.library named query actives.actives
+answer_by route.Unknown named accepted path query actives = error_reply actives.library query status.NotFound accepted advice.NoPage (codes "NoTarget")
 
-answered_by : (r : Resource) (head : RequestHead) (path query : List ℕ) (actives : Sited)
-    → resource_reply r head path query actives ≡ answer_by r (representation_of query head) (accepted_representation head) path query actives
-answered_by resource.Home head path query actives = refl
-answered_by resource.Status head path query actives = refl
-answered_by resource.Resolve head path query actives = refl
-answered_by resource.Package head path query actives = refl
-answered_by resource.Go head path query actives = refl
-answered_by resource.Titles head path query actives = refl
-answered_by resource.Unknown head path query actives = refl
+answered_by : (r : Route) (head : RequestHead) (path query : List ℕ) (actives : Sited)
+    → route_reply r head path query actives ≡ answer_by r (representation_of query head) (accepted_representation head) path query actives
+answered_by route.Home head path query actives = refl
+answered_by route.Status head path query actives = refl
+answered_by route.Resolve head path query actives = refl
+answered_by route.Package head path query actives = refl
+answered_by route.Go head path query actives = refl
+answered_by route.Titles head path query actives = refl
+answered_by route.Unknown head path query actives = refl
 
 -- a reply depends on no more of a head than its fields
-same_fields : (r : Resource) (get post : RequestHead) (path query : List ℕ) (actives : Sited) → get.fields ≡ post.fields
-    → resource_reply r get path query actives ≡ resource_reply r post path query actives
+same_fields : (r : Route) (get post : RequestHead) (path query : List ℕ) (actives : Sited) → get.fields ≡ post.fields
+    → route_reply r get path query actives ≡ route_reply r post path query actives
 same_fields r get post path query actives fields =
     let accepts : accepted_representation get ≡ accepted_representation post = ap (λ fs. option_map_or preferred_in (only (values_named (codes "accept") fs)) Text) fields in
     let names : representation_of query get ≡ representation_of query post = ap (λ a. option_map_or (λ named. named) (format_of query) a) accepts in
@@ -370,8 +370,8 @@ untagged_post : (site : SiteValue) (head : RequestHead) (body : List ℕ) (activ
 untagged_post site head body actives get alone other =
     tagged_cases site head body actives
     ∙ ap (λ p. final_by (is_tagged head) p head (tag_asked site actives head) site.max_age (reply_to head body (sited site actives))) (no_preflight head other)
-    ∙ ap (λ g. final_by ((g || is_head head) && has_validator (resource_in head)) None head (tag_asked site actives head) site.max_age (reply_to head body (sited site actives))) get
-    ∙ ap (λ a. final_by (a && has_validator (resource_in head)) None head (tag_asked site actives head) site.max_age (reply_to head body (sited site actives))) alone
+    ∙ ap (λ g. final_by ((g || is_head head) && has_validator (route_of head)) None head (tag_asked site actives head) site.max_age (reply_to head body (sited site actives))) get
+    ∙ ap (λ a. final_by (a && has_validator (route_of head)) None head (tag_asked site actives head) site.max_age (reply_to head body (sited site actives))) alone
 
 pub form_is_get : FormIsGet
 form_is_get site keeps actives bytes body other post get n response form same begins is =
@@ -390,8 +390,8 @@ form_is_get site keeps actives bytes body other post get n response form same be
     ∙ ap (λ c. reply_by false false false c (query_answer get (sited site actives))) plain in
     let alike : target_reply get (target_query get) (sited site actives) ≡ target_reply post body (sited site actives) =
     ap (λ q. target_reply get q (sited site actives)) same.query
-    ∙ ap (λ p. resource_reply (resource_of p) get p body (sited site actives)) same.path
-    ∙ same_fields (resource_of (path_of post)) get post (path_of post) body (sited site actives) same.fields in
+    ∙ ap (λ p. route_reply (route_at p) get p body (sited site actives)) same.path
+    ∙ same_fields (route_at (path_of post)) get post (path_of post) body (sited site actives) same.fields in
     let short : is_head post ≡ false = ap (λ m. bytes_eq m (codes "HEAD")) ((bytes_decides post.method (codes "POST")).0 read.method) in
     let unread : is_get post ≡ false = ap (λ m. bytes_eq m (codes "GET")) ((bytes_decides post.method (codes "POST")).0 read.method) in
     let asks : bytes_eq post.method (codes "OPTIONS") ≡ false = ap (λ m. bytes_eq m (codes "OPTIONS")) ((bytes_decides post.method (codes "POST")).0 read.method) in

@@ -9,7 +9,7 @@ use Rattle.feed_http_heads.specs.Targets.{origin_form}
 use Rattle.feed_http_heads.specs.Requests.{lacks_host}
 use Rattle.feed_resolver_request.specs.Conditions.{has_tag}
 use Rattle.feed_resolver_request.specs.Representations.{representation_of}
-use Rattle.feed_resolver_request.specs.Targets.{query_in}
+use Rattle.feed_resolver_request.specs.Routes.{query_in}
 use Rattle.feed_resolver_request.specs.declared.representation.Representation.{Representation}
 use Rattle.feed_resolver_request.specs.declared.representation.Representation.TheVariants.{Text}
 use Rattle.feed_resolver_reply.specs.Replies.{ReplyValue, reply_with, with_tag, not_modified, is_good}

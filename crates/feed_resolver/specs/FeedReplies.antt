@@ -2,11 +2,11 @@
 use Rattle.std.specs.Prelude.{◌≡◌, ◌⊎◌, ◌||◌, ◌&&◌, ℕ, Bool, true, false, MatchBool, if◌then◌else◌, List, [], codes, is_some, Option, Some, None}
 use Rattle.std.specs.Option.{option_map_or}
 use Rattle.std.specs.Str.{bytes_eq}
-use Rattle.feed_range.specs.Text.{strip_prefix}
 use Rattle.httparse.specs.Grammar.{RequestHead}
 use Rattle.feed_http_heads.specs.Requests.{lacks_host, is_get, is_head}
-use Rattle.feed_http_heads.specs.Targets.{origin_form}
-use Rattle.feed_resolver_request.specs.Targets.{is_unsupported_method, path_in}
+use Rattle.feed_resolver_request.specs.Routes.{is_unsupported_method, route_of}
+use Rattle.feed_resolver_request.specs.declared.route.Route.{Route}
+use Rattle.feed_resolver_request.specs.declared.route.Route.TheVariants.{Feed, Fetch}
 use Rattle.feed_resolver_request.specs.FoundRequests.{BeginsWith, HasNoHead}
 use Rattle.feed_resolver_request.specs.FetchRequests.{FetchPolicyValue, is_authorized}
 use Rattle.feed_resolver_request.specs.declared.representation.Representation.{Representation}
@@ -23,15 +23,19 @@ asked_by head =
     else (if bytes_eq head.method (codes "DELETE") then Some End
     else (if is_unsupported_method head.method then Some OtherMethod else None))
 
--- what it asks of the feed by its path; below `/feed` only a GET or a HEAD asks for something
-abbrev pub target_at : RequestHead → List ℕ → Option FeedTarget
-target_at head path =
-    if bytes_eq path (codes "/feed") then asked_by head
-    else (if (is_get head || is_head head) && is_some (strip_prefix (codes "/feed/") path) then Some Release else None)
+-- what it asks of a target below `/feed`, which only a POST may fetch
+abbrev pub asked_below : RequestHead → Option FeedTarget
+asked_below head = if is_get head || is_head head then Some Release else None
+
+-- what it asks of the feed by its route
+abbrev pub target_at : Route → RequestHead → Option FeedTarget
+target_at Feed head = asked_by head
+target_at Fetch head = asked_below head
+target_at route head = None
 
 -- the same; without a host it asks for nothing
 abbrev pub feed_target : RequestHead → Option FeedTarget
-feed_target head = if lacks_host head then None else target_at head (path_in (origin_form head.target))
+feed_target head = if lacks_host head then None else target_at (route_of head) head
 
 -- a reply of status 200 with some body
 abbrev pub IsListReply : ReplyValue → Type 0

@@ -6,10 +6,10 @@ use Rattle.feed_http_heads.specs.Requests.{lacks_host, is_get, is_head}
 use Rattle.feed_http_heads.specs.Targets.{origin_form}
 use Rattle.feed_resolver_hits.specs.Searches.{SearchValue}
 use Rattle.feed_resolver_request.specs.FoundRequests.{BeginsWith, HasNoHead}
-use Rattle.feed_resolver_request.specs.Targets.{resource_of, path_in, query_in}
+use Rattle.feed_resolver_request.specs.Routes.{route_of, query_in}
 use Rattle.feed_resolver_request.specs.declared.representation.Representation.{Representation}
 use Rattle.feed_resolver_request.specs.declared.representation.Representation.TheVariants.{Html}
-use Rattle.feed_resolver_request.specs.declared.target.Resource.TheVariants.{Go}
+use Rattle.feed_resolver_request.specs.declared.target.Route.TheVariants.{Go}
 use Rattle.feed_resolver_reply.specs.Replies.{ResponseValue, is_page, of_site, response_of}
 use Rattle.feed_resolver_reply.specs.Messages.{IsMessage, IsMessageFor}
 use Rattle.feed_resolver_reply.specs.declared.status.Status.TheVariants as status
@@ -60,7 +60,7 @@ pub record AsksToGo (head : RequestHead) (search : SearchValue) : Type 0 where
   pub host : lacks_host head ≡ false
   pub method : (is_get head || is_head head) ≡ true
   pub body : has_coded_body head ≡ false
-  pub resource : resource_of (path_in (origin_form head.target)) ≡ Go
+  pub route : route_of head ≡ Go
   pub asked : asked_of (query_in (origin_form head.target)) ≡ Ok search
 
 -- the response is a redirect to this URL, or there is none to go to: not at all, or not in the rows that were looked at

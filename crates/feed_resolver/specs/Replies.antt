@@ -15,11 +15,11 @@ use Rattle.feed_resolver_request.specs.Forms.{form_of, takes_form}
 use Rattle.feed_resolver_request.specs.declared.form.FormFault.{FormFault}
 use Rattle.feed_resolver_request.specs.declared.form.FormFault.TheVariants as fault
 use Rattle.feed_resolver_request.specs.Representations.{accepted_representation, representation_of}
-use Rattle.feed_resolver_request.specs.Targets.{path_in, query_in, resource_of, package_in, is_unsupported_method}
+use Rattle.feed_resolver_request.specs.Routes.{path_in, query_in, route_of, package_in, is_unsupported_method}
 use Rattle.feed_resolver_request.specs.declared.representation.Representation.{Representation}
 use Rattle.feed_resolver_request.specs.declared.representation.Representation.TheVariants.{Text, Json, Html}
-use Rattle.feed_resolver_request.specs.declared.target.Resource.{Resource}
-use Rattle.feed_resolver_request.specs.declared.target.Resource.TheVariants as resource
+use Rattle.feed_resolver_request.specs.declared.route.Route.{Route}
+use Rattle.feed_resolver_request.specs.declared.route.Route.TheVariants as route
 use Rattle.feed_resolver_reply.specs.Replies.{ReplyValue, ResponseValue, reply_with, redirect_to, refusal, of_site, response_of, bad_head_response}
 use Rattle.feed_resolver_reply.specs.declared.status.Status.{Status}
 use Rattle.feed_resolver_reply.specs.declared.status.Status.TheVariants as status
@@ -87,17 +87,17 @@ abbrev pub go_reply : Representation → List ℕ → Sited → ReplyValue
 go_reply representation text actives =
     query_reply actives status.NotFound representation text (redirect_reply representation text actives) (asked_of text)
 
--- the reply by the kind of path, to this query
-abbrev pub resource_reply : Resource → RequestHead → List ℕ → List ℕ → Sited → ReplyValue
-resource_reply resource.Home head path query actives = reply_with status.Good Html (home_page actives.library actives.actives)
-resource_reply resource.Status head path query actives =
+-- the reply by the route of a path, to this query
+abbrev pub route_reply : Route → RequestHead → List ℕ → List ℕ → Sited → ReplyValue
+route_reply route.Home head path query actives = reply_with status.Good Html (home_page actives.library actives.actives)
+route_reply route.Status head path query actives =
     reply_with status.Good (representation_of query head) (status_body actives.library (representation_of query head) actives.actives)
-resource_reply resource.Resolve head path query actives = resolve_reply (representation_of query head) query actives
-resource_reply resource.Package head path query actives = package_reply (representation_of query head) (package_in path) query actives
-resource_reply resource.Go head path query actives = go_reply (accepted_representation head) query actives
-resource_reply resource.Titles head path query actives =
+route_reply route.Resolve head path query actives = resolve_reply (representation_of query head) query actives
+route_reply route.Package head path query actives = package_reply (representation_of query head) (package_in path) query actives
+route_reply route.Go head path query actives = go_reply (accepted_representation head) query actives
+route_reply route.Titles head path query actives =
     titles_reply actives.library (representation_of query head) query actives.actives
-resource_reply resource.Unknown head path query actives =
+route_reply other head path query actives =
     error_reply actives.library query status.NotFound (accepted_representation head) advice.NoPage (codes "NoTarget")
 
 -- the path of a request's target, and the query in it
@@ -109,21 +109,21 @@ target_query head = query_in (origin_form head.target)
 
 -- the reply to a query of the target's path
 abbrev pub target_reply : RequestHead → List ℕ → Sited → ReplyValue
-target_reply head query actives = resource_reply (resource_of (path_of head)) head (path_of head) query actives
+target_reply head query actives = route_reply (route_of head) head (path_of head) query actives
 
 -- a body of unknown length follows
 abbrev pub has_coded_body : RequestHead → Bool
 has_coded_body head = has_any (values_named (codes "transfer-encoding") head.fields)
 
--- the reply to a method that the resource does not take: it says which ones it takes (RFC 9110, section 10.2.1)
-abbrev pub method_refusal : Resource → ReplyValue
-method_refusal resource =
-    if takes_form resource then refusal status.GetOrPost Text (codes "Method") else refusal status.MethodNotAllowed Text (codes "Method")
+-- the reply to a method that the route does not take: it says which ones it takes (RFC 9110, section 10.2.1)
+abbrev pub method_refusal : Route → ReplyValue
+method_refusal route =
+    if takes_form route then refusal status.GetOrPost Text (codes "Method") else refusal status.MethodNotAllowed Text (codes "Method")
 
 -- the reply to a request that submits no form: the first case that holds
 abbrev pub plain_reply : RequestHead → Sited → ReplyValue
 plain_reply head actives =
-    if is_unsupported_method head.method then method_refusal (resource_of (path_of head))
+    if is_unsupported_method head.method then method_refusal (route_of head)
     else (if not (is_get head || is_head head) then refusal status.NotImplemented Text (codes "Method")
     else (if has_coded_body head then refusal status.NotImplemented Text (codes "Coding")
     else target_reply head (target_query head) actives))

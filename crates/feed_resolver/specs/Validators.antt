@@ -9,11 +9,11 @@ use Rattle.feed_http_heads.specs.Targets.{origin_form}
 use Rattle.feed_http_heads.specs.Requests.{lacks_host, is_get, is_head}
 use Rattle.feed_resolver_request.specs.Conditions.{has_tag}
 use Rattle.feed_resolver_request.specs.Representations.{representation_of}
-use Rattle.feed_resolver_request.specs.Targets.{path_in, query_in, resource_of}
+use Rattle.feed_resolver_request.specs.Routes.{query_in, route_of}
 use Rattle.feed_resolver_request.specs.declared.representation.Representation.{Representation}
 use Rattle.feed_resolver_request.specs.declared.representation.Representation.TheVariants.{Text}
-use Rattle.feed_resolver_request.specs.declared.target.Resource.{Resource}
-use Rattle.feed_resolver_request.specs.declared.target.Resource.TheVariants as resource
+use Rattle.feed_resolver_request.specs.declared.route.Route.{Route}
+use Rattle.feed_resolver_request.specs.declared.route.Route.TheVariants as route
 use Rattle.feed_resolver_reply.specs.Replies.{ReplyValue, reply_with, with_tag, not_modified, is_good}
 use Rattle.feed_resolver_reply.specs.declared.status.Status.{Status}
 use Rattle.feed_resolver_reply.specs.declared.status.Status.TheVariants as status
@@ -21,23 +21,19 @@ use Rattle.feed_resolver_tag.specs.Tags.{SiteValue, entity_tag, inputs_of}
 use Rattle.feed_resolver.specs.Answers.{Dated}
 use Rattle.feed_resolver.specs.Status.{active_line}
 
--- the resource has entity tags
-abbrev pub has_validator : Resource → Bool
-has_validator resource.Status = true
-has_validator resource.Resolve = true
-has_validator resource.Package = true
-has_validator resource.Titles = true
+-- the route has entity tags
+abbrev pub has_validator : Route → Bool
+has_validator route.Status = true
+has_validator route.Resolve = true
+has_validator route.Package = true
+has_validator route.Titles = true
 has_validator other = false
 
--- the resource that a request names
-abbrev pub resource_in : RequestHead → Resource
-resource_in head = resource_of (path_in (origin_form head.target))
-
--- a GET or a HEAD of a resource that has entity tags
+-- a GET or a HEAD of a route that has entity tags
 abbrev pub is_tagged : RequestHead → Bool
-is_tagged head = (is_get head || is_head head) && has_validator (resource_in head)
+is_tagged head = (is_get head || is_head head) && has_validator (route_of head)
 
--- the tag of a representation of all resources that have one: the names of the active releases, a line for each, stand for
+-- the tag of a representation of all routes that have one: the names of the active releases, a line for each, stand for
 -- what their files hold
 abbrev pub tag_of : SiteValue → Dated → Representation → List ℕ
 tag_of site actives representation =
@@ -60,20 +56,20 @@ validated_by has tag max_age reply =
 abbrev pub validated : RequestHead → List ℕ → ℕ → ReplyValue → ReplyValue
 validated head tag max_age reply = if is_tagged head then validated_by (has_tag tag head) tag max_age reply else reply
 
--- the reply to a preflight of a resource
-abbrev pub preflight_of : Resource → Option Status
-preflight_of resource.Home = Some status.Preflight
-preflight_of resource.Status = Some status.Preflight
-preflight_of resource.Resolve = Some status.QueryPreflight
-preflight_of resource.Package = Some status.QueryPreflight
-preflight_of resource.Go = Some status.QueryPreflight
-preflight_of resource.Titles = Some status.Preflight
-preflight_of resource.Unknown = None
+-- the status of the reply to a preflight of a route
+abbrev pub preflight_of : Route → Option Status
+preflight_of route.Home = Some status.Preflight
+preflight_of route.Status = Some status.Preflight
+preflight_of route.Resolve = Some status.QueryPreflight
+preflight_of route.Package = Some status.QueryPreflight
+preflight_of route.Go = Some status.QueryPreflight
+preflight_of route.Titles = Some status.Preflight
+preflight_of other = None
 
 -- the status of the reply to a preflight; a request without a host is none, and nor is one of `/feed`
 abbrev pub preflight_status : RequestHead → Option Status
 preflight_status head =
-    if lacks_host head || not (bytes_eq head.method (codes "OPTIONS")) then None else preflight_of (resource_in head)
+    if lacks_host head || not (bytes_eq head.method (codes "OPTIONS")) then None else preflight_of (route_of head)
 
 -- the reply to a preflight, or else the one to the request
 abbrev pub unless_preflight : RequestHead → ReplyValue → ReplyValue

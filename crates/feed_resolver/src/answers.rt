@@ -1,18 +1,16 @@
 //! Counts the hits of a query in the active releases on a day, and writes the body that lists them.
-ghost use Rattle.std.specs.Prelude.{◌≡◌, ◌++◌, [], IfOk, OnOk};
+ghost use Rattle.std.specs.Prelude.{◌≡◌, ◌++◌, IfOk, OnOk};
 ghost use Rattle.feed_resolver_hits.specs.Tallying.{no_hits, with_looks};
-ghost use Rattle.feed_resolver_hits.specs.AnswerJson.{answer_json};
-ghost use Rattle.feed_resolver_page.specs.HitsPage.{hits_page};
-ghost use Rattle.feed_resolver.specs.Answers.{also_among, also_beside, answers_body, has_both, looks_among};
-ghost use Rattle.feed_resolver.specs.Answers.{is_placed, others_among, others_beside, tally_among};
-ghost use Rattle.feed_resolver.specs.Answers.{release_looks, sited_in};
+ghost use Rattle.feed_resolver_request.specs.declared.representation.Representation.TheVariants.{Json, Html};
+ghost use Rattle.feed_resolver.specs.Answers.{also_beside, answers_body, has_both, is_placed, looks_among};
+ghost use Rattle.feed_resolver.specs.Answers.{others_beside, release_looks, sited_in};
 ghost use Rattle.feed_resolver.specs.AnswerTexts.{texts_from};
 
 use crate::context::Context;
 use feed_answer::Query;
 use feed_releases::ActiveRelease;
 use feed_resolver_hits::{
-    Ask, LibraryRelease, Lookup, Search, Tally, put_answer_json, put_release,
+    LibraryRelease, Lookup, ReaderQuery, Search, Tally, put_answer_json, put_release,
 };
 use feed_resolver_page::{Tallies, put_hits_page};
 use feed_resolver_request::Representation;
@@ -113,6 +111,7 @@ fn others_beside<'a>(
     }
 }
 
+// Writes the hits as text.
 fn put_texts(
     alloc: Global,
     out: &mut Vec<u8>,
@@ -141,63 +140,77 @@ fn put_texts(
 fn put_json(
     alloc: Global,
     out: &mut Vec<u8>,
-    ask: &Ask,
+    query: &ReaderQuery<'_>,
     context: &Context<'_>,
     lookup: &Lookup,
+    hits: &Tally<'_>,
 ) -> Result<(), AllocError>
+    requires { hits.now ≡ with_looks no_hits (looks_among lookup.now (sited_in context.now)) }
     ensures { OnOk result (out.new.items
-        ≡ out.old.items ++ answer_json ask.now [] (tally_among lookup.now (sited_in context.now))
-        (also_among lookup.now (sited_in context.now))) }
+        ≡ out.old.items ++ answers_body Json query.now.text.now lookup.now (sited_in context.now)) }
 {
-    let tally = tally_among(alloc, context, lookup)?;
+    let ask = query.ask(alloc)?;
     let also = also_beside(alloc, context, lookup)?;
-    put_answer_json(out, ask, b"", &tally, &also)
+    put_answer_json(out, &ask, b"", hits, &also)
 }
 
 // Writes the same as a page. Without a hit, the page shows the other rows of the same titles too.
-fn put_page(
+fn put_page<'a>(
     alloc: Global,
     out: &mut Vec<u8>,
-    text: &[u8],
-    ask: &Ask,
-    context: &Context<'_>,
+    query: &ReaderQuery<'_>,
+    context: &Context<'a>,
     lookup: &Lookup,
+    hits: Tally<'a>,
 ) -> Result<(), AllocError>
+    requires { hits ≡ with_looks no_hits (looks_among lookup.now (sited_in context.now)) }
     ensures { OnOk result (out.new.items
-        ≡ out.old.items ++ hits_page context.now.site.library text.now ask.now
-        (tally_among lookup.now (sited_in context.now)) (also_among lookup.now (sited_in context.now))
-        (others_among lookup.now (sited_in context.now))) }
+        ≡ out.old.items ++ answers_body Html query.now.text.now lookup.now (sited_in context.now)) }
 {
-    let hits = tally_among(alloc, context, lookup)?;
+    let ask = query.ask(alloc)?;
     let also = also_beside(alloc, context, lookup)?;
     let others = others_beside(alloc, context, lookup, hits.count())?;
     let found = Tallies { hits, also, others };
-    put_hits_page(alloc, out, context.library(), text, ask, &found)
+    put_hits_page(alloc, out, context.library(), query.pairs(), &ask, &found)
 }
 
-/// Writes the answer of the given releases to a query, which is what the text asks for: its hits as text, or what it
-/// asks and the hits of highest rank as JSON or as a page.
-#[tactic(auto, unfolding(crate::specs::Answers::answers_body))]
+/// Writes the answer of the given releases to a query, from the tally of its hits: the hits as text, or what it asks and
+/// the hits of highest rank as JSON or as a page.
+pub(crate) fn put_counted<'a>(
+    alloc: Global,
+    out: &mut Vec<u8>,
+    query: &ReaderQuery<'_>,
+    context: &Context<'a>,
+    lookup: &Lookup,
+    hits: Tally<'a>,
+) -> Result<(), AllocError>
+    requires { hits ≡ with_looks no_hits (looks_among lookup.now (sited_in context.now)) }
+    ensures { OnOk result (out.new.items
+        ≡ out.old.items
+        ++ answers_body query.now.representation query.now.text.now lookup.now (sited_in context.now)) }
+{
+    match query.representation {
+        Representation::Text => put_texts(alloc, out, context, lookup),
+        Representation::Json => put_json(alloc, out, query, context, lookup, &hits),
+        Representation::Html => put_page(alloc, out, query, context, lookup, hits),
+    }
+}
+
+/// Writes the same. Text is written hit by hit, so that they are not counted before.
 pub(crate) fn put_answer(
     alloc: Global,
     out: &mut Vec<u8>,
-    representation: Representation,
-    text: &[u8],
+    query: &ReaderQuery<'_>,
     context: &Context<'_>,
     lookup: &Lookup,
 ) -> Result<(), AllocError>
     ensures { OnOk result (out.new.items
-        ≡ out.old.items ++ answers_body representation text.now lookup.now (sited_in context.now)) }
+        ≡ out.old.items
+        ++ answers_body query.now.representation query.now.text.now lookup.now (sited_in context.now)) }
 {
-    match representation {
-        Representation::Text => put_texts(alloc, out, context, lookup),
-        Representation::Json => {
-            let ask = Ask::read(alloc, text)?;
-            put_json(alloc, out, &ask, context, lookup)
-        }
-        Representation::Html => {
-            let ask = Ask::read(alloc, text)?;
-            put_page(alloc, out, text, &ask, context, lookup)
-        }
+    if query.representation == Representation::Text {
+        return put_texts(alloc, out, context, lookup);
     }
+    let hits = tally_among(alloc, context, lookup)?;
+    put_counted(alloc, out, query, context, lookup, hits)
 }

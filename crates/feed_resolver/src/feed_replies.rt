@@ -3,25 +3,23 @@
 ghost use Rattle.std.specs.Prelude.{◌≡◌, IfOk, IfSome, MatchBool};
 ghost use Rattle.httparse.specs.Grammar.{RequestHead};
 ghost use Rattle.feed_http_heads.specs.Options.{SaysWhetherItKeeps};
-ghost use Rattle.feed_http_heads.specs.Requests.{IsInBuffer, HasHead};
-ghost use Rattle.feed_resolver.specs.FeedReplies.{asked_by, ends_by, feed_target, has_token_of, is_end, target_at};
+ghost use Rattle.feed_http_heads.specs.Requests.{HasHead};
+ghost use Rattle.feed_resolver.specs.FeedReplies.{asked_below, asked_by, ends_by, feed_target, has_token_of, is_end};
 ghost use Rattle.feed_resolver.specs.FeedReplies.{EndsFetch, EndsNoFetch, IsEndReply, IsFeedReply, IsFeedResponse};
 ghost use Rattle.feed_resolver.specs.FeedReplies.{IsListReply};
 
-use feed_http_heads::{FIELD_LIMIT, Request, origin_form};
+use feed_http_heads::origin_form;
 use feed_keep::Keep;
 use feed_names::ReleaseName;
 use feed_pieces::put_all;
-use feed_range::strip_prefix;
 use feed_releases::{ActiveRelease, Feed, ReleaseStatus};
 use feed_resolver_reply::{
     Piece, Reply, Response, Status, put_comma, put_list_end, put_list_start, refusal,
 };
 use feed_resolver_request::{
-    FetchPolicy, Representation, find_request, is_authorized, is_unsupported_method, path_in,
-    query_in, representation_of,
+    FetchPolicy, ParsedRequest, ReceivedRequest, Representation, Route, is_authorized,
+    is_unsupported_method, query_in, representation_of,
 };
-use httparse::spans::EMPTY_HEADER_SPAN;
 use std::alloc::{AllocError, Global};
 use std::io::Write;
 
@@ -72,10 +70,10 @@ impl Activity<'_> {
 }
 
 // Returns what a request asks of `/feed`.
-fn asked_by(request: &Request<'_>) -> Option<FeedTarget>
-    requires { IsInBuffer request.now }
-    ensures { (head : RequestHead) → HasHead request.now head → result ≡ asked_by head }
+fn asked_by(parsed: &ParsedRequest<'_>) -> Option<FeedTarget>
+    ensures { (head : RequestHead) → HasHead parsed.now.request head → result ≡ asked_by head }
 {
+    let request = &parsed.request;
     if request.is_get() || request.is_head() {
         Some(FeedTarget::Releases)
     } else if request.method() == b"DELETE".as_slice() {
@@ -87,27 +85,28 @@ fn asked_by(request: &Request<'_>) -> Option<FeedTarget>
     }
 }
 
-fn target_at(request: &Request<'_>, path: &[u8]) -> Option<FeedTarget>
-    requires { IsInBuffer request.now }
-    ensures { (head : RequestHead) → HasHead request.now head → result ≡ target_at head path.now }
+// Returns what a request asks of a target below `/feed`.
+fn asked_below(parsed: &ParsedRequest<'_>) -> Option<FeedTarget>
+    ensures { (head : RequestHead) → HasHead parsed.now.request head → result ≡ asked_below head }
 {
-    if path == b"/feed".as_slice() {
-        asked_by(request)
-    } else if (request.is_get() || request.is_head()) && strip_prefix(path, b"/feed/").is_some() {
+    if parsed.request.is_get() || parsed.request.is_head() {
         Some(FeedTarget::Release)
     } else {
         None
     }
 }
 
-fn feed_target(request: &Request<'_>) -> Option<FeedTarget>
-    requires { IsInBuffer request.now }
-    ensures { (head : RequestHead) → HasHead request.now head → result ≡ feed_target head }
+fn feed_target(parsed: &ParsedRequest<'_>) -> Option<FeedTarget>
+    ensures { (head : RequestHead) → HasHead parsed.now.request head → result ≡ feed_target head }
 {
-    if request.lacks_host() {
+    if parsed.request.lacks_host() {
         return None;
     }
-    target_at(request, path_in(origin_form(request.target())))
+    match parsed.route {
+        Route::Feed => asked_by(parsed),
+        Route::Fetch => asked_below(parsed),
+        _ => None,
+    }
 }
 
 // Writes why a release is broken as a value of JSON.
@@ -297,16 +296,16 @@ fn feed_reply<K: Keep>(
     alloc: Global,
     token: &[u8],
     is_busy: bool,
-    request: &Request<'_>,
+    parsed: &ParsedRequest<'_>,
     target: FeedTarget,
     feed: &Feed<K>,
     activity: Activity<'_>,
 ) -> Result<Reply, AllocError>
-    requires { IsInBuffer request.now }
-    ensures { IfOk result (λ reply. (head : RequestHead) → HasHead request.now head
+    ensures { IfOk result (λ reply. (head : RequestHead) → HasHead parsed.now.request head
         → IsFeedReply token.now is_busy head target reply) }
 {
     let text = Representation::Text;
+    let request = &parsed.request;
     match target {
         FeedTarget::Release => refusal(alloc, Status::PostOnly, text, b"Method"),
         FeedTarget::OtherMethod => refusal(alloc, Status::GetOrDelete, text, b"Method"),
@@ -343,35 +342,34 @@ fn is_busy(policy: &FetchPolicy<'_>) -> bool
 /// Running out of memory.
 pub fn respond_about_feed<K: Keep>(
     alloc: Global,
-    bytes: &[u8],
+    received: &ReceivedRequest<'_>,
     keeps: bool,
     policy: &FetchPolicy<'_>,
     feed: &Feed<K>,
     activity: Activity<'_>,
 ) -> Result<Option<Response>, AllocError>
-    ensures value { IfOk result (IsFeedResponse policy.now bytes.now keeps) }
+    ensures value { IfOk result (IsFeedResponse policy.now received.now.bytes.now keeps) }
     ensures says { IfOk result (λ found. IfSome found (λ response. SaysWhetherItKeeps keeps response.bytes)) }
 {
     let Some(token) = policy.token else {
         return Ok(None);
     };
-    let mut headers = [EMPTY_HEADER_SPAN; FIELD_LIMIT];
-    let Some(request) = find_request(bytes, &mut headers) else {
+    let Some(parsed) = received.parsed() else {
         return Ok(None);
     };
-    let Some(target) = feed_target(&request) else {
+    let Some(target) = feed_target(&parsed) else {
         return Ok(None);
     };
     let reply = feed_reply(
         alloc,
         token,
         is_busy(policy),
-        &request,
+        &parsed,
         target,
         feed,
         activity,
     )?;
-    let response = reply.response(alloc, keeps, request.is_head())?;
+    let response = reply.response(alloc, keeps, parsed.request.is_head())?;
     Ok(Some(response))
 }
 
@@ -381,31 +379,29 @@ fn is_end(target: Option<FeedTarget>) -> bool
     matches!(target, Some(FeedTarget::End))
 }
 
-fn has_token_of(policy: &FetchPolicy<'_>, request: &Request<'_>) -> bool
-    requires { IsInBuffer request.now }
-    ensures { (head : RequestHead) → HasHead request.now head → result ≡ has_token_of policy.now head }
+fn has_token_of(policy: &FetchPolicy<'_>, parsed: &ParsedRequest<'_>) -> bool
+    ensures { (head : RequestHead) → HasHead parsed.now.request head → result ≡ has_token_of policy.now head }
 {
     match policy.token {
-        Some(token) => is_authorized(token, request),
+        Some(token) => is_authorized(token, &parsed.request),
         None => false,
     }
 }
 
-fn ends_by(policy: &FetchPolicy<'_>, request: &Request<'_>) -> bool
-    requires { IsInBuffer request.now }
-    ensures { (head : RequestHead) → HasHead request.now head → result ≡ ends_by policy.now head }
+fn ends_by(policy: &FetchPolicy<'_>, parsed: &ParsedRequest<'_>) -> bool
+    ensures { (head : RequestHead) → HasHead parsed.now.request head → result ≡ ends_by policy.now head }
 {
-    policy.is_busy && is_end(feed_target(request)) && has_token_of(policy, request)
+    policy.is_busy && is_end(feed_target(parsed)) && has_token_of(policy, parsed)
 }
 
 /// Returns whether a request ends the fetch that is under way: it is a DELETE of `/feed`, it has the token, and a fetch
 /// is under way. The reply to it is 204.
-pub fn ends_fetch(bytes: &[u8], policy: &FetchPolicy<'_>) -> bool
-    ensures { MatchBool result (EndsFetch policy.now bytes.now) (EndsNoFetch policy.now bytes.now) }
+pub fn ends_fetch(received: &ReceivedRequest<'_>, policy: &FetchPolicy<'_>) -> bool
+    ensures { MatchBool result (EndsFetch policy.now received.now.bytes.now)
+        (EndsNoFetch policy.now received.now.bytes.now) }
 {
-    let mut headers = [EMPTY_HEADER_SPAN; FIELD_LIMIT];
-    match find_request(bytes, &mut headers) {
-        Some(request) => ends_by(policy, &request),
+    match received.parsed() {
+        Some(parsed) => ends_by(policy, &parsed),
         None => false,
     }
 }

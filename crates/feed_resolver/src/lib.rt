@@ -7,6 +7,7 @@ mod context;
 mod feed_replies;
 mod laws;
 mod node;
+mod request;
 mod responses;
 mod status;
 mod validators;

@@ -1,7 +1,7 @@
 //! Computes the reply of a node to a request: to a fetch request by its authorization, to any other as a resolver.
 ghost use Rattle.std.specs.Prelude.{◌≡◌, IfOk};
 ghost use Rattle.httparse.specs.Grammar.{RequestHead};
-ghost use Rattle.feed_http_heads.specs.Requests.{IsInBuffer, HasHead};
+ghost use Rattle.feed_http_heads.specs.Requests.{HasHead};
 ghost use Rattle.feed_model.specs.History.{History};
 ghost use Rattle.feed_model.specs.Content.{IsContent};
 ghost use Rattle.feed_releases.specs.Actives.{actives_of};
@@ -13,56 +13,53 @@ ghost use Rattle.feed_resolver.specs.NodeReplies.{IsNodeReplyAt, IsNodeMessage, 
 use crate::context::Context;
 use crate::responses::response_to;
 use feed_embargo::Today;
-use feed_http_heads::{FIELD_LIMIT, Request};
 use feed_keep::Keep;
 use feed_releases::Feed;
 use feed_resolver_reply::{Response, bad_head_response, fetch_reply};
-use feed_resolver_request::{FetchPolicy, find_request, name_to_fetch};
+use feed_resolver_request::{FetchPolicy, ParsedRequest, ReceivedRequest, name_to_fetch};
 use feed_resolver_tag::Site;
-use httparse::spans::EMPTY_HEADER_SPAN;
 use std::alloc::{AllocError, Global};
 
 fn node_reply(
     alloc: Global,
     policy: &FetchPolicy<'_>,
     context: &Context<'_>,
-    request: &Request<'_>,
+    parsed: &ParsedRequest<'_>,
     body: &[u8],
     keeps: bool,
 ) -> Result<Response, AllocError>
-    requires { IsInBuffer request.now }
-    ensures value { IfOk result (λ response. (head : RequestHead) → HasHead request.now head
+    ensures value { IfOk result (λ response. (head : RequestHead) → HasHead parsed.now.request head
         → response ≡ node_reply context.now.site policy.now keeps context.now.actives head body.now) }
-    ensures message { IfOk result (λ response. (head : RequestHead) → HasHead request.now head
+    ensures message { IfOk result (λ response. (head : RequestHead) → HasHead parsed.now.request head
         → IsNodeMessageFor keeps head response) }
 {
-    if request.lacks_host() {
-        return response_to(alloc, request, body, keeps, context);
+    if parsed.request.lacks_host() {
+        return response_to(alloc, parsed, body, keeps, context);
     }
-    match name_to_fetch(request) {
-        Some(_) => fetch_reply(alloc, policy, keeps, request),
-        None => response_to(alloc, request, body, keeps, context),
+    match name_to_fetch(parsed) {
+        Some(_) => fetch_reply(alloc, policy, keeps, &parsed.request),
+        None => response_to(alloc, parsed, body, keeps, context),
     }
 }
 
 fn node_reply_with(
     alloc: Global,
-    bytes: &[u8],
+    received: &ReceivedRequest<'_>,
     body: &[u8],
     keeps: bool,
     policy: &FetchPolicy<'_>,
     context: &Context<'_>,
 ) -> Result<Response, AllocError>
     ensures value { IfOk result (λ response.
-        IsNodeReply context.now.site policy.now bytes.now body.now keeps context.now.actives response) }
+        IsNodeReply context.now.site policy.now received.now.bytes.now body.now keeps context.now.actives response) }
     ensures text { IfOk result (λ response.
-        IsNodeReplyText context.now.site policy.now bytes.now body.now keeps context.now.actives response.bytes) }
-    ensures message { IfOk result (λ response. IsNodeMessage bytes.now keeps response) }
-    ensures says { IfOk result (λ response. SaysOfConnection bytes.now keeps response) }
+        IsNodeReplyText context.now.site policy.now received.now.bytes.now body.now keeps context.now.actives
+        response.bytes) }
+    ensures message { IfOk result (λ response. IsNodeMessage received.now.bytes.now keeps response) }
+    ensures says { IfOk result (λ response. SaysOfConnection received.now.bytes.now keeps response) }
 {
-    let mut headers = [EMPTY_HEADER_SPAN; FIELD_LIMIT];
-    match find_request(bytes, &mut headers) {
-        Some(request) => node_reply(alloc, policy, context, &request, body, keeps),
+    match received.parsed() {
+        Some(parsed) => node_reply(alloc, policy, context, &parsed, body, keeps),
         None => bad_head_response(alloc, keeps),
     }
 }
@@ -75,7 +72,7 @@ fn node_reply_with(
 /// Running out of memory.
 pub fn respond_as_node<K: Keep>(
     alloc: Global,
-    bytes: &[u8],
+    received: &ReceivedRequest<'_>,
     body: &[u8],
     keeps: bool,
     policy: &FetchPolicy<'_>,
@@ -84,18 +81,18 @@ pub fn respond_as_node<K: Keep>(
     feed: &Feed<K>,
 ) -> Result<Response, AllocError>
     ensures value { IfOk result (λ response.
-        IsNodeReply site.now policy.now bytes.now body.now keeps
+        IsNodeReply site.now policy.now received.now.bytes.now body.now keeps
         (dated today.now (actives_of (releases_of feed.now))) response) }
     ensures text { IfOk result (λ response.
-        IsNodeReplyText site.now policy.now bytes.now body.now keeps
+        IsNodeReplyText site.now policy.now received.now.bytes.now body.now keeps
         (dated today.now (actives_of (releases_of feed.now))) response.bytes) }
 
     // For every history that the feed may have: from the releases that it reports, with the holdings of their complete
     // files.
     ensures reported { IfOk result (λ response. (h : History) → IsContent (recorded feed.now) h
-        → IsNodeReplyAt site.now policy.now today.now h bytes.now body.now keeps response) }
-    ensures message { IfOk result (λ response. IsNodeMessage bytes.now keeps response) }
-    ensures says { IfOk result (λ response. SaysOfConnection bytes.now keeps response) }
+        → IsNodeReplyAt site.now policy.now today.now h received.now.bytes.now body.now keeps response) }
+    ensures message { IfOk result (λ response. IsNodeMessage received.now.bytes.now keeps response) }
+    ensures says { IfOk result (λ response. SaysOfConnection received.now.bytes.now keeps response) }
 {
     let actives = feed.actives()?;
     let context = Context {
@@ -103,5 +100,5 @@ pub fn respond_as_node<K: Keep>(
         today,
         actives: &actives,
     };
-    node_reply_with(alloc, bytes, body, keeps, policy, &context)
+    node_reply_with(alloc, received, body, keeps, policy, &context)
 }

@@ -3,7 +3,7 @@
 ghost use Rattle.std.specs.Prelude.{◌≡◌, IfOk, true, false, Ok};
 ghost use Rattle.std.specs.List.{flat_map};
 ghost use Rattle.httparse.specs.Grammar.{RequestHead};
-ghost use Rattle.feed_http_heads.specs.Requests.{IsInBuffer, HasHead};
+ghost use Rattle.feed_http_heads.specs.Requests.{HasHead};
 ghost use Rattle.feed_resolver_hits.specs.Searches.{SearchValue};
 ghost use Rattle.feed_resolver_hits.specs.Asked.{asked_of};
 ghost use Rattle.feed_resolver_tag.specs.Tags.{entity_tag, inputs_of};
@@ -16,37 +16,32 @@ ghost use Rattle.feed_resolver.specs.Answered.{IsAnswered, IsAnsweredTo};
 ghost use Rattle.feed_resolver.specs.Replies.{reply_to};
 
 use crate::context::Context;
+use crate::request::ReaderRequest;
 use crate::responses::{position_of, reply_to};
 use crate::status::put_lines;
 use feed_embargo::Today;
-use feed_http_heads::{Request, origin_form};
 use feed_keep::Keep;
 use feed_releases::{ActiveRelease, Feed};
-use feed_resolver_hits::read_query;
+use feed_resolver_hits::ReaderQuery;
 use feed_resolver_reply::{Reply, Status};
-use feed_resolver_request::{
-    Representation, Resource, has_tag, package_in, path_in, query_in, representation_of,
-    resource_of,
-};
+use feed_resolver_request::{ParsedRequest, Representation, Route, has_tag, package_in};
 use feed_resolver_tag::{Digested, Site};
 use feed_site::SiteFile;
 use std::alloc::{AllocError, Global};
 
-fn has_validator(resource: Resource) -> bool
-    ensures { result ≡ has_validator resource }
+fn has_validator(route: Route) -> bool
+    ensures { result ≡ has_validator route }
 {
     matches!(
-        resource,
-        Resource::Status | Resource::Resolve | Resource::Package | Resource::Titles
+        route,
+        Route::Status | Route::Resolve | Route::Package | Route::Titles
     )
 }
 
-fn is_tagged(request: &Request<'_>) -> bool
-    requires { IsInBuffer request.now }
-    ensures { (head : RequestHead) → HasHead request.now head → result ≡ is_tagged head }
+fn is_tagged(parsed: &ParsedRequest<'_>) -> bool
+    ensures { (head : RequestHead) → HasHead parsed.now.request head → result ≡ is_tagged head }
 {
-    (request.is_get() || request.is_head())
-        && has_validator(resource_of(path_in(origin_form(request.target()))))
+    (parsed.request.is_get() || parsed.request.is_head()) && has_validator(parsed.route)
 }
 
 fn lines_of(alloc: Global, actives: &[ActiveRelease<'_>]) -> Result<Vec<u8>, AllocError>
@@ -90,17 +85,14 @@ fn tag_of(
 /// active releases only if the site keeps that of others.
 pub(crate) fn tag_to(
     alloc: Global,
-    request: &Request<'_>,
+    request: &ReaderRequest<'_>,
     context: &Context<'_>,
 ) -> Result<Vec<u8>, AllocError>
-    requires { IsInBuffer request.now }
-    ensures { IfOk result (λ tag. (head : RequestHead) → HasHead request.now head
+    ensures { IfOk result (λ tag. (head : RequestHead) → HasHead request.now.parsed.request head
         → tag.items ≡ tag_to context.now.site context.now.actives head) }
 {
-    if is_tagged(request) {
-        let query = query_in(origin_form(request.target()));
-        let representation = representation_of(query, &request.fields());
-        tag_of(alloc, context, representation)
+    if is_tagged(&request.parsed) {
+        tag_of(alloc, context, request.representation)
     } else {
         Ok(Vec::new(alloc))
     }
@@ -109,7 +101,8 @@ pub(crate) fn tag_to(
 fn is_query(alloc: Global, text: &[u8]) -> Result<bool, AllocError>
     ensures { IfOk result (λ is. is ≡ true → (search : SearchValue) × (asked_of text.now ≡ Ok search)) }
 {
-    match read_query(alloc, text)? {
+    let query = ReaderQuery::read(alloc, text, Representation::Text)?;
+    match query.lookup(alloc)? {
         Ok(_) => Ok(true),
         Err(_) => Ok(false),
     }
@@ -127,24 +120,24 @@ fn shows_hits(alloc: Global, library: &SiteFile, text: &[u8]) -> Result<bool, Al
     is_query(alloc, text)
 }
 
-// Returns whether the reply to a target is a 200, without looking at any holdings. `/titles` and a target without a tag
-// are left to `reply_to`.
+// Returns whether the reply to a request is a 200 if its host and its method are right, without looking at any
+// holdings. `/titles` and a target without a tag are left to `reply_to`.
 fn is_answered(
     alloc: Global,
-    target: &[u8],
+    request: &ReaderRequest<'_>,
     library: &SiteFile,
     actives: &[ActiveRelease<'_>],
 ) -> Result<bool, AllocError>
-    ensures { IfOk result (λ is. is ≡ true
-        → (today : TodayValue) → IsAnswered target.now (sited_by library.now today actives.now)) }
+    ensures { IfOk result (λ is. is ≡ true → (today : TodayValue)
+        → IsAnswered request.now.parsed.route request.now.path.now request.now.query.now
+        (sited_by library.now today actives.now)) }
 {
-    let path = path_in(target);
-    match resource_of(path) {
-        Resource::Status => Ok(true),
-        Resource::Resolve => shows_hits(alloc, library, query_in(target)),
-        Resource::Package => {
-            if position_of(actives, package_in(path)).is_some() {
-                shows_hits(alloc, library, query_in(target))
+    match request.parsed.route {
+        Route::Status => Ok(true),
+        Route::Resolve => shows_hits(alloc, library, request.query),
+        Route::Package => {
+            if position_of(actives, package_in(request.path)).is_some() {
+                shows_hits(alloc, library, request.query)
             } else {
                 Ok(false)
             }
@@ -156,18 +149,18 @@ fn is_answered(
 // The same for a request with a tag.
 fn is_answered_to(
     alloc: Global,
-    request: &Request<'_>,
+    request: &ReaderRequest<'_>,
     library: &SiteFile,
     actives: &[ActiveRelease<'_>],
 ) -> Result<bool, AllocError>
-    requires { IsInBuffer request.now }
-    ensures { IfOk result (λ is. is ≡ true → (head : RequestHead) → HasHead request.now head
+    ensures { IfOk result (λ is. is ≡ true → (head : RequestHead) → HasHead request.now.parsed.request head
         → is_tagged head ≡ true → (today : TodayValue) → IsAnsweredTo head (sited_by library.now today actives.now)) }
 {
-    if request.lacks_host() || request.fields().has_field(b"transfer-encoding") {
+    let head = &request.parsed.request;
+    if head.lacks_host() || head.fields().has_field(b"transfer-encoding") {
         return Ok(false);
     }
-    is_answered(alloc, origin_form(request.target()), library, actives)
+    is_answered(alloc, request, library, actives)
 }
 
 fn validated_by(alloc: Global, reply: Reply, has: bool, tag: Vec<u8>, max_age: u32) -> Reply
@@ -186,50 +179,46 @@ fn validated_by(alloc: Global, reply: Reply, has: bool, tag: Vec<u8>, max_age: u
 /// Returns the reply to a request, with its tag. A client that has the tag gets a 304 where it would get a 200.
 pub(crate) fn validated_reply(
     alloc: Global,
-    request: &Request<'_>,
+    request: &ReaderRequest<'_>,
     body: &[u8],
     tag: Vec<u8>,
     context: &Context<'_>,
 ) -> Result<Reply, AllocError>
-    requires { IsInBuffer request.now }
-    ensures { IfOk result (λ reply. (head : RequestHead) → HasHead request.now head
+    ensures { IfOk result (λ reply. (head : RequestHead) → HasHead request.now.parsed.request head
         → reply ≡ validated head tag.items context.now.site.max_age
         (reply_to head body.now (sited_in context.now))) }
 {
-    if !is_tagged(request) {
+    if !is_tagged(&request.parsed) {
         return reply_to(alloc, request, body, context);
     }
     let max_age = context.site.max_age();
-    let has = has_tag(&tag, &request.fields());
+    let has = has_tag(&tag, &request.parsed.request.fields());
     if has && is_answered_to(alloc, request, context.library(), context.actives)? {
-        let query = query_in(origin_form(request.target()));
-        let representation = representation_of(query, &request.fields());
-        return Ok(Reply::not_modified(alloc, tag, max_age, representation));
+        return Ok(Reply::not_modified(alloc, tag, max_age, request.representation));
     }
     let reply = reply_to(alloc, request, body, context)?;
     Ok(validated_by(alloc, reply, has, tag, max_age))
 }
 
-fn preflight_of(resource: Resource) -> Option<Status>
-    ensures { result ≡ preflight_of resource }
+fn preflight_of(route: Route) -> Option<Status>
+    ensures { result ≡ preflight_of route }
 {
-    match resource {
-        Resource::Home | Resource::Status | Resource::Titles => Some(Status::Preflight),
-        Resource::Resolve | Resource::Package | Resource::Go => Some(Status::QueryPreflight),
-        Resource::Unknown => None,
+    match route {
+        Route::Home | Route::Status | Route::Titles => Some(Status::Preflight),
+        Route::Resolve | Route::Package | Route::Go => Some(Status::QueryPreflight),
+        _ => None,
     }
 }
 
 /// Returns the status of the reply to a preflight. Returns none for any other request, and for a target that no script
 /// of another site may request.
-pub(crate) fn preflight_status(request: &Request<'_>) -> Option<Status>
-    requires { IsInBuffer request.now }
-    ensures { (head : RequestHead) → HasHead request.now head → result ≡ preflight_status head }
+pub(crate) fn preflight_status(parsed: &ParsedRequest<'_>) -> Option<Status>
+    ensures { (head : RequestHead) → HasHead parsed.now.request head → result ≡ preflight_status head }
 {
-    if request.lacks_host() || request.method() != b"OPTIONS".as_slice() {
+    if parsed.request.lacks_host() || parsed.request.method() != b"OPTIONS".as_slice() {
         return None;
     }
-    preflight_of(resource_of(path_in(origin_form(request.target()))))
+    preflight_of(parsed.route)
 }
 
 /// Keeps the digest of the active releases, if the site keeps that of others.

@@ -1,7 +1,8 @@
 -- The query to look up for a request, in whatever form its source sent it, or why nothing is looked up.
 use Rattle.std.specs.Prelude.{ℕ, ◌&&◌, ◌||◌, not, nat_lt, Bool, List, length, codes, Result, Ok, Err}
+use Rattle.form_urlencoded.specs.Form as form
 use Rattle.feed_answer.specs.QueryValue.{QueryValue}
-use Rattle.feed_openurl.specs.Citations.{citation_of, text_at}
+use Rattle.feed_openurl.specs.Citations.{citation_of_pairs, text_at}
 use Rattle.feed_openurl.specs.Queries.{asked_by}
 use Rattle.feed_openurl.specs.Values.{understood}
 use Rattle.feed_openurl.specs.declared.fault.Refusal.{Refusal}
@@ -19,13 +20,14 @@ abbrev pub is_of_serials : List ℕ → Bool
 is_of_serials genre = is_word (codes "article") genre || is_word (codes "journal") genre
 
 -- the book comes before the serial, unless the genre is that of serials
-abbrev pub is_book_first : List ℕ → QueryValue → Bool
-is_book_first text query = names_both query && not (is_of_serials (text_at (citation_of text) Genre))
+abbrev pub is_book_first : List (List ℕ × List ℕ) → QueryValue → Bool
+is_book_first pairs query = names_both query && not (is_of_serials (text_at (citation_of_pairs pairs) Genre))
 
-abbrev pub search_by : List ℕ → Result QueryValue Refusal → Result SearchValue Refusal
-search_by text (Ok query) = Ok (record { query = query; scope = Hits; is_book_first = is_book_first text query })
-search_by text (Err reason) = Err reason
+-- what is looked up for a query with these pairs
+abbrev pub search_by : List (List ℕ × List ℕ) → Result QueryValue Refusal → Result SearchValue Refusal
+search_by pairs (Ok query) = Ok (record { query = query; scope = Hits; is_book_first = is_book_first pairs query })
+search_by pairs (Err reason) = Err reason
 
 -- what is looked up for a query
 unfoldable pub asked_of : List ℕ → Result SearchValue Refusal
-asked_of text = search_by text (asked_by (understood text))
+asked_of text = search_by (form.parse text) (asked_by (understood text))

@@ -2,8 +2,9 @@
 use Rattle.std.specs.Prelude.{ℕ, ◌||◌, not, Bool, List, [], is_some}
 use Rattle.std.specs.List.{list_all}
 use Rattle.std.specs.Option.{option_map_or}
+use Rattle.form_urlencoded.specs.Form as form
 use Rattle.feed_answer.specs.Pairs.{is_empty}
-use Rattle.feed_openurl.specs.Citations.{CitationValue, citation_of, text_at}
+use Rattle.feed_openurl.specs.Citations.{CitationValue, citation_of_pairs, text_at}
 use Rattle.feed_openurl.specs.declared.part.Part.{Part}
 use Rattle.feed_openurl.specs.declared.part.Part.TheVariants.{Article, Doi, Pmid, Title}
 use Rattle.feed_openurl.specs.Values.{UnderstandingValue, understood}
@@ -27,7 +28,7 @@ ask_by citation u =
 
 -- the same of the bytes of a query
 unfoldable pub ask_of : List ℕ → AskValue
-ask_of text = ask_by (citation_of text) (understood text)
+ask_of text = ask_by (citation_of_pairs (form.parse text)) (understood text)
 
 -- a citation lacks a part
 abbrev pub is_absent : CitationValue → Part → Bool

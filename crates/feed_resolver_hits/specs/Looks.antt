@@ -20,6 +20,7 @@ row_limit = 5000
 abbrev pub look_size : ℕ
 look_size = 250
 
+-- the looks that a row counts as beside its own, if there is a row
 abbrev pub more_looks : Option RowValue → ℕ
 more_looks None = 0
 more_looks (Some row) =

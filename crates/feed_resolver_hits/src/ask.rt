@@ -1,6 +1,6 @@
 //! The facts that a reply reports about a query beside its hits.
 ghost use Rattle.std.specs.Prelude.{◌≡◌, IfOk};
-ghost use Rattle.feed_resolver_hits.specs.Asks.{ask_by, is_absent, is_blank, names_work, query_text};
+ghost use Rattle.feed_resolver_hits.specs.Asks.{is_absent, is_blank, names_work, query_text};
 
 use feed_openurl::{Citation, Part, Understanding};
 use std::alloc::{AllocError, Global};
@@ -52,17 +52,6 @@ fn query_text(alloc: Global, understood: &Understanding) -> Result<Vec<u8>, Allo
     }
 }
 
-fn ask_by(alloc: Global, citation: Citation, understood: &Understanding) -> Result<Ask, AllocError>
-    ensures { IfOk result (λ ask. ask ≡ ask_by citation understood.now) }
-{
-    Ok(Ask {
-        citation,
-        query: query_text(alloc, understood)?,
-        has_date: understood.date().is_some(),
-        has_volume: understood.volume().is_some(),
-    })
-}
-
 fn is_absent(citation: &Citation, part: Part) -> bool
     ensures { result ≡ is_absent citation.now part }
 {
@@ -87,21 +76,21 @@ pub fn is_blank(citation: &Citation) -> bool
 }
 
 impl Ask {
-    ghost use Rattle.feed_resolver_hits.specs.Asks.{ask_of};
+    ghost use Rattle.feed_resolver_hits.specs.Asks.{ask_by};
 
-    /// Reads the facts about a query, which may have any length.
-    ///
-    /// # Errors
-    ///
-    /// Running out of memory.
-    #[tactic(auto, unfolding(crate::specs::Asks::ask_of))]
-    pub fn read(alloc: Global, text: &[u8]) -> Result<Ask, AllocError>
-        ensures { IfOk result (λ ask. ask ≡ ask_of text.now) }
+    /// Returns the facts about a query with this citation, as it is understood.
+    pub(crate) fn of(
+        alloc: Global,
+        citation: Citation,
+        understood: &Understanding,
+    ) -> Result<Ask, AllocError>
+        ensures { IfOk result (λ ask. ask ≡ ask_by citation understood.now) }
     {
-        let citation = Citation::read(alloc, text)?;
-        match Understanding::read(alloc, text) {
-            Ok(understood) => ask_by(alloc, citation, &understood),
-            Err(_) => Err(AllocError),
-        }
+        Ok(Ask {
+            citation,
+            query: query_text(alloc, understood)?,
+            has_date: understood.date().is_some(),
+            has_volume: understood.volume().is_some(),
+        })
     }
 }

@@ -4,7 +4,6 @@
 
 mod answer_json;
 mod ask;
-mod asked;
 mod coverage;
 mod coverage_grade;
 mod embargo_words;
@@ -16,6 +15,7 @@ mod links;
 mod lookup;
 mod rank;
 mod ranked_hit;
+mod reader_query;
 mod row_places;
 mod search;
 mod shown;
@@ -24,7 +24,6 @@ mod top;
 
 pub use answer_json::put_answer_json;
 pub use ask::{Ask, is_blank, names_work};
-pub use asked::read_query;
 pub use coverage::{days_words, volumes_words};
 pub use hits::{LibraryRelease, ReleaseHit, name_text};
 pub use hits_json::put_release_members;
@@ -37,5 +36,6 @@ pub use laws::{
 pub use lookup::Lookup;
 pub use rank::{is_free, is_full_text};
 pub use ranked_hit::RankedHit;
+pub use reader_query::ReaderQuery;
 pub use search::{Scope, Search};
 pub use tally::Tally;

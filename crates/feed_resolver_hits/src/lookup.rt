@@ -4,7 +4,7 @@ ghost use Rattle.feed_resolver_hits.specs.Asked.{is_book_first, is_of_serials, n
 
 use crate::rank::is_word;
 use crate::search::Scope;
-use feed_answer::Query;
+use feed_answer::{Pair, Query};
 use feed_openurl::{Citation, Part};
 use std::alloc::{AllocError, Global};
 use std::marker::Model;
@@ -40,25 +40,25 @@ fn is_of_serials(genre: &[u8]) -> bool
 }
 
 // Returns whether the book comes before the serial. The citation is read only if the query names both.
-fn is_book_first(alloc: Global, text: &[u8], query: &Query) -> Result<bool, AllocError>
-    ensures { IfOk result (λ is_first. is_first ≡ is_book_first text.now query.now) }
+fn is_book_first(alloc: Global, pairs: &[Pair<'_>], query: &Query) -> Result<bool, AllocError>
+    ensures { IfOk result (λ is_first. is_first ≡ is_book_first pairs.now query.now) }
 {
     if !names_both(query) {
         return Ok(false);
     }
-    let citation = Citation::read(alloc, text)?;
+    let citation = Citation::of_pairs(alloc, pairs)?;
     Ok(!is_of_serials(citation.text(Part::Genre).as_bytes()))
 }
 
 impl Lookup {
     ghost use Rattle.feed_resolver_hits.specs.declared.search.Scope.TheVariants as scope;
 
-    /// Returns what is looked up for a query that is read of a text.
-    pub(crate) fn of(alloc: Global, text: &[u8], query: Query) -> Result<Lookup, AllocError>
+    /// Returns what is looked up for a query that is understood of these pairs.
+    pub(crate) fn of(alloc: Global, pairs: &[Pair<'_>], query: Query) -> Result<Lookup, AllocError>
         ensures { IfOk result (λ lookup. lookup
-            ≡ record { query = query; scope = scope.Hits; is_book_first = is_book_first text.now query }) }
+            ≡ record { query = query; scope = scope.Hits; is_book_first = is_book_first pairs.now query }) }
     {
-        let is_book_first = is_book_first(alloc, text, &query)?;
+        let is_book_first = is_book_first(alloc, pairs, &query)?;
         Ok(Lookup {
             query,
             scope: Scope::Hits,

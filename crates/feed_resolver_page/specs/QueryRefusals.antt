@@ -69,6 +69,12 @@ numberless_body site query false Json ask why = fault_body Json (reason_text why
 abbrev pub numberless_status : Bool → Status → Status
 numberless_status named code = if named then code else status.BadRequest
 
+-- the reply to a query without a number: with this status, if its citation names a work
+abbrev pub numberless_reply : site_file.SiteValue → List ℕ → Status → Representation → AskValue → Refusal → ReplyValue
+numberless_reply site query code representation ask why =
+    reply_with (numberless_status (names_work ask.citation) code) representation
+    (numberless_body site query (names_work ask.citation) representation ask why)
+
 -- the reply is a page, and the query is empty
 abbrev pub asks_for_form : List ℕ → Representation → Bool
 asks_for_form [] Html = true
@@ -78,12 +84,10 @@ asks_for_form query representation = false
 unfoldable pub form_page : site_file.SiteValue → List ℕ
 form_page site = page_top site page.FindHoldings ++ (search_form site [] ++ (titles_form site [] ++ page_foot site))
 
--- the reply to a query for which nothing is looked up: the form, if the query is empty and the reply is a page; with this
--- status, if it has no number and its citation names a work; otherwise it is rejected, as one with too many numbers is
+-- the reply to a query for which nothing is looked up: the form, if the query is empty and the reply is a page; one for a
+-- query without a number; and one with too many is rejected
 abbrev pub unasked_reply : site_file.SiteValue → List ℕ → Status → Representation → AskValue → Refusal → ReplyValue
 unasked_reply site query code representation ask why =
     if asks_for_form query representation then reply_with status.Good Html (form_page site)
-    else if is_numberless why
-    then reply_with (numberless_status (names_work ask.citation) code) representation
-    (numberless_body site query (names_work ask.citation) representation ask why)
+    else if is_numberless why then numberless_reply site query code representation ask why
     else error_reply site query status.BadRequest representation page.TooManyNumbers (reason_text why)

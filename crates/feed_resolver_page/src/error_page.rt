@@ -53,8 +53,9 @@ fn put_ask_again(out: &mut Vec<u8>, site: &SiteFile, pairs: &[Pair<'_>]) -> Resu
     put_page_foot(out, site)
 }
 
+/// Writes the page of an error, for a query with these pairs.
 #[tactic(auto, unfolding(crate::specs::ErrorPages::error_page))]
-fn put_page(
+pub(crate) fn put_error_page(
     out: &mut Vec<u8>,
     site: &SiteFile,
     pairs: &[Pair<'_>],
@@ -84,7 +85,7 @@ fn put_error(
     match asked.representation {
         Representation::Html => {
             let pairs = decode_pairs(alloc, asked.text)?;
-            put_page(out, site, &pairs, advice, name)
+            put_error_page(out, site, &pairs, advice, name)
         }
         Representation::Text | Representation::Json => put_fault(out, asked.representation, name),
     }

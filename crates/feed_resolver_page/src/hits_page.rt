@@ -14,7 +14,7 @@ use crate::card::{Fit, put_card};
 use crate::citation_page::put_citation;
 use crate::form::{isbn_in, issn_in, put_search_form};
 use crate::frame::{put_page_end, put_page_top};
-use feed_answer::{Pair, decode_pairs};
+use feed_answer::Pair;
 use feed_openurl::Part;
 use feed_page_texts::Text;
 use feed_pieces::put_all;
@@ -463,9 +463,10 @@ fn page_name(tally: &Tally<'_>) -> Text
     }
 }
 
-// Writes the page of the hits of a query with these pairs.
+/// Writes the page with the citation of a query with these pairs, and the cards of the hits that their tally shows. If
+/// others are left out, it says how many. Behind them are the cards of the two other tallies.
 #[tactic(auto, unfolding(crate::specs::HitsPage::page_of_hits))]
-fn put_page(
+pub fn put_hits_page(
     alloc: Global,
     out: &mut Vec<u8>,
     site: &SiteFile,
@@ -481,23 +482,4 @@ fn put_page(
     put_page_top(out, site, page_name(&found.hits))?;
     put_answer(out, site, pairs, ask, found)?;
     put_bottom(alloc, out, site, pairs, ask)
-}
-
-/// Writes the page with the citation of a query, and the cards of the hits that their tally shows. If others are left
-/// out, it says how many. Behind them are the cards of the two other tallies.
-pub fn put_hits_page(
-    alloc: Global,
-    out: &mut Vec<u8>,
-    site: &SiteFile,
-    text: &[u8],
-    ask: &Ask,
-    found: &Tallies<'_>,
-) -> Result<(), AllocError>
-    ensures { OnOk result (out.new.items
-        ≡ out.old.items
-        ++ hits_page site.now text.now ask.now (tally_from found.now.hits) (tally_from found.now.also)
-        (tally_from found.now.others)) }
-{
-    let pairs = decode_pairs(alloc, text)?;
-    put_page(alloc, out, site, &pairs, ask, found)
 }

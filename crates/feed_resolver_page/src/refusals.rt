@@ -1,27 +1,28 @@
 //! The replies to queries for which nothing is looked up.
 ghost use Rattle.std.specs.Prelude.{◌≡◌, ◌++◌, IfOk, OnOk, true, false};
 ghost use Rattle.feed_resolver_request.specs.declared.representation.Representation.TheVariants as representation;
-ghost use Rattle.feed_resolver_hits.specs.Asks.{names_work};
+ghost use Rattle.feed_resolver_hits.specs.Asks.{ask_of, names_work};
 ghost use Rattle.feed_resolver_reply.specs.Replies.{reply_with};
 ghost use Rattle.feed_resolver_reply.specs.declared.status.Status.TheVariants as status;
+ghost use Rattle.feed_page_texts.specs.declared.table.Text.TheVariants as page;
+ghost use Rattle.feed_resolver_page.specs.ErrorPages.{error_body, error_reply};
 ghost use Rattle.feed_resolver_page.specs.QueryRefusals.{asks_for_form, form_page};
-ghost use Rattle.feed_resolver_page.specs.QueryRefusals.{is_numberless, nothing_json, nothing_page, nothing_part};
-ghost use Rattle.feed_resolver_page.specs.QueryRefusals.{nothing_text, numberless_body, numberless_status};
+ghost use Rattle.feed_resolver_page.specs.QueryRefusals.{is_numberless, nothing_json, nothing_part};
+ghost use Rattle.feed_resolver_page.specs.QueryRefusals.{nothing_text, numberless_body, numberless_reply, numberless_status};
 ghost use Rattle.feed_resolver_page.specs.QueryRefusals.{page_of_nothing};
 ghost use Rattle.feed_resolver_page.specs.QueryRefusals.{reason_text, unasked_reply};
 
-use crate::asked::Asked;
 use crate::citation_page::put_citation;
-use crate::error_page::error_reply;
+use crate::error_page::put_error_page;
 use crate::form::put_search_form;
 use crate::frame::put_page_top;
 use crate::hits_page::{put_bottom, put_page_foot, put_paragraph};
 use crate::titles_form::put_titles_form;
-use feed_answer::{Pair, decode_pairs};
+use feed_answer::Pair;
 use feed_openurl::{Part, Refusal};
 use feed_page_texts::Text;
 use feed_pieces::put_all;
-use feed_resolver_hits::{Ask, Tally, names_work, put_answer_json};
+use feed_resolver_hits::{Ask, ReaderQuery, Tally, names_work, put_answer_json};
 use feed_resolver_reply::{Piece, Reply, Status, put_fault};
 use feed_resolver_request::Representation;
 use feed_site::SiteFile;
@@ -60,7 +61,7 @@ fn put_nothing(
 }
 
 #[tactic(auto, unfolding(crate::specs::QueryRefusals::page_of_nothing))]
-fn put_page_of(
+fn put_page(
     alloc: Global,
     out: &mut Vec<u8>,
     site: &SiteFile,
@@ -72,19 +73,6 @@ fn put_page_of(
     put_page_top(out, site, Text::NothingToLookUp)?;
     put_nothing(out, site, pairs, ask)?;
     put_bottom(alloc, out, site, pairs, ask)
-}
-
-fn put_page(
-    alloc: Global,
-    out: &mut Vec<u8>,
-    site: &SiteFile,
-    text: &[u8],
-    ask: &Ask,
-) -> Result<(), AllocError>
-    ensures { OnOk result (out.new.items ≡ out.old.items ++ nothing_page site.now text.now ask.now) }
-{
-    let pairs = decode_pairs(alloc, text)?;
-    put_page_of(alloc, out, site, &pairs, ask)
 }
 
 #[tactic(auto, unfolding(crate::specs::QueryRefusals::nothing_text))]
@@ -114,21 +102,21 @@ fn put_numberless(
     alloc: Global,
     out: &mut Vec<u8>,
     site: &SiteFile,
-    asked: &Asked<'_>,
+    query: &ReaderQuery<'_>,
     ask: &Ask,
     reason: Refusal,
 ) -> Result<(), AllocError>
     ensures { OnOk result (out.new.items
         ≡ out.old.items
-        ++ numberless_body site.now asked.now.text (names_work ask.now.citation) asked.now.representation ask.now
+        ++ numberless_body site.now query.now.text.now (names_work ask.now.citation) query.now.representation ask.now
         reason) }
 {
     let named = names_work(&ask.citation);
-    match asked.representation {
-        Representation::Html => put_page(alloc, out, site, asked.text, ask),
+    match query.representation {
+        Representation::Html => put_page(alloc, out, site, query.pairs(), ask),
         Representation::Text if named => put_text(out, reason),
         Representation::Json if named => put_json(alloc, out, ask, reason),
-        _ => put_fault(out, asked.representation, reason_text(reason)),
+        _ => put_fault(out, query.representation, reason_text(reason)),
     }
 }
 
@@ -141,20 +129,19 @@ fn numberless_status(named: bool, status: Status) -> Status
 fn numberless_reply(
     alloc: Global,
     site: &SiteFile,
-    asked: &Asked<'_>,
+    query: &ReaderQuery<'_>,
     status: Status,
-    ask: &Ask,
     reason: Refusal,
 ) -> Result<Reply, AllocError>
     ensures { IfOk result (λ reply. reply
-        ≡ reply_with (numberless_status (names_work ask.now.citation) status) asked.now.representation
-        (numberless_body site.now asked.now.text (names_work ask.now.citation) asked.now.representation ask.now
-        reason)) }
+        ≡ numberless_reply site.now query.now.text.now status query.now.representation (ask_of query.now.text.now)
+        reason) }
 {
+    let ask = query.ask(alloc)?;
     let status = numberless_status(names_work(&ask.citation), status);
     let mut body = Vec::new(alloc);
-    put_numberless(alloc, &mut body, site, asked, ask, reason)?;
-    Ok(Reply::new(status, asked.representation, body))
+    put_numberless(alloc, &mut body, site, query, &ask, reason)?;
+    Ok(Reply::new(status, query.representation, body))
 }
 
 fn asks_for_form(text: &[u8], representation: Representation) -> bool
@@ -182,6 +169,44 @@ fn form_reply(alloc: Global, site: &SiteFile) -> Result<Reply, AllocError>
     Ok(Reply::new(Status::Good, Representation::Html, body))
 }
 
+#[tactic(auto, unfolding(crate::specs::ErrorPages::error_body))]
+fn put_too_many(
+    out: &mut Vec<u8>,
+    site: &SiteFile,
+    query: &ReaderQuery<'_>,
+    name: &[u8],
+) -> Result<(), AllocError>
+    ensures { OnOk result (out.new.items
+        ≡ out.old.items
+        ++ error_body site.now query.now.text.now query.now.representation page.TooManyNumbers name.now) }
+{
+    match query.representation {
+        Representation::Html => put_error_page(
+            out,
+            site,
+            query.pairs(),
+            Text::TooManyNumbers,
+            name,
+        ),
+        Representation::Text | Representation::Json => put_fault(out, query.representation, name),
+    }
+}
+
+fn too_many_reply(
+    alloc: Global,
+    site: &SiteFile,
+    query: &ReaderQuery<'_>,
+    name: &[u8],
+) -> Result<Reply, AllocError>
+    ensures { IfOk result (λ reply. reply
+        ≡ error_reply site.now query.now.text.now status.BadRequest query.now.representation page.TooManyNumbers
+        name.now) }
+{
+    let mut body = Vec::new(alloc);
+    put_too_many(&mut body, site, query, name)?;
+    Ok(Reply::new(Status::BadRequest, query.representation, body))
+}
+
 /// Returns the reply to a query for which nothing is looked up: the form, if the query is empty and the reply is a
 /// page. A query without an ISSN and an ISBN, of any format and version, has a reply with this status if its citation
 /// names a work. Any other is rejected.
@@ -192,26 +217,19 @@ fn form_reply(alloc: Global, site: &SiteFile) -> Result<Reply, AllocError>
 pub fn unasked_reply(
     alloc: Global,
     site: &SiteFile,
-    asked: &Asked<'_>,
+    query: &ReaderQuery<'_>,
     status: Status,
-    ask: &Ask,
     reason: Refusal,
 ) -> Result<Reply, AllocError>
     ensures { IfOk result (λ reply. reply
-        ≡ unasked_reply site.now asked.now.text status asked.now.representation ask.now reason) }
+        ≡ unasked_reply site.now query.now.text.now status query.now.representation (ask_of query.now.text.now)
+        reason) }
 {
-    if asks_for_form(asked.text, asked.representation) {
+    if asks_for_form(query.text, query.representation) {
         return form_reply(alloc, site);
     }
     if is_numberless(reason) {
-        return numberless_reply(alloc, site, asked, status, ask, reason);
+        return numberless_reply(alloc, site, query, status, reason);
     }
-    error_reply(
-        alloc,
-        site,
-        asked,
-        Status::BadRequest,
-        Text::TooManyNumbers,
-        reason_text(reason),
-    )
+    too_many_reply(alloc, site, query, reason_text(reason))
 }

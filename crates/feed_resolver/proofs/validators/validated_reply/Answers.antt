@@ -2,7 +2,7 @@ use Rattle.std.proofs.Common.{ap, ◌∙◌, subst}
 use Rattle.feed_http_heads.specs.Targets.{origin_form}
 use Rattle.feed_resolver_request.specs.Conditions.{has_tag}
 use Rattle.feed_resolver_request.specs.Representations.{representation_of}
-use Rattle.feed_resolver_request.specs.Targets.{query_in}
+use Rattle.feed_resolver_request.specs.Routes.{query_in}
 use Rattle.feed_site.specs.Site as site_file
 use Rattle.feed_resolver.specs.Answers.{ContextValue, sited_by, sited_in}
 use Rattle.feed_resolver.specs.Answered.{IsAnsweredTo}
