@@ -9,7 +9,7 @@ use Rattle.hex.specs.Hex.{decode_sized}
 use Rattle.httparse.specs.Grammar.{RequestHead}
 use Rattle.feed_http_heads.specs.Targets.{origin_form}
 use Rattle.feed_resolver_request.specs.FoundRequests.{BeginsWith, HasNoHead}
-use Rattle.feed_resolver_request.specs.Targets.{query_in}
+use Rattle.feed_resolver_request.specs.Routes.{query_in}
 use Rattle.feed_range.specs.Text.{strip_prefix, number_in_64_bits}
 use Rattle.feed_file_checks.specs.declared.expected_file.ExpectedFile.{ExpectedFile}
 

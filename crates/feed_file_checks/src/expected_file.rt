@@ -6,11 +6,10 @@ ghost use Rattle.feed_file_checks.specs.FileChecks.{has_size};
 ghost use Rattle.feed_file_checks.specs.ExpectedFiles.{IsExpectedBy, any_file, file_by_query, with_fields, with_next};
 ghost use Rattle.feed_file_checks.specs.ExpectedFiles.{sum_of, with_accept, with_field, with_size, with_sum};
 
-use feed_http_heads::{FIELD_LIMIT, origin_form};
+use feed_http_heads::origin_form;
 use feed_range::{read_number, strip_prefix};
-use feed_resolver_request::{find_request, query_in};
+use feed_resolver_request::{ReceivedRequest, query_in};
 use hex::FromHex;
-use httparse::spans::EMPTY_HEADER_SPAN;
 
 /// A description of a file by a client: its length in bytes, its SHA-256 digest, and whether any list is accepted.
 #[derive(Clone, Copy)]
@@ -63,13 +62,12 @@ impl ExpectedFile {
         expected_among(query)
     }
 
-    /// Returns what the request whose head is at the front of the bytes says, or none if its query is invalid.
-    pub fn of_request(bytes: &[u8]) -> Option<ExpectedFile>
-        ensures { IsExpectedBy bytes.now result }
+    /// Returns what the query of a request says, or none if it is invalid.
+    pub fn of_request(received: &ReceivedRequest<'_>) -> Option<ExpectedFile>
+        ensures { IsExpectedBy received.now.bytes.now result }
     {
-        let mut headers = [EMPTY_HEADER_SPAN; FIELD_LIMIT];
-        let request = find_request(bytes, &mut headers)?;
-        ExpectedFile::read(query_in(origin_form(request.target())))
+        let parsed = received.parsed()?;
+        ExpectedFile::read(query_in(origin_form(parsed.request.target())))
     }
 
     fn with_size(self, size: Option<u64>) -> Option<ExpectedFile>
