@@ -8,7 +8,7 @@ use Rattle.feed_monitoring.specs.Exchanges.{refused_by}
 
 -- the bytes of a request
 abbrev pub request_bytes : Exchange → Added
-request_bytes e = record { place = place_of counter.RequestBytes; amount = length e.request.now }
+request_bytes e = record { place = place_of counter.RequestBytes; amount = length e.received.bytes.now }
 
 abbrev refusal : Added
 refusal = record { place = place_of counter.RefusedToken; amount = 1 }

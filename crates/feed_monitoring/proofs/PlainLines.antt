@@ -8,8 +8,8 @@ use Rattle.feed_dates.proofs.Dates.{one_date, date_read}
 use Rattle.feed_range.specs.Text.{split_once}
 use Rattle.feed_access_log.specs.Queries.{first_line}
 use Rattle.feed_http_heads.specs.Targets.{origin_form}
-use Rattle.feed_resolver_request.specs.Targets.{path_in}
-use Rattle.feed_monitoring.specs.Routes.{is_dated, is_route}
+use Rattle.feed_resolver_request.specs.Routes.{path_in}
+use Rattle.feed_monitoring.specs.ShownPaths.{is_dated, is_shown_path}
 use Rattle.feed_monitoring.specs.ShownLines.{behind_method, is_known_method, is_version, line_of_parts, shown_method, shown_target, IsDashOr, IsPlain, LinesArePlain}
 
 undated : (text : List ℕ) (found : Option ℤ) → day_of_date text ≡ found → ((n : ℤ) → ¬ (IsDateOf n text)) → false ≡ is_dated text
@@ -28,7 +28,7 @@ dash_or test text = elim (cases_Bool (test text)) [
 
 parts_plain : (method target version : List ℕ) → IsPlain (line_of_parts method target version)
 parts_plain method target version = elim (cases_Bool (is_version version)) [
-  | inl e ↦ rw e (inr (shown_method method, shown_target target, version, dash_or is_known_method method, dash_or is_route (path_in (origin_form target)), e, refl))
+  | inl e ↦ rw e (inr (shown_method method, shown_target target, version, dash_or is_known_method method, dash_or is_shown_path (path_in (origin_form target)), e, refl))
   | inr e ↦ rw e (inl refl)
 ]
 

@@ -35,7 +35,7 @@ refused_by status = if status == 401 then (record { place = place_of counter.Ref
 abbrev pub bytes_by : Exchange → List Added
 bytes_by e =
     (record { place = place_of counter.ReplyBytes; amount = e.sent })
-    ∷ (record { place = place_of counter.RequestBytes; amount = length e.request.now }) ∷ []
+    ∷ (record { place = place_of counter.RequestBytes; amount = length e.received.bytes.now }) ∷ []
 
 -- what is added to the counters, the last first
 abbrev pub added_by : Exchange → List Added
@@ -49,7 +49,7 @@ IsTargetIn bytes named =
 -- the request was counted once, under its target and the class of its status, and its time was observed once
 pub record HasCountedRequest (e : Exchange) (old new : MetricsValue) : Type 0 where
   pub named : Target
-  pub is : IsTargetIn e.request.now named
+  pub is : IsTargetIn e.received.bytes.now named
   pub requests : (history : List Added) → HasCounted old.requests history → HasCounted new.requests (request_added named e ∷ history)
   pub times : (observed : List ℕ) → HasObserved old.times observed → HasObserved new.times (e.micros ∷ observed)
 
@@ -85,7 +85,7 @@ abbrev pub entry_of : LogPolicy → Exchange → List Field → EntryValue
 entry_of policy e fields = record {
   client = client_of policy.is_proxy fields e.peer.now;
   seconds = e.seconds;
-  line = shown_line policy.has_queries e.request.now;
+  line = shown_line policy.has_queries e.received.bytes.now;
   status = e.status;
   sent = e.body_sent;
   referrer = shown_referrer policy.has_queries (sole_or_empty (codes "referer") fields);
@@ -96,8 +96,8 @@ entry_of policy e fields = record {
 -- the line was appended; bytes that are not a head have no fields
 abbrev pub IsLogged : LogPolicy → Exchange → List ℕ → List ℕ → Type 0
 IsLogged policy e old new =
-    (HasNoHead e.request.now × (new ≡ old ++ line_text (entry_of policy e [])))
-    ⊎ ((head : RequestHead) × BeginsWith e.request.now head × (new ≡ old ++ line_text (entry_of policy e head.fields)))
+    (HasNoHead e.received.bytes.now × (new ≡ old ++ line_text (entry_of policy e [])))
+    ⊎ ((head : RequestHead) × BeginsWith e.received.bytes.now head × (new ≡ old ++ line_text (entry_of policy e head.fields)))
 
 -- the log hides the request: it gets a report
 abbrev pub is_hidden : LogPolicy → RequestHead → Bool
@@ -110,5 +110,5 @@ line_of policy e head = if is_hidden policy head then [] else line_text (entry_o
 -- the same, but a report that the log hides has no line
 abbrev pub IsRecorded : LogPolicy → Exchange → List ℕ → List ℕ → Type 0
 IsRecorded policy e old new =
-    (HasNoHead e.request.now × (new ≡ old ++ line_text (entry_of policy e [])))
-    ⊎ ((head : RequestHead) × BeginsWith e.request.now head × (new ≡ old ++ line_of policy e head))
+    (HasNoHead e.received.bytes.now × (new ≡ old ++ line_text (entry_of policy e [])))
+    ⊎ ((head : RequestHead) × BeginsWith e.received.bytes.now head × (new ≡ old ++ line_of policy e head))

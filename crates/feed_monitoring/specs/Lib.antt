@@ -2,7 +2,7 @@ pub mod ReportTexts
 pub mod Reports
 pub mod Targets
 pub mod LastValues
-pub mod Routes
+pub mod ShownPaths
 pub mod ShownLines
 pub mod Exchanges
 pub mod Starting

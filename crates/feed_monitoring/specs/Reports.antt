@@ -1,13 +1,13 @@
 -- The report that a request asks of a node, and the reply.
 use Rattle.std.specs.Prelude.{◌≡◌, ◌⊎◌, ◌||◌, ◌&&◌, not, ℕ, Bool, true, false, if◌then◌else◌, List, [], length, nat_lt, codes, Option, Some, None, is_some}
-use Rattle.std.specs.Str.{bytes_eq}
 use Rattle.httparse.specs.Grammar.{RequestHead}
 use Rattle.feed_http_heads.specs.Fields.{has_any, values_named}
 use Rattle.feed_http_heads.specs.Requests.{lacks_host, is_get, is_head}
-use Rattle.feed_http_heads.specs.Targets.{origin_form}
 use Rattle.feed_metrics.specs.Texts.{MetricsValue, metrics_text}
 use Rattle.feed_metrics.specs.declared.text.Gauges.{Gauges}
-use Rattle.feed_resolver_request.specs.Targets.{path_in}
+use Rattle.feed_resolver_request.specs.Routes.{route_of}
+use Rattle.feed_resolver_request.specs.declared.route.Route.{Route}
+use Rattle.feed_resolver_request.specs.declared.route.Route.TheVariants as route
 use Rattle.feed_resolver_request.specs.FoundRequests.{BeginsWith, HasNoHead}
 use Rattle.feed_monitoring.specs.declared.report.Report.{Report}
 use Rattle.feed_monitoring.specs.declared.report.Report.TheVariants as report
@@ -17,17 +17,17 @@ use Rattle.feed_monitoring.specs.declared.report_text.ReportReply.{ReportReply}
 use Rattle.feed_monitoring.specs.declared.report_text.ReportKind.TheVariants as kind
 use Rattle.feed_monitoring.specs.ReportTexts.{status_of, sent_body, report_text, IsReportMessage}
 
--- what a path names
-abbrev pub report_at : List ℕ → Option Report
-report_at path =
-    if bytes_eq path (codes "/metrics") then Some report.Metrics
-    else (if bytes_eq path (codes "/health") || bytes_eq path (codes "/health/ready") then Some report.Ready
-    else (if bytes_eq path (codes "/health/live") then Some report.Live
-    else None))
+-- the report of a route
+abbrev pub report_in : Route → Option Report
+report_in route.Metrics = Some report.Metrics
+report_in route.Health = Some report.Ready
+report_in route.Ready = Some report.Ready
+report_in route.Live = Some report.Live
+report_in named = None
 
 -- what a request asks for; without a host it asks for none
 abbrev pub report_of : RequestHead → Option Report
-report_of head = if lacks_host head then None else report_at (path_in (origin_form head.target))
+report_of head = if lacks_host head then None else report_in (route_of head)
 
 -- the bytes do not ask for a report
 abbrev pub AsksForNoReport : List ℕ → Type 0

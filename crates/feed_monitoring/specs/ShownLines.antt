@@ -5,8 +5,8 @@ use Rattle.std.specs.Str.{bytes_eq}
 use Rattle.feed_range.specs.Text.{split_once}
 use Rattle.feed_http_heads.specs.Targets.{origin_form}
 use Rattle.feed_access_log.specs.Queries.{first_line}
-use Rattle.feed_resolver_request.specs.Targets.{is_unsupported_method, path_in}
-use Rattle.feed_monitoring.specs.Routes.{is_route}
+use Rattle.feed_resolver_request.specs.Routes.{is_unsupported_method, path_in}
+use Rattle.feed_monitoring.specs.ShownPaths.{is_shown_path}
 
 -- a method that RFC 9110 names (section 9.3)
 abbrev pub is_known_method : List ℕ → Bool
@@ -18,7 +18,7 @@ shown_method method = if is_known_method method then method else codes "-"
 
 -- the path of a target, if it is one of a node, or a dash
 abbrev pub shown_target : List ℕ → List ℕ
-shown_target target = if is_route (path_in (origin_form target)) then path_in (origin_form target) else codes "-"
+shown_target target = if is_shown_path (path_in (origin_form target)) then path_in (origin_form target) else codes "-"
 
 -- a version (RFC 9112, section 2.3)
 abbrev pub is_version : List ℕ → Bool
@@ -52,7 +52,7 @@ IsDashOr test text = (text ≡ codes "-") ⊎ (test text ≡ true)
 abbrev pub IsPlain : List ℕ → Type 0
 IsPlain line =
     (line ≡ codes "-")
-    ⊎ ((method path version : List ℕ) × IsDashOr is_known_method method × IsDashOr is_route path × (is_version version ≡ true) × (line ≡ spaced method path version))
+    ⊎ ((method path version : List ℕ) × IsDashOr is_known_method method × IsDashOr is_shown_path path × (is_version version ≡ true) × (line ≡ spaced method path version))
 
 -- in a log without queries each line is such a line, whatever the bytes of the request are
 abbrev pub LinesArePlain : Type 0

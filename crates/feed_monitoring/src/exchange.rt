@@ -1,7 +1,7 @@
 //! Records a request and its reply: in the counters, and as a line of the log.
 ghost use Rattle.std.specs.Prelude.{◌≡◌, ◌∷◌, ◌++◌, ℕ, List, OnOk};
 ghost use Rattle.httparse.specs.Grammar.{RequestHead};
-ghost use Rattle.feed_http_heads.specs.Requests.{IsInBuffer, HasHead};
+ghost use Rattle.feed_http_heads.specs.Requests.{HasHead};
 ghost use Rattle.feed_metrics.specs.Counts.{Added, HasCounted};
 ghost use Rattle.feed_metrics.specs.Histograms.{HasObserved};
 ghost use Rattle.feed_monitoring.specs.Exchanges.{added_by, request_added, HasCountedRequest};
@@ -10,11 +10,10 @@ ghost use Rattle.feed_monitoring.specs.Targets.{target_of};
 
 use crate::log_line::{Exchange, LogPolicy, put_entry};
 use crate::report::request_gets_report;
-use crate::target::target_of;
-use feed_http_heads::{FIELD_LIMIT, Fields, Request};
+use crate::target::target_in;
+use feed_http_heads::Fields;
 use feed_metrics::{Counter, Metrics, StatusClass, Target};
-use feed_resolver_request::find_request;
-use httparse::spans::EMPTY_HEADER_SPAN;
+use feed_resolver_request::ParsedRequest;
 use std::alloc::AllocError;
 
 // The fields of bytes that are not a head.
@@ -33,7 +32,7 @@ fn count_exchange(metrics: &mut Metrics, target: Target, exchange: &Exchange<'_>
         → HasCounted metrics.new.counters (added_by exchange.now ++ history) }
 {
     metrics.count_request(target, StatusClass::of(exchange.status), exchange.micros);
-    metrics.add(Counter::RequestBytes, exchange.request.len() as u64);
+    metrics.add(Counter::RequestBytes, exchange.received.bytes.len() as u64);
     metrics.add(Counter::ReplyBytes, exchange.sent);
     if exchange.status == 401 {
         metrics.add(Counter::RefusedToken, 1);
@@ -52,34 +51,31 @@ pub fn put_exchange(
 ) -> Result<(), AllocError>
     ensures { OnOk result (IsLogged policy exchange.now out.old.items out.new.items) }
 {
-    let mut headers = [EMPTY_HEADER_SPAN; FIELD_LIMIT];
-    match find_request(exchange.request, &mut headers) {
-        Some(request) => put_entry(out, policy, exchange, &request.fields()),
+    match exchange.received.parsed() {
+        Some(parsed) => put_entry(out, policy, exchange, &parsed.request.fields()),
         None => put_entry(out, policy, exchange, &NO_FIELDS),
     }
 }
 
-fn is_hidden(policy: LogPolicy, request: &Request<'_>) -> bool
-    requires { IsInBuffer request.now }
-    ensures { (head : RequestHead) → HasHead request.now head → result ≡ is_hidden policy head }
+fn is_hidden(policy: LogPolicy, parsed: &ParsedRequest<'_>) -> bool
+    ensures { (head : RequestHead) → HasHead parsed.now.request head → result ≡ is_hidden policy head }
 {
-    request_gets_report(policy.is_local, policy.has_open_reports, request)
+    request_gets_report(policy.is_local, policy.has_open_reports, parsed)
 }
 
 fn put_shown(
     out: &mut Vec<u8>,
     policy: LogPolicy,
     exchange: &Exchange<'_>,
-    request: &Request<'_>,
+    parsed: &ParsedRequest<'_>,
 ) -> Result<(), AllocError>
-    requires { IsInBuffer request.now }
-    ensures { OnOk result ((head : RequestHead) → HasHead request.now head
+    ensures { OnOk result ((head : RequestHead) → HasHead parsed.now.request head
         → out.new.items ≡ out.old.items ++ line_of policy exchange.now head) }
 {
-    if is_hidden(policy, request) {
+    if is_hidden(policy, parsed) {
         return Ok(());
     }
-    put_entry(out, policy, exchange, &request.fields())
+    put_entry(out, policy, exchange, &parsed.request.fields())
 }
 
 fn record_request(
@@ -87,21 +83,20 @@ fn record_request(
     metrics: &mut Metrics,
     policy: LogPolicy,
     exchange: &Exchange<'_>,
-    request: &Request<'_>,
+    parsed: &ParsedRequest<'_>,
 ) -> Result<(), AllocError>
-    requires { IsInBuffer request.now }
-    ensures requests { (head : RequestHead) → HasHead request.now head → (history : List Added)
+    ensures requests { (head : RequestHead) → HasHead parsed.now.request head → (history : List Added)
         → HasCounted metrics.old.requests history
         → HasCounted metrics.new.requests (request_added (target_of head) exchange.now ∷ history) }
     ensures times { (observed : List ℕ) → HasObserved metrics.old.times observed
         → HasObserved metrics.new.times (exchange.now.micros ∷ observed) }
     ensures counters { (history : List Added) → HasCounted metrics.old.counters history
         → HasCounted metrics.new.counters (added_by exchange.now ++ history) }
-    ensures line { OnOk result ((head : RequestHead) → HasHead request.now head
+    ensures line { OnOk result ((head : RequestHead) → HasHead parsed.now.request head
         → out.new.items ≡ out.old.items ++ line_of policy exchange.now head) }
 {
-    count_exchange(metrics, target_of(request), exchange);
-    put_shown(out, policy, exchange, request)
+    count_exchange(metrics, target_in(parsed.route), exchange);
+    put_shown(out, policy, exchange, parsed)
 }
 
 /// Counts a request that was replied to, and appends its line. A request that gets a report has no line.
@@ -120,9 +115,8 @@ pub fn record_exchange(
         → HasCounted metrics.new.counters (added_by exchange.now ++ history) }
     ensures line { OnOk result (IsRecorded policy exchange.now out.old.items out.new.items) }
 {
-    let mut headers = [EMPTY_HEADER_SPAN; FIELD_LIMIT];
-    match find_request(exchange.request, &mut headers) {
-        Some(request) => record_request(out, metrics, policy, exchange, &request),
+    match exchange.received.parsed() {
+        Some(parsed) => record_request(out, metrics, policy, exchange, &parsed),
         None => {
             count_exchange(metrics, Target::Other, exchange);
             put_entry(out, policy, exchange, &NO_FIELDS)

@@ -10,8 +10,8 @@ mod log_line;
 mod report;
 mod report_reply;
 mod report_text;
-mod route;
 mod shown_line;
+mod shown_path;
 mod starting;
 mod target;
 

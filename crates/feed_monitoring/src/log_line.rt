@@ -9,6 +9,7 @@ use crate::client::client_of;
 use crate::shown_line::shown_line;
 use feed_access_log::{Entry, put_line, without_query_part};
 use feed_http_heads::Fields;
+use feed_resolver_request::ReceivedRequest;
 use std::alloc::AllocError;
 use std::marker::Model;
 
@@ -32,8 +33,8 @@ pub struct Exchange<'a> {
     pub peer: &'a [u8],
     /// The seconds since 1970-01-01.
     pub seconds: u64,
-    /// The bytes of the request.
-    pub request: &'a [u8],
+    /// The request, with its body.
+    pub received: ReceivedRequest<'a>,
     pub status: u16,
     /// How many bytes of the reply were sent.
     pub sent: u64,
@@ -77,7 +78,7 @@ pub(crate) fn put_entry(
     let entry = Entry {
         client: client_of(policy.is_proxy, fields, exchange.peer),
         seconds: exchange.seconds,
-        line: shown_line(policy.has_queries, exchange.request),
+        line: shown_line(policy.has_queries, exchange.received.bytes),
         status: exchange.status,
         sent: exchange.body_sent,
         referrer: shown_referrer(policy.has_queries, sole_or_empty(fields, b"referer")),

@@ -2,17 +2,15 @@
 ghost use Rattle.std.specs.Prelude.{◌≡◌, IfOk, IfSome};
 ghost use Rattle.httparse.specs.Grammar.{RequestHead};
 ghost use Rattle.feed_http_heads.specs.Options.{SaysWhetherItKeeps};
-ghost use Rattle.feed_http_heads.specs.Requests.{IsInBuffer, HasHead, is_get, is_head};
+ghost use Rattle.feed_http_heads.specs.Requests.{HasHead, is_get, is_head};
 ghost use Rattle.feed_monitoring.specs.ReportTexts.{status_of, report_text};
 ghost use Rattle.feed_monitoring.specs.Reports.{kind_of, kind_to, unready_body, fixed_body, body_of, is_ready};
 ghost use Rattle.feed_monitoring.specs.Reports.{IsReportTo, IsReportReply};
 
 use crate::report::{Report, report_of};
 use crate::report_text::{ReportKind, ReportReply, report_reply};
-use feed_http_heads::{FIELD_LIMIT, Request};
 use feed_metrics::{Gauges, Metrics, put_metrics};
-use feed_resolver_request::find_request;
-use httparse::spans::EMPTY_HEADER_SPAN;
+use feed_resolver_request::{ParsedRequest, ReceivedRequest};
 use std::alloc::{AllocError, Global};
 
 pub(crate) const WELL: &[u8] = b"ok\n";
@@ -40,11 +38,11 @@ fn kind_of(is_allowed: bool, is_ready: bool, report: Report) -> ReportKind
     }
 }
 
-fn kind_to(request: &Request<'_>, is_ready: bool, report: Report) -> ReportKind
-    requires { IsInBuffer request.now }
-    ensures { (head : RequestHead) → HasHead request.now head → result ≡ kind_to head is_ready report }
+fn kind_to(parsed: &ParsedRequest<'_>, is_ready: bool, report: Report) -> ReportKind
+    ensures { (head : RequestHead) → HasHead parsed.now.request head → result ≡ kind_to head is_ready report }
 {
-    kind_of(request.is_get() || request.is_head(), is_ready, report)
+    let is_allowed = parsed.request.is_get() || parsed.request.is_head();
+    kind_of(is_allowed, is_ready, report)
 }
 
 // Returns whether the node has an active release, and none is missing.
@@ -97,24 +95,24 @@ fn body_of(
 /// Running out of memory.
 pub fn respond_about_node(
     alloc: Global,
-    bytes: &[u8],
+    received: &ReceivedRequest<'_>,
     keeps: bool,
     metrics: &Metrics,
     gauges: &Gauges<'_>,
     missing: &[u8],
 ) -> Result<Option<ReportReply>, AllocError>
-    ensures value { IfOk result (IsReportReply metrics.now gauges.now missing.now bytes.now keeps) }
+    ensures value { IfOk result
+        (IsReportReply metrics.now gauges.now missing.now received.now.bytes.now keeps) }
     ensures says { IfOk result (λ found. IfSome found (λ reply. SaysWhetherItKeeps keeps reply.bytes.items)) }
 {
-    let mut headers = [EMPTY_HEADER_SPAN; FIELD_LIMIT];
-    let Some(request) = find_request(bytes, &mut headers) else {
+    let Some(parsed) = received.parsed() else {
         return Ok(None);
     };
-    let Some(report) = report_of(&request) else {
+    let Some(report) = report_of(&parsed) else {
         return Ok(None);
     };
-    let kind = kind_to(&request, is_ready(gauges, missing), report);
+    let kind = kind_to(&parsed, is_ready(gauges, missing), report);
     let body = body_of(alloc, kind, metrics, gauges, missing)?;
-    let reply = report_reply(alloc, kind, keeps, request.is_head(), &body)?;
+    let reply = report_reply(alloc, kind, keeps, parsed.request.is_head(), &body)?;
     Ok(Some(reply))
 }

@@ -4,7 +4,7 @@ ghost use Rattle.feed_access_log.specs.Queries.{shown_text};
 ghost use Rattle.feed_monitoring.specs.ShownLines.{behind_method, is_known_method, is_version, line_of_parts};
 ghost use Rattle.feed_monitoring.specs.ShownLines.{plain_line, shown_line, shown_method, shown_target};
 
-use crate::route::is_route;
+use crate::shown_path::is_shown_path;
 use feed_access_log::{RequestLine, first_line};
 use feed_http_heads::origin_form;
 use feed_range::split_once;
@@ -33,7 +33,7 @@ fn shown_target(target: &[u8]) -> &[u8]
     ensures { result.now ≡ shown_target target.now }
 {
     let path = path_in(origin_form(target));
-    if is_route(path) { path } else { b"-" }
+    if is_shown_path(path) { path } else { b"-" }
 }
 
 fn is_version(text: &[u8]) -> bool

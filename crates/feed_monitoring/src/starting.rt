@@ -23,12 +23,13 @@ pub fn respond_at_start(
     open: u64,
 ) -> Result<Option<ReportReply>, AllocError>
     ensures value { IfOk result
-        (IsStartingReply request.now.is_local request.now.is_open metrics.now request.now.bytes.now
+        (IsStartingReply request.now.is_local request.now.is_open metrics.now request.now.received.bytes.now
         request.now.keeps) }
     ensures says { IfOk result (λ found. IfSome found (λ reply.
         SaysWhetherItKeeps request.now.keeps reply.bytes.items)) }
 {
-    if !gets_report(request.is_local, request.is_open, request.bytes) {
+    let received = &request.received;
+    if !gets_report(request.is_local, request.is_open, received) {
         return Ok(None);
     }
     let gauges = Gauges {
@@ -38,6 +39,6 @@ pub fn respond_at_start(
         releases: &[],
         since_switch: None,
     };
-    let found = respond_about_node(alloc, request.bytes, request.keeps, metrics, &gauges, b"")?;
+    let found = respond_about_node(alloc, received, request.keeps, metrics, &gauges, b"")?;
     Ok(found)
 }

@@ -21,5 +21,5 @@ starting is_local is_open metrics gauges bytes keeps (Some reply) allowed none i
 
 pub returns-clause-value : goal.returns-clause-value
 returns-clause-value c =
-    starting c.args.request.now.is_local c.args.request.now.is_open c.args.metrics.now _ c.args.request.now.bytes.now c.args.request.now.keeps c.in_ok-found.found
+    starting c.args.request.now.is_local c.args.request.now.is_open c.args.metrics.now _ c.args.request.now.received.bytes.now c.args.request.now.keeps c.in_ok-found.found
     c.if-not-gets_report.ensures refl c.in_ok-found.ensures.value

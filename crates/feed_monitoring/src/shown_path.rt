@@ -2,12 +2,11 @@
 ghost use Rattle.std.specs.Prelude.{◌≡◌};
 ghost use Rattle.std.specs.List.{list_all};
 ghost use Rattle.feed_names.specs.ReleaseName.{is_stem_byte};
-ghost use Rattle.feed_monitoring.specs.Routes.{is_dated, is_feed_path, is_package, is_reader_path, is_release};
-ghost use Rattle.feed_monitoring.specs.Routes.{is_route, is_tail, names_release};
+ghost use Rattle.feed_monitoring.specs.ShownPaths.{is_dated, is_package, is_release, is_shown_path};
+ghost use Rattle.feed_monitoring.specs.ShownPaths.{is_tail, names_release};
 
-use crate::report::report_at;
 use feed_dates::read_date;
-use feed_resolver_request::{Resource, package_in, resource_of};
+use feed_resolver_request::{Route, package_in, route_at};
 
 fn is_stem_byte(byte: u8) -> bool
     ensures { result ≡ is_stem_byte byte }
@@ -61,27 +60,15 @@ fn names_release(path: &[u8]) -> bool
     front == b"/feed/".as_slice() && is_release(&path[path.len().min(6)..])
 }
 
-fn is_feed_path(path: &[u8]) -> bool
-    ensures { result ≡ is_feed_path path.now }
+/// Returns whether a path is one of the node's, of any route. A package or a release in it has a valid name, whether the
+/// node has it or not.
+pub(crate) fn is_shown_path(path: &[u8]) -> bool
+    ensures { result ≡ is_shown_path path.now }
 {
-    path == b"/feed".as_slice() || names_release(path)
-}
-
-fn is_reader_path(path: &[u8]) -> bool
-    ensures { result ≡ is_reader_path path.now }
-{
-    match resource_of(path) {
-        Resource::Home | Resource::Status | Resource::Resolve | Resource::Go | Resource::Titles =>
-            true,
-        Resource::Package => is_package(package_in(path)),
-        Resource::Unknown => false,
+    match route_at(path) {
+        Route::Package => is_package(package_in(path)),
+        Route::Fetch => names_release(path),
+        Route::Unknown => false,
+        _ => true,
     }
-}
-
-/// Returns whether a path is one of the node's: of a report, of the feed, or of a reader. A package or a release in it
-/// has a valid name, whether the node has it or not.
-pub(crate) fn is_route(path: &[u8]) -> bool
-    ensures { result ≡ is_route path.now }
-{
-    report_at(path).is_some() || is_feed_path(path) || is_reader_path(path)
 }
