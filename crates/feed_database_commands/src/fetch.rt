@@ -50,7 +50,7 @@ pub fn fetch_release<D: Database, O: Write, F: Write + Drop>(
     } else {
         None
     };
-    let mut out = Printer::new(Progress::new(rt, &mut console.out, screen));
+    let mut out = Progress::new(rt, &mut console.out, screen);
     let mut status = fetch_with(
         rt.alloc(),
         &mut dial,
@@ -61,7 +61,7 @@ pub fn fetch_release<D: Database, O: Write, F: Write + Drop>(
         &mut out,
         &mut Printer::new(console.faults.out()),
     );
-    match (out.into_writer().into_fault(), cause.into_inner()) {
+    match (out.into_fault(), cause.into_inner()) {
         (Some(fault), _) => status = console.faults.check_print(Err(fault), FAILED),
         (None, Some(cause)) if status == FAILED => {
             console.faults.note(addr, cause);

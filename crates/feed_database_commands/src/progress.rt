@@ -1,19 +1,20 @@
 //! The progress of a fetch, shown on a terminal.
+ghost use Rattle.std.specs.Prelude.{◌≡◌, is_some, IsTrue, OnOk, OnErr};
+
+use feed_fetch::{FetchEvent, Observe, Unprinted};
+use feed_model::Reply;
 use std::io;
-use std::io::{ErrorKind, Write};
+use std::io::Write;
 use std::time::Instant;
 
-/// Passes on the lines of a fetch, each at once. If there is a screen, a line there is rewritten to show how many bytes
-/// of the file are stored, the rate and the time left. It parses these from the lines `size N` and `stored missing N`.
+/// Prints each event of a fetch at once, as a line. If there is a screen, a line there is rewritten to show how many
+/// bytes of the file are stored, the rate and the time left.
 #[derive(Drop)]
 pub struct Progress<'a, O: Write, S: Write + Drop> {
     rt: &'a HostRuntime,
     out: &'a mut O,
     screen: Option<S>,
     is_shown: bool,
-    column: usize,
-    head: [u8; 2],
-    number: u64,
     size: u64,
     began: Option<(Instant, u64)>,
     fault: Option<io::Error>,
@@ -26,9 +27,6 @@ impl<'a, O: Write, S: Write + Drop> Progress<'a, O, S> {
             out,
             screen,
             is_shown: false,
-            column: 0,
-            head: [0; 2],
-            number: 0,
             size: 0,
             began: None,
             fault: None,
@@ -40,43 +38,24 @@ impl<'a, O: Write, S: Write + Drop> Progress<'a, O, S> {
         self.fault
     }
 
-    // Stores an error, unless the caller will try again, and returns another of its kind.
-    fn record_fault(&mut self, fault: io::Error) -> io::Error {
-        let kind = fault.kind();
-        if kind != ErrorKind::Interrupted {
-            self.fault = Some(fault);
-        }
-        io::Error::from(kind)
-    }
-
-    // Reads the next byte of a line: its first two, and the last number in it.
-    fn read_byte(&mut self, byte: u8) {
-        if byte == b'\n' {
-            self.end_line();
-            self.column = 0;
-            self.number = 0;
-            return;
-        }
-        if let Some(place) = self.head.get_mut(self.column) {
-            *place = byte;
-        }
-        if byte.is_ascii_digit() {
-            let digit = u64::from(byte.saturating_sub(b'0'));
-            self.number = self.number.saturating_mul(10).saturating_add(digit);
-        }
-        self.column = self.column.saturating_add(1);
-    }
-
-    fn end_line(&mut self) {
-        match &self.head {
-            b"si" => self.size = self.number,
-            b"st" => self.show(self.number),
-            _ => {}
+    // Stores the error, if there is one.
+    fn record_fault(&mut self, printed: io::Result<()>) -> Result<(), Unprinted>
+        ensures printed { OnOk result (self.new.fault ≡ self.old.fault) }
+        ensures failed { OnErr result (IsTrue (is_some self.new.fault)) }
+    {
+        match printed {
+            Ok(()) => Ok(()),
+            Err(fault) => {
+                self.fault = Some(fault);
+                Err(Unprinted)
+            }
         }
     }
 
     // Shows the progress. An error of the screen is ignored.
-    fn show(&mut self, missing: u64) {
+    fn show(&mut self, missing: u64)
+        ensures { self.new.fault ≡ self.old.fault }
+    {
         let Ok(now) = Instant::now(self.rt) else {
             return;
         };
@@ -103,7 +82,9 @@ impl<'a, O: Write, S: Write + Drop> Progress<'a, O, S> {
     }
 
     // Takes the line off the screen.
-    fn clear(&mut self) {
+    fn clear(&mut self)
+        ensures { self.new.fault ≡ self.old.fault }
+    {
         if self.is_shown {
             self.is_shown = false;
             if let Some(screen) = &mut self.screen {
@@ -113,30 +94,26 @@ impl<'a, O: Write, S: Write + Drop> Progress<'a, O, S> {
     }
 }
 
-impl<O: Write, S: Write + Drop> Write for Progress<'_, O, S> {
-    fn write(&mut self, buf: &[u8]) -> io::Result<usize> {
+impl<O: Write, S: Write + Drop> Observe for Progress<'_, O, S> {
+    ghost use Rattle.std.specs.Prelude.{is_some};
+
+    ghost has_failed = { λ progress. is_some progress.fault };
+
+    fn observe(&mut self, event: FetchEvent) -> Result<(), Unprinted> {
         self.clear();
-        let count = match self.out.write(buf) {
-            Ok(count) => count,
-            Err(fault) => return Err(self.record_fault(fault)),
-        };
-        let written = &buf[..count];
-        if written.contains(&b'\n')
-            && let Err(fault) = self.out.flush()
-        {
-            return Err(self.record_fault(fault));
+        let printed = writeln!(self.out, "{event}").and_then(|()| self.out.flush());
+        self.record_fault(printed)?;
+        match event {
+            FetchEvent::Size(size) => self.size = size,
+            FetchEvent::Accepted(Reply::Stored { missing }) => self.show(missing),
+            _ => {}
         }
-        for byte in written {
-            self.read_byte(*byte);
-        }
-        Ok(count)
+        Ok(())
     }
 
-    fn flush(&mut self) -> io::Result<()> {
+    fn finish(&mut self) -> Result<(), Unprinted> {
         self.clear();
-        match self.out.flush() {
-            Ok(()) => Ok(()),
-            Err(fault) => Err(self.record_fault(fault)),
-        }
+        let flushed = self.out.flush();
+        self.record_fault(flushed)
     }
 }

@@ -39,6 +39,7 @@ ghost use Rattle.feed_http.specs.RequestTexts.{is_host};
 ghost use Rattle.feed_limits.specs.Limits.{piece_limit};
 
 use crate::machine::{Fetch, Next, Phase, Request};
+use crate::observe::Observe;
 use crate::printer::{Printer, Unprinted};
 use crate::requests::{request_range, request_size};
 use crate::stop::{RequestFault, Stop};
@@ -70,16 +71,16 @@ fn send<D: Dial>(
     }
 }
 
-/// Fetches the file of a release: runs a new `Fetch` over a dial, with one connection for each request. Prints each
-/// answer of the feed to `out`, as a line.
-pub fn fetch_file<D: Dial, K: Keep, O: Write>(
+/// Fetches the file of a release: runs a new `Fetch` over a dial, with one connection for each request. Passes each
+/// event to `out`.
+pub fn fetch_file<D: Dial, K: Keep, O: Observe>(
     alloc: Global,
     dial: &mut D,
     feed: &mut Feed<K>,
     host: &[u8],
     name: &ReleaseName,
     mut fetch: Fetch,
-    out: &mut Printer<O>,
+    out: &mut O,
 ) -> Result<(), Stop>
     requires host { IsTrue (is_host host.now) }
     requires new { fetch.phase ≡ Phase.New }
@@ -88,7 +89,7 @@ pub fn fetch_file<D: Dial, K: Keep, O: Write>(
     ensures gets { (file : List ℕ) → ServesFile D.replies name.now file → IsFetchable file
         → IsFetched name.now file result (recorded feed.old) (recorded feed.new) }
     ensures done { OnOk result ((h : History) → IsContent (recorded feed.new) h → IsAllFetched name.now h) }
-    ensures caused { IfErr result (λ stop. HasCause (has_failed out.new) (D.last_fault dial.new) stop) }
+    ensures caused { IfErr result (λ stop. HasCause (O.has_failed out.new) (D.last_fault dial.new) stop) }
 {
     // Each round but the first fills a place, so a file needs no more rounds than this.
     'rounds: for _ in 0..FILE_LIMIT + 2 {
@@ -135,32 +136,32 @@ pub fn print_stop<F: Write>(stop: Stop, faults: &mut Printer<F>) -> u8
 }
 
 /// Fetches the file of a release as `fetch_file` does, from a host that `is_host` accepts (1 to 255 bytes), with
-/// requests of 1 to 1,048,576 places. Prints the answers of the feed to `out`, and a fault to `faults`, as `kbfeed: `
-/// and its name. Returns the exit status: 0 if the release, or a later one, is then reported; 1 because of the peer or
-/// the file; 3 if a connection, device or print failed, or memory ran out. The bytes received are stored, and a further
+/// requests of 1 to 1,048,576 places. Passes the events to `out`, and prints a fault to `faults`, as `kbfeed: ` and its
+/// name. Returns the exit status: 0 if the release, or a later one, is then reported; 1 because of the peer or the
+/// file; 3 if a connection, device or print failed, or memory ran out. The bytes received are stored, and a further
 /// fetch resumes from there.
-pub fn fetch_with<D: Dial, K: Keep, O: Write, F: Write>(
+pub fn fetch_with<D: Dial, K: Keep, O: Observe, F: Write>(
     alloc: Global,
     dial: &mut D,
     feed: &mut Feed<K>,
     host: &[u8],
     name: &ReleaseName,
     piece: u64,
-    out: &mut Printer<O>,
+    out: &mut O,
     faults: &mut Printer<F>,
 ) -> u8
     requires host { IsTrue (is_host host.now) }
     requires least { 1 ≤ piece }
     requires most { piece ≤ piece_limit }
     ensures extends { IsExtension (IsFetchEvent D.replies host.now name.now)
-        (EndsWithStatus name.now result (has_failed out.new || has_failed faults.new) (D.last_fault dial.new))
+        (EndsWithStatus name.now result (O.has_failed out.new || has_failed faults.new) (D.last_fault dial.new))
         (recorded feed.old) (recorded feed.new) }
     ensures gets { (file : List ℕ) → ServesFile D.replies name.now file → IsFetchable file → (h : History)
         → IsContent (recorded feed.old) h → IsOpenTo name.now file h → (result ≡ 0) ⊎ (result ≡ 3) }
 {
     let fetch = Fetch::new(piece);
     let outcome = fetch_file(alloc, dial, feed, host, name, fetch, out);
-    let Ok(()) = out.flush() else {
+    let Ok(()) = out.finish() else {
         return 3;
     };
     match outcome {

@@ -9,9 +9,8 @@ ghost use Rattle.feed_fetch.specs.Effects.{IsExtension, IsTakenFrom};
 ghost use Rattle.feed_fetch.specs.Exchanges.{Opens, Fills};
 ghost use Rattle.feed_fetch.specs.Steps.{IsNextStep, IsReplyEvent, IsArrivedPart};
 ghost use Rattle.feed_fetch.specs.Steps.{phase_after, phase_after_part};
-ghost use Rattle.feed_fetch.specs.Printing.{has_failed};
 
-use crate::printer::Printer;
+use crate::observe::Observe;
 use crate::replies::{handle_piece, take_length, take_range};
 use crate::stop::{RequestFault, Stop};
 use feed_dial::DialFault;
@@ -19,7 +18,6 @@ use feed_http::{FilePart, Got};
 use feed_keep::Keep;
 use feed_names::ReleaseName;
 use feed_releases::Feed;
-use std::io::Write;
 
 /// A request of a fetch.
 #[derive(Clone, Copy, Debug, PartialEq, Eq)]
@@ -110,12 +108,12 @@ impl Fetch {
     }
 
     // Submits the events of a reply to the feed.
-    fn submit<K: Keep, O: Write>(
+    fn submit<K: Keep, O: Observe>(
         self,
         feed: &mut Feed<K>,
         name: &ReleaseName,
         reply: &Result<Got, RequestFault>,
-        out: &mut Printer<O>,
+        out: &mut O,
     ) -> Result<(), Stop>
         ensures extends { IsExtension (IsReplyEvent name.now self.phase reply.now)
             (λ k. IfErr result (λ stop. IsStoppedAt name.now stop k)) (recorded feed.old) (recorded feed.new) }
@@ -123,7 +121,7 @@ impl Fetch {
         ensures fills { Fills name.now self.phase reply.now result (recorded feed.old) (recorded feed.new) }
         ensures caused { (refused : Option DialFault)
             → ((fault : DialFault) → reply.now ≡ Err (RequestFault.Dial fault) → refused ≡ Some fault)
-            → IfErr result (λ stop. HasCause (has_failed out.new) refused stop) }
+            → IfErr result (λ stop. HasCause (O.has_failed out.new) refused stop) }
     {
         match self.phase {
             Phase::New => take_length(feed, name, reply, out),
@@ -132,14 +130,14 @@ impl Fetch {
         }
     }
 
-    /// Takes the reply to the last request, or why there is none: submits its events to the feed, and prints them and
-    /// the feed's answers. Returns why the fetch stops, if it does.
-    pub fn take<K: Keep, O: Write>(
+    /// Takes the reply to the last request, or why there is none: submits its events to the feed, and passes
+    /// them and the feed's answers to the observer. Returns why the fetch stops, if it does.
+    pub fn take<K: Keep, O: Observe>(
         &mut self,
         feed: &mut Feed<K>,
         name: &ReleaseName,
         reply: &Result<Got, RequestFault>,
-        out: &mut Printer<O>,
+        out: &mut O,
     ) -> Result<(), Stop>
         ensures extends { IsExtension (IsReplyEvent name.now self.old.phase reply.now)
             (λ k. IfErr result (λ stop. IsStoppedAt name.now stop k)) (recorded feed.old) (recorded feed.new) }
@@ -147,7 +145,7 @@ impl Fetch {
         ensures fills { Fills name.now self.old.phase reply.now result (recorded feed.old) (recorded feed.new) }
         ensures caused { (refused : Option DialFault)
             → ((fault : DialFault) → reply.now ≡ Err (RequestFault.Dial fault) → refused ≡ Some fault)
-            → IfErr result (λ stop. HasCause (has_failed out.new) refused stop) }
+            → IfErr result (λ stop. HasCause (O.has_failed out.new) refused stop) }
         ensures phase { self.new.phase ≡ phase_after result }
         ensures piece { self.new.piece ≡ self.old.piece }
     {
@@ -157,13 +155,14 @@ impl Fetch {
     }
 
     /// Takes a part of a whole file whose length the reply stated, before the rest of it has arrived: submits it to the
-    /// feed as a piece, and prints the feed's answer. Returns whether the part had new bytes, or why the fetch stops.
-    pub fn take_part<K: Keep, O: Write>(
+    /// feed as a piece, and passes the feed's answer to the observer. Returns whether the part had new bytes, or why the
+    /// fetch stops.
+    pub fn take_part<K: Keep, O: Observe>(
         &mut self,
         feed: &mut Feed<K>,
         name: &ReleaseName,
         part: &FilePart<'_>,
-        out: &mut Printer<O>,
+        out: &mut O,
     ) -> Result<bool, Stop>
         ensures extends { (file : List ℕ) → IsArrivedPart file part.now.first part.now.length part.now.bytes.now
             → IsExtension (IsTakenFrom name.now (Got.Whole file))
@@ -172,7 +171,7 @@ impl Fetch {
             (λ answer. (result ≡ piece_result (reply_or_stop answer)) ⊎ (result ≡ Err Stop.Print))
             (recorded feed.old) (Piece name.now part.now.first (Some part.now.length) part.now.bytes.now)
             (recorded feed.new) }
-        ensures caused { IfErr result (λ stop. HasCause (has_failed out.new) None stop) }
+        ensures caused { IfErr result (λ stop. HasCause (O.has_failed out.new) None stop) }
         ensures phase { self.new.phase ≡ phase_after_part self.old.phase result }
         ensures piece { self.new.piece ≡ self.old.piece }
     {

@@ -12,6 +12,7 @@ ghost use Rattle.feed_fetch.specs.Effects.{IsExtension, IsFetchEvent, EndsWithSt
 
 use crate::fetch_loop::fetch_with;
 use crate::memory_dial::{Archive, MemoryDial};
+use crate::observe::Observe;
 use crate::printer::Printer;
 use feed_http::NamedFile;
 use feed_keep::Keep;
@@ -29,18 +30,18 @@ pub struct Order<'a> {
     pub piece: u64,
 }
 
-fn fetch_from<A: Archive, K: Keep, O: Write, F: Write>(
+fn fetch_from<A: Archive, K: Keep, O: Observe, F: Write>(
     alloc: Global,
     archive: &[NamedFile],
     feed: &mut Feed<K>,
     order: &Order<'_>,
-    out: &mut Printer<O>,
+    out: &mut O,
     faults: &mut Printer<F>,
 ) -> u8
     requires archive { file_named archive.now ≡ A.files }
     requires order { IsOrder order.now }
     ensures extends { IsExtension (IsFetchEvent (Known (IsServed A.files)) order.now.host.now order.now.name.now)
-        (EndsWithStatus order.now.name.now result (has_failed out.new || has_failed faults.new) None)
+        (EndsWithStatus order.now.name.now result (O.has_failed out.new || has_failed faults.new) None)
         (recorded feed.old) (recorded feed.new) }
     ensures gets { (file : List ℕ) → A.files order.now.name.now ≡ Some file → IsFetchable file → (h : History)
         → IsContent (recorded feed.old) h → IsOpenTo order.now.name.now file h → (result ≡ 0) ⊎ (result ≡ 3) }
@@ -62,18 +63,18 @@ fn fetch_from<A: Archive, K: Keep, O: Write, F: Write>(
 
 /// Fetches the file of a release with `fetch_with` from a server over these files. If a name appears twice, the first
 /// file counts. Its contract is that of `fetch_with` for a known peer, here without a premise about the peer.
-pub fn fetch_from_memory<K: Keep, O: Write, F: Write>(
+pub fn fetch_from_memory<K: Keep, O: Observe, F: Write>(
     alloc: Global,
     files: &[NamedFile],
     feed: &mut Feed<K>,
     order: &Order<'_>,
-    out: &mut Printer<O>,
+    out: &mut O,
     faults: &mut Printer<F>,
 ) -> u8
     requires { IsOrder order.now }
     ensures extends { IsExtension
         (IsFetchEvent (Known (IsServed (file_named files.now))) order.now.host.now order.now.name.now)
-        (EndsWithStatus order.now.name.now result (has_failed out.new || has_failed faults.new) None)
+        (EndsWithStatus order.now.name.now result (O.has_failed out.new || has_failed faults.new) None)
         (recorded feed.old) (recorded feed.new) }
 
     // If the file is there and good and the feed is open to it, the fetch ends with 0, or with 3 for a failure.

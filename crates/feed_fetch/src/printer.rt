@@ -2,6 +2,8 @@
 ghost use Rattle.std.specs.Prelude.{◌≡◌, false, IsTrue, OnOk, OnErr};
 ghost use Rattle.feed_fetch.specs.Printing.{has_failed};
 
+use crate::events::FetchEvent;
+use crate::observe::Observe;
 use std::fmt;
 use std::io::Write;
 
@@ -41,11 +43,23 @@ impl<W: Write> Printer<W> {
         }
     }
 
-    /// Flushes the writer.
-    pub fn flush(&mut self) -> Result<(), Unprinted>
-        ensures printed { OnOk result (has_failed self.new ≡ has_failed self.old) }
-        ensures failed { OnErr result (IsTrue (has_failed self.new)) }
-    {
+    /// Returns the writer.
+    pub fn into_writer(self) -> W {
+        self.writer
+    }
+}
+
+/// Prints each event as a line, and flushes the writer at the end.
+impl<W: Write> Observe for Printer<W> {
+    ghost use Rattle.feed_fetch.specs.Printing.{has_failed};
+
+    ghost has_failed = { has_failed };
+
+    fn observe(&mut self, event: FetchEvent) -> Result<(), Unprinted> {
+        self.print(event)
+    }
+
+    fn finish(&mut self) -> Result<(), Unprinted> {
         match self.writer.flush() {
             Ok(()) => Ok(()),
             Err(_) => {
@@ -53,10 +67,5 @@ impl<W: Write> Printer<W> {
                 Err(Unprinted)
             }
         }
-    }
-
-    /// Returns the writer.
-    pub fn into_writer(self) -> W {
-        self.writer
     }
 }

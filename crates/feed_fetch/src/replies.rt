@@ -1,4 +1,4 @@
-//! Passes replies to the feed as events, and prints its answers.
+//! Passes replies to the feed as events, and its answers to an observer.
 ghost use Rattle.std.specs.Prelude.{ℕ, List, Option, Some, None, ◌≡◌, ◌⊎◌, Ok, Err, IfOk, IfErr};
 ghost use Rattle.feed_model.specs.History.{Lost, Offered, Piece};
 ghost use Rattle.feed_releases.specs.Feeds.{recorded};
@@ -14,12 +14,12 @@ ghost use Rattle.feed_fetch.specs.Answers.{
   IsStoppedAt,
 };
 ghost use Rattle.feed_fetch.specs.Steps.{IsReplyEvent, HasLength, HasRange};
-ghost use Rattle.feed_fetch.specs.Printing.{has_failed};
 ghost use Rattle.feed_fetch.specs.Effects.{IsExtension, IsTakenFrom, IsFetchable, IsOpened, IsFilled};
 
 use crate::events::FetchEvent;
 use crate::machine::Phase;
-use crate::printer::{Printer, Unprinted};
+use crate::observe::Observe;
+use crate::printer::Unprinted;
 use crate::stop::{RequestFault, Stop};
 use feed_dial::DialFault;
 use feed_http::Got;
@@ -28,21 +28,20 @@ use feed_limits::PIECE_LIMIT;
 use feed_model::Reply;
 use feed_names::ReleaseName;
 use feed_releases::{Event, Feed};
-use std::io::Write;
 
-/// Passes an event to the feed, and prints its answer.
-pub fn handle_event<K: Keep, O: Write>(
+/// Passes an event to the feed, and its answer to the observer.
+pub fn handle_event<K: Keep, O: Observe>(
     feed: &mut Feed<K>,
     event: &Event<'_>,
-    out: &mut Printer<O>,
+    out: &mut O,
 ) -> Result<Reply, Stop>
     ensures right { HasRightAnswer (λ answer. (result ≡ reply_or_stop answer) ⊎ (result ≡ Err Stop.Print))
         (recorded feed.old) (event_of event.now) (recorded feed.new) }
-    ensures caused { IfErr result (λ stop. HasCause (has_failed out.new) None stop) }
+    ensures caused { IfErr result (λ stop. HasCause (O.has_failed out.new) None stop) }
 {
     match feed.handle(event) {
         Ok(reply) => {
-            let Ok(()) = out.print(FetchEvent::Accepted(reply)) else {
+            let Ok(()) = out.observe(FetchEvent::Accepted(reply)) else {
                 return Err(Stop::Print);
             };
             match reply {
@@ -52,7 +51,7 @@ pub fn handle_event<K: Keep, O: Write>(
             }
         }
         Err(refusal) => {
-            let Ok(()) = out.print(FetchEvent::Refused(refusal)) else {
+            let Ok(()) = out.observe(FetchEvent::Refused(refusal)) else {
                 return Err(Stop::Print);
             };
             Err(Stop::Refused(refusal))
@@ -71,18 +70,18 @@ fn has_new_bytes(reply: Reply) -> bool
 }
 
 /// Passes a piece to the feed, and returns whether it had new bytes.
-pub fn handle_piece<K: Keep, O: Write>(
+pub fn handle_piece<K: Keep, O: Observe>(
     feed: &mut Feed<K>,
     name: &ReleaseName,
     first: u64,
     total: Option<u64>,
     bytes: &[u8],
-    out: &mut Printer<O>,
+    out: &mut O,
 ) -> Result<bool, Stop>
     ensures right { HasRightAnswer
         (λ answer. (result ≡ piece_result (reply_or_stop answer)) ⊎ (result ≡ Err Stop.Print))
         (recorded feed.old) (Piece name.now first total bytes.now) (recorded feed.new) }
-    ensures caused { IfErr result (λ stop. HasCause (has_failed out.new) None stop) }
+    ensures caused { IfErr result (λ stop. HasCause (O.has_failed out.new) None stop) }
 {
     let event = Event::Piece {
         name,
@@ -96,15 +95,15 @@ pub fn handle_piece<K: Keep, O: Write>(
 
 // Passes the whole file to the feed in pieces, in order, up to the first answer that is neither `stored` nor
 // `repeated`.
-fn handle_whole<K: Keep, O: Write>(
+fn handle_whole<K: Keep, O: Observe>(
     feed: &mut Feed<K>,
     name: &ReleaseName,
     bytes: &[u8],
-    out: &mut Printer<O>,
+    out: &mut O,
 ) -> Result<bool, Stop>
     ensures extends { IsExtension (IsTakenFrom name.now (Got.Whole bytes.now))
         (λ k. IfErr result (λ stop. IsStoppedAt name.now stop k)) (recorded feed.old) (recorded feed.new) }
-    ensures caused { IfErr result (λ stop. HasCause (has_failed out.new) None stop) }
+    ensures caused { IfErr result (λ stop. HasCause (O.has_failed out.new) None stop) }
 {
     let total = bytes.len();
     let mut first = 0;
@@ -129,18 +128,18 @@ fn handle_whole<K: Keep, O: Write>(
 }
 
 /// Passes the result of a GET to the feed, and returns whether it had new bytes.
-pub fn handle_reply<K: Keep, O: Write>(
+pub fn handle_reply<K: Keep, O: Observe>(
     feed: &mut Feed<K>,
     name: &ReleaseName,
     got: &Got,
-    out: &mut Printer<O>,
+    out: &mut O,
 ) -> Result<bool, Stop>
     ensures extends { IsExtension (IsTakenFrom name.now got.now)
         (λ k. IfErr result (λ stop. IsStoppedAt name.now stop k)) (recorded feed.old) (recorded feed.new) }
     ensures piece { (first : ℕ) (total : Option ℕ) (bytes : List ℕ) → got.now ≡ Got.Piece first total bytes
         → HasRightAnswer (λ answer. (result ≡ piece_result (reply_or_stop answer)) ⊎ (result ≡ Err Stop.Print))
         (recorded feed.old) (Piece name.now first total bytes) (recorded feed.new) }
-    ensures caused { IfErr result (λ stop. HasCause (has_failed out.new) None stop) }
+    ensures caused { IfErr result (λ stop. HasCause (O.has_failed out.new) None stop) }
 {
     match got {
         Got::Piece {
@@ -149,11 +148,11 @@ pub fn handle_reply<K: Keep, O: Write>(
             bytes,
         } => handle_piece(feed, name, *first, *total, bytes.as_slice(), out),
         Got::Whole { bytes } => handle_whole(feed, name, bytes.as_slice(), out),
-        Got::Missing => match out.print(FetchEvent::Missing) {
+        Got::Missing => match out.observe(FetchEvent::Missing) {
             Ok(()) => Err(Stop::Missing),
             Err(Unprinted) => Err(Stop::Print),
         },
-        Got::Unsatisfied { total: _ } => match out.print(FetchEvent::Unsatisfied) {
+        Got::Unsatisfied { total: _ } => match out.observe(FetchEvent::Unsatisfied) {
             Ok(()) => Err(Stop::Unsatisfied),
             Err(Unprinted) => Err(Stop::Print),
         },
@@ -162,11 +161,11 @@ pub fn handle_reply<K: Keep, O: Write>(
 }
 
 // Reports a failed request to the feed, unless there was no connection.
-fn report_loss<K: Keep, O: Write>(
+fn report_loss<K: Keep, O: Observe>(
     feed: &mut Feed<K>,
     name: &ReleaseName,
     why: RequestFault,
-    out: &mut Printer<O>,
+    out: &mut O,
 ) -> Stop
     ensures lost { IsExtension (λ e. e ≡ Lost name.now)
         (λ k. ((result ≡ Stop.Request why) ⊎ (result ≡ Stop.Print)) × IsStoppedAt name.now result k)
@@ -174,7 +173,7 @@ fn report_loss<K: Keep, O: Write>(
     ensures kept { (fault : DialFault) → why ≡ RequestFault.Dial fault → recorded feed.new ≡ recorded feed.old }
     ensures caused { (refused : Option DialFault)
         → ((fault : DialFault) → why ≡ RequestFault.Dial fault → refused ≡ Some fault)
-        → HasCause (has_failed out.new) refused result }
+        → HasCause (O.has_failed out.new) refused result }
 {
     match why {
         RequestFault::Dial(_) => Stop::Request(why),
@@ -186,16 +185,16 @@ fn report_loss<K: Keep, O: Write>(
 }
 
 // Offers the release to the feed.
-fn offer_size<K: Keep, O: Write>(
+fn offer_size<K: Keep, O: Observe>(
     feed: &mut Feed<K>,
     name: &ReleaseName,
     size: u64,
-    out: &mut Printer<O>,
+    out: &mut O,
 ) -> Result<(), Stop>
     ensures right { HasRightAnswer
         (λ answer. (result ≡ offer_result (reply_or_stop answer)) ⊎ (result ≡ Err Stop.Print))
         (recorded feed.old) (Offered name.now size) (recorded feed.new) }
-    ensures caused { IfErr result (λ stop. HasCause (has_failed out.new) None stop) }
+    ensures caused { IfErr result (λ stop. HasCause (O.has_failed out.new) None stop) }
 {
     let _reply = handle_event(feed, &Event::Offered { name, size }, out)?;
     Ok(())
@@ -212,21 +211,21 @@ fn require_progress(taken: Result<bool, Stop>) -> Result<(), Stop>
     }
 }
 
-// Prints the length that the reply to a HEAD stated.
-fn print_size<O: Write>(got: &Got, out: &mut Printer<O>) -> Result<u64, Stop>
+// Passes the length that the reply to a HEAD stated to the observer.
+fn report_size<O: Observe>(got: &Got, out: &mut O) -> Result<u64, Stop>
     ensures printed { (size : ℕ) → got.now ≡ Got.Size size
         → (result ≡ Ok size) ⊎ (result ≡ Err Stop.Print) }
     ensures given { IfOk result (λ size. got.now ≡ Got.Size size) }
     ensures stops { IfErr result (λ stop.
         (stop ≡ Stop.Missing) ⊎ ((stop ≡ Stop.NoProgress) ⊎ (stop ≡ Stop.Print))) }
-    ensures caused { IfErr result (λ stop. HasCause (has_failed out.new) None stop) }
+    ensures caused { IfErr result (λ stop. HasCause (O.has_failed out.new) None stop) }
 {
     match got {
-        Got::Size(size) => match out.print(FetchEvent::Size(*size)) {
+        Got::Size(size) => match out.observe(FetchEvent::Size(*size)) {
             Ok(()) => Ok(*size),
             Err(Unprinted) => Err(Stop::Print),
         },
-        Got::Missing => match out.print(FetchEvent::Missing) {
+        Got::Missing => match out.observe(FetchEvent::Missing) {
             Ok(()) => Err(Stop::Missing),
             Err(Unprinted) => Err(Stop::Print),
         },
@@ -234,12 +233,12 @@ fn print_size<O: Write>(got: &Got, out: &mut Printer<O>) -> Result<u64, Stop>
     }
 }
 
-/// Takes the reply to a HEAD: prints the length that it states, and offers the release to the feed.
-pub fn take_length<K: Keep, O: Write>(
+/// Takes the reply to a HEAD: reports the length that it states, and offers the release to the feed.
+pub fn take_length<K: Keep, O: Observe>(
     feed: &mut Feed<K>,
     name: &ReleaseName,
     reply: &Result<Got, RequestFault>,
-    out: &mut Printer<O>,
+    out: &mut O,
 ) -> Result<(), Stop>
     ensures extends { IsExtension (IsReplyEvent name.now Phase.New reply.now)
         (λ k. IfErr result (λ stop. IsStoppedAt name.now stop k)) (recorded feed.old) (recorded feed.new) }
@@ -247,10 +246,10 @@ pub fn take_length<K: Keep, O: Write>(
         → IsOpened name.now file result (recorded feed.old) (recorded feed.new) }
     ensures caused { (refused : Option DialFault)
         → ((fault : DialFault) → reply.now ≡ Err (RequestFault.Dial fault) → refused ≡ Some fault)
-        → IfErr result (λ stop. HasCause (has_failed out.new) refused stop) }
+        → IfErr result (λ stop. HasCause (O.has_failed out.new) refused stop) }
 {
     match reply {
-        Ok(got) => match print_size(got, out) {
+        Ok(got) => match report_size(got, out) {
             Ok(size) => offer_size(feed, name, size, out),
             Err(stop) => Err(stop),
         },
@@ -259,11 +258,11 @@ pub fn take_length<K: Keep, O: Write>(
 }
 
 /// Takes the reply to a GET: passes the bytes received to the feed.
-pub fn take_range<K: Keep, O: Write>(
+pub fn take_range<K: Keep, O: Observe>(
     feed: &mut Feed<K>,
     name: &ReleaseName,
     reply: &Result<Got, RequestFault>,
-    out: &mut Printer<O>,
+    out: &mut O,
 ) -> Result<(), Stop>
     ensures extends { IsExtension (IsReplyEvent name.now Phase.Offered reply.now)
         (λ k. IfErr result (λ stop. IsStoppedAt name.now stop k)) (recorded feed.old) (recorded feed.new) }
@@ -271,7 +270,7 @@ pub fn take_range<K: Keep, O: Write>(
         → IsFilled name.now file piece first last result (recorded feed.old) (recorded feed.new) }
     ensures caused { (refused : Option DialFault)
         → ((fault : DialFault) → reply.now ≡ Err (RequestFault.Dial fault) → refused ≡ Some fault)
-        → IfErr result (λ stop. HasCause (has_failed out.new) refused stop) }
+        → IfErr result (λ stop. HasCause (O.has_failed out.new) refused stop) }
 {
     match reply {
         Ok(got) => require_progress(handle_reply(feed, name, got, out)),
