@@ -1,7 +1,10 @@
 //! The reply to a request of a fetch while it arrives: where it ends, and how much of it is kept at a time.
+use feed_fetch::{FetchEnd, Stop};
+use feed_file_checks::{FileCheck, Mismatch};
 use feed_http::{Framing, Method, ReplyBody, ReplyScan};
 use feed_http_heads::{HEAD_LIMIT, HttpFault};
 use feed_limits::PIECE_LIMIT;
+use feed_node_server::OutgoingRequest;
 
 // The bytes of a reply to a GET beside its heads and twice the places that were requested, for the framing of chunks.
 // Also the least bytes of a part of a whole file.
@@ -10,32 +13,36 @@ const SPARE_BYTES: usize = 65_536;
 // The most bytes of a whole file whose length the reply does not state.
 const UNSIZED_LIMIT: usize = 8_388_608;
 
-/// The next step of a node, by the bytes of a reply that have arrived.
+/// The next step of a fetch, by the bytes of a reply that have arrived.
 #[derive(Clone, Copy)]
-pub enum Arrival {
+pub enum Step {
     /// Waits for more of them.
-    Unfinished,
+    Wait,
     /// Parses the reply, which is complete or ended with its connection.
-    Complete,
+    Parse,
     /// Takes a part of the whole file.
     Part(WholePart),
-    /// Requests what is missing: the whole file was taken, and some of its bytes were new or none was.
-    Whole { is_new: bool },
-    /// Stops: the connection ended inside the whole file.
-    Cut,
-    /// Stops: the reply is longer than its request allows.
-    TooLong(HttpFault),
-    /// Stops: the whole file has more than 8,388,608 bytes, and the reply does not state its length.
-    NoRanges,
+    /// Looks again, since a part was taken.
+    Again,
+    /// Takes this fault in place of the reply.
+    Fail(HttpFault),
+    /// Sends the next request.
+    Send,
+    /// Tries the next address of the server.
+    Retry,
+    /// Ends the fetch.
+    End(FetchEnd),
+    /// Ends the fetch, since the file is not the expected one.
+    Refuse(Mismatch),
 }
 
-impl Arrival {
-    /// Returns whether the bytes that are kept begin with the head of the reply, and a file or its length is taken from
-    /// them now.
-    pub fn has_head(&self) -> bool {
+impl Step {
+    // Returns whether the bytes that are kept begin with the head of the reply, and a file or its length is taken from
+    // them now.
+    fn has_head(&self) -> bool {
         match self {
-            Arrival::Complete => true,
-            Arrival::Part(part) => part.from > 0,
+            Step::Parse => true,
+            Step::Part(part) => part.from > 0,
             _ => false,
         }
     }
@@ -66,28 +73,32 @@ struct ArrivingWhole {
 }
 
 impl ArrivingWhole {
-    // Returns what to do with this many kept bytes, by parts of this many.
-    fn look(&self, kept: usize, is_over: bool, most: usize) -> Arrival {
+    // Returns the next step, by parts of this many bytes.
+    fn look(&self, outgoing: &OutgoingRequest, most: usize) -> Step {
         let missing = self.length.saturating_sub(self.first);
         if missing == 0 {
-            return Arrival::Whole {
-                is_new: self.is_new,
+            return if self.is_new {
+                Step::Send
+            } else {
+                Step::End(FetchEnd::Stopped(Stop::NoProgress))
             };
         }
         let wanted = missing.min(most as u64) as usize;
-        let arrived = kept.saturating_sub(self.from).min(wanted);
-        if arrived == wanted || (is_over && arrived > 0) {
-            return Arrival::Part(WholePart {
+        let arrived = outgoing.reply().len().saturating_sub(self.from).min(wanted);
+        if arrived == wanted || (outgoing.is_over() && arrived > 0) {
+            return Step::Part(WholePart {
                 from: self.from,
                 to: self.from.saturating_add(arrived),
                 first: self.first,
                 length: self.length,
             });
         }
-        if is_over {
-            Arrival::Cut
-        } else {
-            Arrival::Unfinished
+        if !outgoing.is_over() {
+            return Step::Wait;
+        }
+        match outgoing.fault() {
+            Some(_) => Step::Fail(HttpFault::Read),
+            None => Step::Fail(HttpFault::Short),
         }
     }
 }
@@ -143,48 +154,62 @@ impl Exchange {
             .saturating_add(HEAD_LIMIT + SPARE_BYTES)
     }
 
-    /// Returns what to do with the bytes of the reply that are kept: those of the last call without the parts that were
-    /// passed, and what has arrived since. `is_over` says whether the connection has ended.
-    pub fn look(&mut self, bytes: &[u8], is_over: bool) -> Arrival {
+    /// Returns the next step by the bytes of the reply that are kept: those of the last call without the parts that
+    /// were passed, and what has arrived since. Refuses a file of a type that no list has.
+    pub fn look(&mut self, outgoing: &mut OutgoingRequest, check: &FileCheck) -> Step {
+        if outgoing.is_over() && !outgoing.has_sent() {
+            return Step::Retry;
+        }
+        let step = self.look_at(outgoing);
+        if let Step::Wait = step {
+            outgoing.set_reply_limit(self.limit());
+        }
+        if step.has_head() && check.refuses_type(outgoing.reply()) {
+            return Step::Refuse(Mismatch::Type);
+        }
+        step
+    }
+
+    fn look_at(&mut self, outgoing: &OutgoingRequest) -> Step {
         if self.whole.is_none() {
-            let arrival = self.look_at_reply(bytes, is_over);
+            let step = self.look_at_reply(outgoing.reply(), outgoing.is_over());
             self.find_whole();
             if self.whole.is_none() {
-                return arrival;
+                return step;
             }
         }
         match &self.whole {
-            Some(whole) => whole.look(bytes.len(), is_over, self.piece.max(SPARE_BYTES)),
-            None => Arrival::Unfinished,
+            Some(whole) => whole.look(outgoing, self.piece.max(SPARE_BYTES)),
+            None => Step::Wait,
         }
     }
 
-    fn look_at_reply(&mut self, bytes: &[u8], is_over: bool) -> Arrival {
+    fn look_at_reply(&mut self, bytes: &[u8], is_over: bool) -> Step {
         if bytes.len() == self.seen && !is_over {
-            return Arrival::Unfinished;
+            return Step::Wait;
         }
         self.seen = bytes.len();
         if self.scan.is_complete(bytes) || is_over {
-            return Arrival::Complete;
+            return Step::Parse;
         }
         if bytes.len() < self.limit() {
-            return Arrival::Unfinished;
+            return Step::Wait;
         }
         self.excess()
     }
 
-    // Returns why a reply that reached its limit stops the fetch.
-    fn excess(&self) -> Arrival {
+    // Returns the step for a reply that reached its limit.
+    fn excess(&self) -> Step {
         if self.is_unsized_whole() {
-            return Arrival::NoRanges;
+            return Step::End(FetchEnd::NoRanges);
         }
         match self.scan.body {
-            ReplyBody::Unknown => Arrival::Complete,
+            ReplyBody::Unknown => Step::Parse,
             ReplyBody::Part {
                 start: _,
                 framing: Framing::Chunked,
-            } => Arrival::TooLong(HttpFault::Coding),
-            _ => Arrival::TooLong(HttpFault::Length),
+            } => Step::Fail(HttpFault::Coding),
+            _ => Step::Fail(HttpFault::Length),
         }
     }
 
@@ -204,13 +229,15 @@ impl Exchange {
         }
     }
 
-    /// Passes a part of the whole file that was taken, after which the kept bytes begin behind it.
-    pub fn pass(&mut self, part: WholePart, is_new: bool) {
+    /// Passes a part of the whole file that was taken, and discards its bytes. The kept ones then begin behind it.
+    pub fn pass(&mut self, outgoing: &mut OutgoingRequest, part: WholePart, is_new: bool) -> Step {
+        outgoing.discard(part.to);
         if let Some(whole) = &mut self.whole {
             let count = part.to.saturating_sub(part.from) as u64;
             whole.from = 0;
             whole.first = whole.first.saturating_add(count);
             whole.is_new = whole.is_new || is_new;
         }
+        Step::Again
     }
 }

@@ -3,7 +3,7 @@ ghost use Rattle.std.specs.Prelude.{◌≡◌, ◌≤◌, length};
 ghost use Rattle.feed_limits.specs.Limits.{piece_limit};
 ghost use Rattle.feed_node_service.specs.Runs.{IsLaterNode};
 
-use crate::exchange::{Arrival, Exchange, WholePart};
+use crate::exchange::{Exchange, Step, WholePart};
 use crate::fetch_outcome::FetchOutcome;
 use crate::fetch_report::{FetchReport, reason_of};
 use crate::node_state::NodeState;
@@ -65,35 +65,6 @@ struct RunningExchange {
     at: usize,
     exchange: Exchange,
     check: FileCheck,
-}
-
-// The next step of a fetch, after it looked at the reply.
-#[derive(Clone, Copy)]
-enum Step {
-    /// It waits for more of the reply.
-    Wait,
-    /// It looks again, since it took a part of the reply.
-    Again,
-    /// It sends the next request.
-    Send,
-    /// It tries the next address of the server.
-    Retry,
-    End(FetchEnd),
-    /// It ends the fetch, since the file is not the expected one.
-    Refuse(Mismatch),
-}
-
-// The result of looking at a reply.
-#[derive(Drop)]
-enum Arrived {
-    /// No bytes for the feed, and the next step.
-    Step(Step),
-    /// A part of a whole file.
-    Part(WholePart),
-    /// The whole reply, or the error in place of it.
-    Reply(Result<Got, RequestFault>),
-    /// More than 8,388,608 bytes of a whole file whose length the reply does not state.
-    NoRanges,
 }
 
 impl<'a> Fetcher<'a> {
@@ -387,7 +358,6 @@ impl<'a> Fetcher<'a> {
         ensures { IsLaterNode node.old node.new }
     {
         match step {
-            Step::Wait | Step::Again => self.running = Some(running),
             Step::Send => self.send_next(server, node, running),
             Step::Retry => {
                 running.at = running.at.saturating_add(1);
@@ -401,6 +371,7 @@ impl<'a> Fetcher<'a> {
                 let _ = server.take_request();
                 self.refuse(server, node, mismatch);
             }
+            _ => self.running = Some(running),
         }
     }
 
@@ -456,21 +427,26 @@ impl<'a> Fetcher<'a> {
         ensures refused { (mismatch : Mismatch) → result ≡ Step.Refuse mismatch → node.new ≡ node.old }
     {
         self.report.fault = outgoing.fault();
-        match self.arrived(running, outgoing) {
-            Arrived::Step(step) => step,
-            Arrived::Part(part) => {
+        match running.exchange.look(outgoing, &running.check) {
+            Step::Part(part) => {
                 self.report.add(part.to.saturating_sub(part.from));
                 take_part(self.rt, node, running, outgoing, part, lines)
             }
-            Arrived::Reply(reply) => {
+            Step::Parse => {
+                let reply = self.parse_reply(running.exchange.method(), outgoing);
                 self.report.add_reply(&reply);
                 take_reply(self.rt, node, &mut running.check, &reply, lines)
             }
-            Arrived::NoRanges => {
+            Step::Fail(fault) => {
+                let reply = Err(RequestFault::Http(fault));
+                take_reply(self.rt, node, &mut running.check, &reply, lines)
+            }
+            Step::End(FetchEnd::NoRanges) => {
                 let fault = RequestFault::Http(HttpFault::BodyTooLong);
                 let _ = node.take_reply(&Err(fault), lines);
                 Step::End(FetchEnd::NoRanges)
             }
+            step => step,
         }
     }
 
@@ -495,48 +471,12 @@ impl<'a> Fetcher<'a> {
         Ok(lines.extend_from_slice(last)?)
     }
 
-    // Returns what has arrived of the reply to the last request.
-    fn arrived(&self, running: &mut RunningExchange, outgoing: &mut OutgoingRequest) -> Arrived {
-        if outgoing.is_over() && !outgoing.has_sent() {
-            return Arrived::Step(Step::Retry);
-        }
-        let arrival = running.exchange.look(outgoing.reply(), outgoing.is_over());
-        if arrival.has_head() && running.check.refuses_type(outgoing.reply()) {
-            return Arrived::Step(Step::Refuse(Mismatch::Type));
-        }
-        match arrival {
-            Arrival::Unfinished => {
-                outgoing.set_reply_limit(running.exchange.limit());
-                Arrived::Step(Step::Wait)
-            }
-            Arrival::Part(part) => Arrived::Part(part),
-            Arrival::Whole { is_new: true } => Arrived::Step(Step::Send),
-            Arrival::Whole { is_new: false } => {
-                Arrived::Step(Step::End(FetchEnd::Stopped(Stop::NoProgress)))
-            }
-            Arrival::Complete => {
-                Arrived::Reply(self.parse_reply(running.exchange.method(), outgoing))
-            }
-            Arrival::Cut => Arrived::Reply(Err(RequestFault::Http(cut_fault(outgoing)))),
-            Arrival::TooLong(fault) => Arrived::Reply(Err(RequestFault::Http(fault))),
-            Arrival::NoRanges => Arrived::NoRanges,
-        }
-    }
-
     // Parses the reply to the last request.
     fn parse_reply(&self, method: Method, outgoing: &OutgoingRequest) -> Result<Got, RequestFault> {
         match read_reply(self.rt.alloc(), &mut RecordedReply::new(outgoing), method) {
             Ok(got) => Ok(got),
             Err(fault) => Err(RequestFault::Http(fault)),
         }
-    }
-}
-
-// Returns why a reply ended before it was complete.
-fn cut_fault(outgoing: &OutgoingRequest) -> HttpFault {
-    match outgoing.fault() {
-        Some(_) => HttpFault::Read,
-        None => HttpFault::Short,
     }
 }
 
@@ -662,13 +602,8 @@ fn take_part<K: Keep>(
     }
     match node.take_part(&found, lines) {
         Ok(is_new) => {
-            outgoing.discard(part.to);
-            running.exchange.pass(part, is_new);
-            if is_done(node) {
-                Step::Send
-            } else {
-                Step::Again
-            }
+            let step = running.exchange.pass(outgoing, part, is_new);
+            if is_done(node) { Step::Send } else { step }
         }
         Err(stop) => Step::End(FetchEnd::Stopped(stop)),
     }
