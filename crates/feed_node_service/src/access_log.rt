@@ -2,11 +2,13 @@
 use crate::node_log::NodeLog;
 use crate::node_state::NodeState;
 use crate::today::unix_seconds;
+use feed_http_heads::FIELD_LIMIT;
 use feed_monitoring::{Exchange, LogPolicy, put_exchange};
 use feed_node_connection::{Connection, ReplySummary};
 use feed_node_server::{CloseCause, Log, is_local};
 use feed_options::LogOptions;
 use feed_resolver_request::ReceivedRequest;
+use httparse::spans::EMPTY_HEADER_SPAN;
 use std::io::Write;
 use std::net::{IpAddr, SocketAddr};
 
@@ -162,7 +164,8 @@ impl<'o, W: Write, F: Write> Log for AccessLog<'o, W, F> {
         match connection.summary() {
             Some(summary) => self.put_reply(addr, connection, summary, micros),
             None => {
-                let held = connection.held_request();
+                let mut headers = [EMPTY_HEADER_SPAN; FIELD_LIMIT];
+                let held = connection.held_request(&mut headers);
                 if cause == CloseCause::TimedOut && !held.bytes.is_empty() {
                     self.put_timeout(addr, held);
                 }
