@@ -1,4 +1,5 @@
 pub mod Exchanges
+pub mod HeldBytes
 pub mod Found
 pub mod Unavailable
 pub mod States

@@ -10,7 +10,6 @@ use Rattle.std.proofs.lemmas.List.{take_all, drop_all, drop-drop, take-append-le
 use Rattle.httparse.specs.Grammar.{RequestHead, print_request}
 use Rattle.feed_http_heads.specs.Limits.{head_limit, field_limit}
 use Rattle.feed_http_heads.specs.RequestHeads.{BeginsWithHead, IsUnfinished, NeverBeginsWithHead}
-use Rattle.feed_http_heads.proofs.RequestReading as reading
 use Rattle.feed_node_connection.specs.declared.connection.Connection.{Connection}
 use Rattle.feed_node_connection.specs.declared.connection.Phase.{Phase}
 use Rattle.feed_node_connection.specs.declared.connection.Phase.TheVariants.{Idle, Receiving, Parsing, Sending, Answered, Lingering, Complete, Aborted}
@@ -34,10 +33,6 @@ use Rattle.feed_node_connection.proofs.Exchanges.{exchanges, exchanges_asked, ex
 -- the phase is right for this history
 abbrev pub HasPhase : Connection → List Event → Type 0
 HasPhase connection history = HasStateIn connection.phase connection history
-
--- no bytes may become a head
-pub nothing_yet : IsUnfinished head_limit []
-nothing_yet = record { short = omega arith; not_whole = reading.nothing_yet.not_whole; may_become = reading.nothing_yet.may_become }
 
 -- ---- bytes are received
 
@@ -66,11 +61,11 @@ first_of history rest served = (rest, served.in_order, served.expected)
 
 -- the bytes are held after those before
 pub received_whole : (idle : Bool) (old new : Connection) (history : List Event) (bytes : List ℕ) → IsCurrent idle old history
-    → new.phase ≡ Parsing → new.received.items ≡ old.received.items ++ bytes → new.is_continued ≡ old.is_continued → new.sent_since ≡ old.sent_since → new.limits ≡ old.limits
+    → new.phase ≡ Parsing → new.received.bytes.items ≡ old.received.bytes.items ++ bytes → new.is_continued ≡ old.is_continued → new.sent_since ≡ old.sent_since → new.limits ≡ old.limits
     → 0 < new.limits.step → new.elapsed ≡ cond idle 0 old.elapsed → HasPhase new (Received bytes ∷ history)
 received_whole idle old new history bytes was parsing held continued since limits some counted =
     subst (λ (p : Phase). HasStateIn p new (Received bytes ∷ history)) (sym parsing) (record {
-      served = subst (IsServedUpTo (Received bytes ∷ history)) (sym held) (served_on history bytes old.received.items was.served);
+      served = subst (IsServedUpTo (Received bytes ∷ history)) (sym held) (served_on history bytes old.received.bytes.items was.served);
       knows = rw continued was.knows;
       sent = was.sent;
       in_time = time idle was counted;
@@ -95,7 +90,7 @@ pub received_aborted : (idle : Bool) (old new : Connection) (history : List Even
     → new.phase ≡ Aborted → HasPhase new (Received bytes ∷ history)
 received_aborted idle old new history bytes was aborted =
     subst (λ (p : Phase). HasStateIn p new (Received bytes ∷ history)) (sym aborted)
-    (first_on history bytes (first_of history old.received.items was.served), ([], was.sent ∙ sym (append-nil (sent_bytes history))))
+    (first_on history bytes (first_of history old.received.bytes.items was.served), ([], was.sent ∙ sym (append-nil (sent_bytes history))))
 
 -- the bytes are dropped
 pub received_late : (connection : Connection) (history : List Event) (bytes : List ℕ) → connection.phase ≡ Lingering
@@ -149,7 +144,7 @@ done Linger new history is sent freed time = record { complete = record { ended 
 
 -- the request whose reply is sent remains the same
 pub knows_still : (old new : Connection) (history later : List Event) → requests_in later ≡ requests_in history → new.request_len ≡ old.request_len
-    → new.received.items ≡ old.received.items → KnowsRequest old history → KnowsRequest new later
+    → new.received.bytes.items ≡ old.received.bytes.items → KnowsRequest old history → KnowsRequest new later
 knows_still old new history later same size held (inl none) = inl (size ∙ none)
 knows_still old new history later same size held (inr is) = inr (rw (same, size, held) is)
 
@@ -160,13 +155,13 @@ knows_more size held more bytes requests inside same (inl none) = inl none
 knows_more size held more bytes requests inside same (inr is) = inr (rw (same, take-append-le size held bytes inside) is)
 
 -- it is the one at the front
-knows_new : (reply : List ℕ) (size : ℕ) (after : AfterReply) (request : Request) (old new : Connection) (history : List Event) → text_of request ≡ take size old.received.items
+knows_new : (reply : List ℕ) (size : ℕ) (after : AfterReply) (request : Request) (old new : Connection) (history : List Event) → text_of request ≡ take size old.received.bytes.items
     → HasBegunReply reply size after old new → KnowsRequest new (Replied request reply ∷ history)
 knows_new reply size after request old new history text has = inr (requests_in history, request, refl, rw (has.request_len, has.received) text)
 
 -- a reply begins
 begun : (reply : List ℕ) (size : ℕ) (after : AfterReply) (request : Request) (old new : Connection) (history : List Event) → IsCurrent false old history → new.limits ≡ old.limits
-    → text_of request ≡ take size old.received.items → HasBegunReply reply size after old new → IsAfterReply after new (Replied request reply ∷ history)
+    → text_of request ≡ take size old.received.bytes.items → HasBegunReply reply size after old new → IsAfterReply after new (Replied request reply ∷ history)
     → HasState new (Replied request reply ∷ history)
 begun [] size after request old new history was limits text has is = (
   subst (λ (p : Phase). HasStateIn p new (Replied request [] ∷ history)) (sym has.phase)
@@ -191,7 +186,7 @@ begun (byte ∷ bytes) size after request old new history was limits text has is
 -- memory ran out
 cut : (old new : Connection) (history : List Event) → IsCurrent false old history → HasState old history → HasAborted old new → HasState new history
 cut old new history was state is = (
-  subst (λ (p : Phase). HasStateIn p new history) (sym is.0) (first_of history old.received.items was.served, ([], was.sent ∙ sym (append-nil (sent_bytes history)))),
+  subst (λ (p : Phase). HasStateIn p new history) (sym is.0) (first_of history old.received.bytes.items was.served, ([], was.sent ∙ sym (append-nil (sent_bytes history)))),
   is.1 ∙ state.1,
   knows_still old new history history refl is.2 is.3 state.2,
 )
@@ -211,42 +206,42 @@ interim_none bytes text never (inr is) = absurd (never [] is.1.0 (begins_on byte
 
 -- what follows a request
 persists_after : (old new : Connection) (history : List Event) (reply : List ℕ) (head_len body_len : ℕ) (head : RequestHead) → IsCurrent false old history
-    → BeginsWithHead head_limit field_limit old.received.items head → head_len ≡ length (print_request head)
-    → persists head (length (body_after head_len body_len old.received.items)) ≡ true → HasBegunReply reply (head_len + body_len) Persist old new
-    → IsAfterReply Persist new (Replied (Persistent head (body_after head_len body_len old.received.items)) reply ∷ history)
+    → BeginsWithHead head_limit field_limit old.received.bytes.items head → head_len ≡ length (print_request head)
+    → persists head (length (body_after head_len body_len old.received.bytes.items)) ≡ true → HasBegunReply reply (head_len + body_len) Persist old new
+    → IsAfterReply Persist new (Replied (Persistent head (body_after head_len body_len old.received.bytes.items)) reply ∷ history)
 persists_after old new history reply head_len body_len head was begins is keeps has = (
   record {
-    in_order = requests_with (requests_in history) (received_bytes history) old.received.items (Persistent head (body_after head_len body_len old.received.items)) (rest_of new)
-        was.served.persists was.served.in_order (whole_begins old.received.items head head_len body_len begins is, keeps, sym (rw (has.request_len, has.received) refl));
-    persists = all_persist_with (requests_in history) head (body_after head_len body_len old.received.items) was.served.persists;
-    expected = ((interim_head old.received.items (interim history) head begins was.served.expected.1, was.served.expected.0), inl refl);
+    in_order = requests_with (requests_in history) (received_bytes history) old.received.bytes.items (Persistent head (body_after head_len body_len old.received.bytes.items)) (rest_of new)
+        was.served.persists was.served.in_order (whole_begins old.received.bytes.items head head_len body_len begins is, keeps, sym (rw (has.request_len, has.received) refl));
+    persists = all_persist_with (requests_in history) head (body_after head_len body_len old.received.bytes.items) was.served.persists;
+    expected = ((interim_head old.received.bytes.items (interim history) head begins was.served.expected.1, was.served.expected.0), inl refl);
   },
   refl,
 )
 
 ends_after : (old : Connection) (history : List Event) (reply : List ℕ) (head_len body_len : ℕ) (head : RequestHead) → IsCurrent false old history
-    → BeginsWithHead head_limit field_limit old.received.items head → head_len ≡ length (print_request head)
-    → HasEnded (Replied (Last head (body_after head_len body_len old.received.items)) reply ∷ history)
+    → BeginsWithHead head_limit field_limit old.received.bytes.items head → head_len ≡ length (print_request head)
+    → HasEnded (Replied (Last head (body_after head_len body_len old.received.bytes.items)) reply ∷ history)
 ends_after old history reply head_len body_len head was begins is = (
   (
     [],
-    requests_with (requests_in history) (received_bytes history) old.received.items (Last head (body_after head_len body_len old.received.items)) [] was.served.persists
-        was.served.in_order (whole_begins old.received.items head head_len body_len begins is, refl),
-    ((interim_head old.received.items (interim history) head begins was.served.expected.1, was.served.expected.0), inl refl),
+    requests_with (requests_in history) (received_bytes history) old.received.bytes.items (Last head (body_after head_len body_len old.received.bytes.items)) [] was.served.persists
+        was.served.in_order (whole_begins old.received.bytes.items head head_len body_len begins is, refl),
+    ((interim_head old.received.bytes.items (interim history) head begins was.served.expected.1, was.served.expected.0), inl refl),
   ),
-  ends_with (requests_in history) head (body_after head_len body_len old.received.items),
+  ends_with (requests_in history) head (body_after head_len body_len old.received.bytes.items),
 )
 
-invalid_after : (old : Connection) (history : List Event) (reply : List ℕ) → IsCurrent false old history → NeverBeginsWithHead head_limit field_limit old.received.items
-    → HasEnded (Replied (Invalid old.received.items) reply ∷ history)
+invalid_after : (old : Connection) (history : List Event) (reply : List ℕ) → IsCurrent false old history → NeverBeginsWithHead head_limit field_limit old.received.bytes.items
+    → HasEnded (Replied (Invalid old.received.bytes.items) reply ∷ history)
 invalid_after old history reply was never = (
   (
     [],
-    requests_with (requests_in history) (received_bytes history) old.received.items (Invalid old.received.items) [] was.served.persists was.served.in_order
-        (sym (append-nil old.received.items), never, refl),
-    ((interim_none old.received.items (interim history) never was.served.expected.1, was.served.expected.0), inl refl),
+    requests_with (requests_in history) (received_bytes history) old.received.bytes.items (Invalid old.received.bytes.items) [] was.served.persists was.served.in_order
+        (sym (append-nil old.received.bytes.items), never, refl),
+    ((interim_none old.received.bytes.items (interim history) never was.served.expected.1, was.served.expected.0), inl refl),
   ),
-  ends_with_none (requests_in history) old.received.items,
+  ends_with_none (requests_in history) old.received.bytes.items,
 )
 
 -- the bytes of a persistent head allow its reply to say so
@@ -272,65 +267,65 @@ allowed_head wanted bytes found is within keeps =
 
 -- the reply to a head
 pub replied_head : (replies : Replies) (found : FoundRequest) (old new : Connection) (history : List Event) → old.phase ≡ Parsing → HasState old history → new.limits ≡ old.limits
-    → IsFoundIn replies.0 old.received.items found → found.head_len + found.body_len ≤ length old.received.items
+    → IsFoundIn replies.0 old.received.bytes.items found → found.head_len + found.body_len ≤ length old.received.bytes.items
     → HasResponded replies found.head_len found.body_len found.persists old new → HasParsed replies true new history
 replied_head replies found old new history parsing state limits is within responded =
     by found.persists refl (subst (λ (p : Phase). HasStateIn p old history) parsing state.0) responded
   where
     bytes : List ℕ
-    bytes = old.received.items
+    bytes = old.received.bytes.items
 
     body : List ℕ
-    body = body_after found.head_len found.body_len old.received.items
+    body = body_after found.head_len found.body_len old.received.bytes.items
 
-    taken : take found.head_len old.received.items ≡ print_request is.head
-    taken = head_taken old.received.items is.head found.head_len is.begins is.found.head_len_is
+    taken : take found.head_len old.received.bytes.items ≡ print_request is.head
+    taken = head_taken old.received.bytes.items is.head found.head_len is.begins is.found.head_len_is
 
-    whole : print_request is.head ++ body_after found.head_len found.body_len old.received.items ≡ take (found.head_len + found.body_len) old.received.items
-    whole = ap (λ t. t ++ body_after found.head_len found.body_len old.received.items) (sym taken) ∙ sym (take-add found.head_len found.body_len old.received.items)
+    whole : print_request is.head ++ body_after found.head_len found.body_len old.received.bytes.items ≡ take (found.head_len + found.body_len) old.received.bytes.items
+    whole = ap (λ t. t ++ body_after found.head_len found.body_len old.received.bytes.items) (sym taken) ∙ sym (take-add found.head_len found.body_len old.received.bytes.items)
 
-    long : length (body_after found.head_len found.body_len old.received.items) ≡ found.body_len
-    long = length-take-le found.body_len (drop found.head_len old.received.items) (omega (arith, within, length-drop found.head_len old.received.items))
+    long : length (body_after found.head_len found.body_len old.received.bytes.items) ≡ found.body_len
+    long = length-take-le found.body_len (drop found.head_len old.received.bytes.items) (omega (arith, within, length-drop found.head_len old.received.bytes.items))
 
-    wanted : length (body_after found.head_len found.body_len old.received.items) ≡ body_len_of (replies.0 is.head) is.head
+    wanted : length (body_after found.head_len found.body_len old.received.bytes.items) ≡ body_len_of (replies.0 is.head) is.head
     wanted = long ∙ is.found.body_is
 
-    keeps : (p : Bool) → found.persists ≡ p → persists is.head (length (body_after found.head_len found.body_len old.received.items)) ≡ p
+    keeps : (p : Bool) → found.persists ≡ p → persists is.head (length (body_after found.head_len found.body_len old.received.bytes.items)) ≡ p
     keeps p same = ap (persists is.head) long ∙ sym is.found.persists_is ∙ same
 
-    text : (p : Bool) (reply : List ℕ) → replies.1 (take found.head_len old.received.items) (body_after found.head_len found.body_len old.received.items) p (Some reply)
-        → replies.1 (print_request is.head) (body_after found.head_len found.body_len old.received.items) p (Some reply)
-    text p reply has = subst (λ (t : List ℕ). replies.1 t (body_after found.head_len found.body_len old.received.items) p (Some reply)) taken has
+    text : (p : Bool) (reply : List ℕ) → replies.1 (take found.head_len old.received.bytes.items) (body_after found.head_len found.body_len old.received.bytes.items) p (Some reply)
+        → replies.1 (print_request is.head) (body_after found.head_len found.body_len old.received.bytes.items) p (Some reply)
+    text p reply has = subst (λ (t : List ℕ). replies.1 t (body_after found.head_len found.body_len old.received.bytes.items) p (Some reply)) taken has
 
     by : (p : Bool) → found.persists ≡ p → IsCurrent false old history → HasResponded replies found.head_len found.body_len p old new → HasReplied replies new history
     by true same was (inl (reply, has, says, begins)) = inl (
-      Persistent is.head (body_after found.head_len found.body_len old.received.items),
+      Persistent is.head (body_after found.head_len found.body_len old.received.bytes.items),
       reply,
       record { wanted = wanted; reply_of = text true reply has; says = says },
-      begun reply (found.head_len + found.body_len) Persist (Persistent is.head (body_after found.head_len found.body_len old.received.items)) old new history was limits whole begins
+      begun reply (found.head_len + found.body_len) Persist (Persistent is.head (body_after found.head_len found.body_len old.received.bytes.items)) old new history was limits whole begins
           (persists_after old new history reply found.head_len found.body_len is.head was is.begins is.found.head_len_is (keeps true same) begins),
     )
     by false same was (inl (reply, has, says, begins)) = inl (
-      Last is.head (body_after found.head_len found.body_len old.received.items),
+      Last is.head (body_after found.head_len found.body_len old.received.bytes.items),
       reply,
       record { wanted = wanted; reply_of = inl (keeps false same, text false reply has); says = says },
-      begun reply (found.head_len + found.body_len) Linger (Last is.head (body_after found.head_len found.body_len old.received.items)) old new history was limits whole begins
+      begun reply (found.head_len + found.body_len) Linger (Last is.head (body_after found.head_len found.body_len old.received.bytes.items)) old new history was limits whole begins
           (ends_after old history reply found.head_len found.body_len is.head was is.begins is.found.head_len_is),
     )
     by p same was (inr (none, inl begins)) = inl (
-      Last is.head (body_after found.head_len found.body_len old.received.items),
+      Last is.head (body_after found.head_len found.body_len old.received.bytes.items),
       unavailable,
       record {
         wanted = wanted;
-        reply_of = inr (subst (λ (t : List ℕ). HasNoReply replies t (body_after found.head_len found.body_len old.received.items)) taken none, refl);
+        reply_of = inr (subst (λ (t : List ℕ). HasNoReply replies t (body_after found.head_len found.body_len old.received.bytes.items)) taken none, refl);
         says = unavailable_says;
       },
-      begun unavailable (found.head_len + found.body_len) Linger (Last is.head (body_after found.head_len found.body_len old.received.items)) old new history was limits whole begins
+      begun unavailable (found.head_len + found.body_len) Linger (Last is.head (body_after found.head_len found.body_len old.received.bytes.items)) old new history was limits whole begins
           (ends_after old history unavailable found.head_len found.body_len is.head was is.begins is.found.head_len_is),
     )
     by p same was (inr (none, inr aborted)) = inr (
-      take found.head_len old.received.items,
-      body_after found.head_len found.body_len old.received.items,
+      take found.head_len old.received.bytes.items,
+      body_after found.head_len found.body_len old.received.bytes.items,
       none,
       aborted.0,
       cut old new history was state aborted,
@@ -338,51 +333,51 @@ replied_head replies found old new history parsing state limits is within respon
 
 -- the reply to bytes that are not a request
 pub replied_invalid : (replies : Replies) (old new : Connection) (history : List Event) (size : ℕ) → old.phase ≡ Parsing → HasState old history → new.limits ≡ old.limits
-    → size ≡ length old.received.items → NeverBeginsWithHead head_limit field_limit old.received.items → HasResponded replies size 0 false old new → HasParsed replies true new history
+    → size ≡ length old.received.bytes.items → NeverBeginsWithHead head_limit field_limit old.received.bytes.items → HasResponded replies size 0 false old new → HasParsed replies true new history
 replied_invalid replies old new history size parsing state limits is never responded =
     by (subst (λ (p : Phase). HasStateIn p old history) parsing state.0) responded
   where
-    all : take size old.received.items ≡ old.received.items
-    all = take_all size old.received.items (omega (arith, is))
+    all : take size old.received.bytes.items ≡ old.received.bytes.items
+    all = take_all size old.received.bytes.items (omega (arith, is))
 
-    front : old.received.items ≡ take (size + 0) old.received.items
-    front = sym (take_all (size + 0) old.received.items (omega (arith, is)))
+    front : old.received.bytes.items ≡ take (size + 0) old.received.bytes.items
+    front = sym (take_all (size + 0) old.received.bytes.items (omega (arith, is)))
 
     no_bytes : (xs : List ℕ) → take 0 xs ≡ []
     no_bytes [] = refl
     no_bytes (x ∷ xs) = refl
 
-    none_after : body_after size 0 old.received.items ≡ []
-    none_after = no_bytes (drop size old.received.items)
+    none_after : body_after size 0 old.received.bytes.items ≡ []
+    none_after = no_bytes (drop size old.received.bytes.items)
 
-    no_reply : HasNoReply replies (take size old.received.items) (body_after size 0 old.received.items) → HasNoReply replies old.received.items []
+    no_reply : HasNoReply replies (take size old.received.bytes.items) (body_after size 0 old.received.bytes.items) → HasNoReply replies old.received.bytes.items []
     no_reply none = (
       none.0,
       subst (λ (t : List ℕ). replies.1 t [] none.0 None) all
-          (subst (λ (t : List ℕ). replies.1 (take size old.received.items) t none.0 None) none_after none.1),
+          (subst (λ (t : List ℕ). replies.1 (take size old.received.bytes.items) t none.0 None) none_after none.1),
     )
 
     by : IsCurrent false old history → HasResponded replies size 0 false old new → HasReplied replies new history
     by was (inl (reply, has, says, begins)) = inl (
-      Invalid old.received.items,
+      Invalid old.received.bytes.items,
       reply,
       record {
         wanted = tt;
         reply_of = inl (subst (λ (t : List ℕ). replies.1 t [] false (Some reply)) all
-            (subst (λ (t : List ℕ). replies.1 (take size old.received.items) t false (Some reply)) none_after has));
+            (subst (λ (t : List ℕ). replies.1 (take size old.received.bytes.items) t false (Some reply)) none_after has));
         says = says;
       },
-      begun reply (size + 0) Linger (Invalid old.received.items) old new history was limits front begins (invalid_after old history reply was never),
+      begun reply (size + 0) Linger (Invalid old.received.bytes.items) old new history was limits front begins (invalid_after old history reply was never),
     )
     by was (inr (none, inl begins)) = inl (
-      Invalid old.received.items,
+      Invalid old.received.bytes.items,
       unavailable,
       record { wanted = tt; reply_of = inr (no_reply none, refl); says = unavailable_says },
-      begun unavailable (size + 0) Linger (Invalid old.received.items) old new history was limits front begins (invalid_after old history unavailable was never),
+      begun unavailable (size + 0) Linger (Invalid old.received.bytes.items) old new history was limits front begins (invalid_after old history unavailable was never),
     )
     by was (inr (none, inr aborted)) = inr (
-      take size old.received.items,
-      body_after size 0 old.received.items,
+      take size old.received.bytes.items,
+      body_after size 0 old.received.bytes.items,
       none,
       aborted.0,
       cut old new history was state aborted,
@@ -404,9 +399,20 @@ still old new history was limits same = record {
   };
 }
 
+-- and so it does as the head is found in the bytes held
+pub parsed_still : (old new : Connection) (history : List Event) → old.phase ≡ Parsing → new.received.bytes.items ≡ old.received.bytes.items → new.phase ≡ old.phase
+    → new.limits ≡ old.limits → new.is_continued ≡ old.is_continued → new.sent_len ≡ old.sent_len → new.sent_since ≡ old.sent_since → new.elapsed ≡ old.elapsed
+    → new.request_len ≡ old.request_len → HasState old history → HasState new history
+parsed_still old new history parsing held phase limits continued counted since anew size state = (
+  subst (λ (p : Phase). HasStateIn p new history) (sym (phase ∙ parsing)) (still old new history (subst (λ (p : Phase). HasStateIn p old history) parsing state.0) limits
+      (record { received = held; is_continued = continued; sent_len = counted; sent_since = since; elapsed = anew; request_len = size })),
+  counted ∙ state.1,
+  knows_still old new history history refl size held state.2,
+)
+
 -- the head is not whole
 pub unfinished : (old new : Connection) (history : List Event) → old.phase ≡ Parsing → HasState old history → new.limits ≡ old.limits → new.phase ≡ Receiving
-    → IsSameButPhase old new → IsUnfinished head_limit old.received.items → HasWaited new history
+    → IsSameButPhase old new → IsUnfinished head_limit old.received.bytes.items → HasWaited new history
 unfinished old new history parsing state limits phase same is = inl (
   phase,
   (
@@ -439,7 +445,7 @@ stated_is wanted size head is some = by (cases_Bool (states_len head wanted))
 
 -- the bytes held do not have the body
 pub waited : (wanted : RequestHead → ℕ) (found : FoundRequest) (old new : Connection) (history : List Event) → old.phase ≡ Parsing → HasState old history → new.limits ≡ old.limits
-    → IsFoundIn wanted old.received.items found → length old.received.items < found.head_len + found.body_len
+    → IsFoundIn wanted old.received.bytes.items found → length old.received.bytes.items < found.head_len + found.body_len
     → HasBegunWait (found.expects_continue && not old.is_continued) old new → HasWaited new history
 waited wanted found old new history parsing state limits is missing waits =
     by (found.expects_continue && not old.is_continued) refl (subst (λ (p : Phase). HasStateIn p old history) parsing state.0) waits
@@ -625,13 +631,13 @@ counted_sent Sending old history count some within state =
 
 -- ---- the connection resumes
 
-pub resumed : (old new : Connection) (history : List Event) → old.phase ≡ Answered → HasPhase old history → new.received.items ≡ rest_of old → new.is_continued ≡ false
-    → new.elapsed ≡ 0 → new.sent_since ≡ 0 → 0 < new.limits.step → 0 < new.limits.idle → (idle : Bool) → idle ≡ (vec_len new.received == 0)
+pub resumed : (old new : Connection) (history : List Event) → old.phase ≡ Answered → HasPhase old history → new.received.bytes.items ≡ rest_of old → new.is_continued ≡ false
+    → new.elapsed ≡ 0 → new.sent_since ≡ 0 → 0 < new.limits.step → 0 < new.limits.idle → (idle : Bool) → idle ≡ (vec_len new.received.bytes == 0)
     → new.phase ≡ cond idle Idle Parsing → HasPhase new (Resumed (length (rest_of old) == 0) ∷ history)
 resumed old new history answered state held continued anew since step_some idle_some idle is phase =
     by idle (is ∙ ap (λ n. n == 0) (long ∙ ap length held)) phase
   where
-    long : vec_len new.received ≡ length new.received.items
+    long : vec_len new.received.bytes ≡ length new.received.bytes.items
     long = (cc)
 
     was : HasStateIn Answered old history
@@ -659,12 +665,12 @@ resumed old new history answered state held continued anew since step_some idle_
 first_after : (after : AfterReply) (connection : Connection) (history : List Event) → IsAfterReply after connection history → AreFirst history
 first_after Persist connection history is = first_of history (rest_of connection) is.0
 first_after Linger connection history is = is.0
-first_after Receive connection history is = first_of history connection.received.items is.0
+first_after Receive connection history is = first_of history connection.received.bytes.items is.0
 
 pub first_in : (phase : Phase) (connection : Connection) (history : List Event) → HasStateIn phase connection history → AreFirst history
-first_in Idle connection history state = first_of history connection.received.items state.current.served
-first_in Receiving connection history state = first_of history connection.received.items state.current.served
-first_in Parsing connection history state = first_of history connection.received.items state.served
+first_in Idle connection history state = first_of history connection.received.bytes.items state.current.served
+first_in Receiving connection history state = first_of history connection.received.bytes.items state.current.served
+first_in Parsing connection history state = first_of history connection.received.bytes.items state.served
 first_in Sending connection history state = first_after connection.after connection history state.after
 first_in Answered connection history state = first_of history (rest_of connection) state.served
 first_in Lingering connection history state = state.complete.ended.0
@@ -740,7 +746,7 @@ ends_in phase connection history state (inl is) = absurd (cc)
 ends_in phase connection history state (inr is) = absurd (cc)
 
 waits_in : (phase : Phase) (connection : Connection) (history : List Event) → HasStateIn phase connection history → phase ≡ Receiving
-    → AreSent history × IsServedUpTo history connection.received.items × IsIncomplete connection.is_continued connection.received.items
+    → AreSent history × IsServedUpTo history connection.received.bytes.items × IsIncomplete connection.is_continued connection.received.bytes.items
 waits_in Receiving connection history state is = (state.current.sent, state.current.served, state.incomplete)
 waits_in phase connection history state is = absurd (cc)
 
@@ -750,7 +756,7 @@ idles_in phase connection history state is = absurd (cc)
 
 reads_in : (phase : Phase) (connection : Connection) (history : List Event) → HasStateIn phase connection history → wants_in phase ≡ wants.Bytes → 0 < room_in phase connection
 reads_in Idle connection history state is = omega (arith, ap length state.none)
-reads_in Receiving connection history state is = has_room connection.is_continued connection.received.items state.incomplete
+reads_in Receiving connection history state is = has_room connection.is_continued connection.received.bytes.items state.incomplete
 reads_in Lingering connection history state is = omega arith
 reads_in phase connection history state is = absurd (cc)
 

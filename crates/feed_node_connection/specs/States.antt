@@ -69,7 +69,7 @@ pub record IsInTime (idle : Bool) (connection : Connection) (history : List Even
 
 -- the bytes held after the request with the current reply
 abbrev pub rest_of : Connection → List ℕ
-rest_of connection = drop connection.request_len connection.received.items
+rest_of connection = drop connection.request_len connection.received.bytes.items
 
 -- the connection knows whether it made the interim reply
 abbrev pub KnowsInterim : Connection → List Event → Type 0
@@ -77,7 +77,7 @@ KnowsInterim connection history = interim history ≡ (if connection.is_continue
 
 -- each request before the bytes held has its reply, and the replies were sent
 pub record IsCurrent (idle : Bool) (connection : Connection) (history : List Event) : Type 0 where
-  pub served : IsServedUpTo history connection.received.items
+  pub served : IsServedUpTo history connection.received.bytes.items
   pub knows : KnowsInterim connection history
   pub sent : AreSent history
   pub in_time : IsInTime idle connection history
@@ -85,7 +85,7 @@ pub record IsCurrent (idle : Bool) (connection : Connection) (history : List Eve
 -- no byte of the next request was received
 pub record IsIdle (connection : Connection) (history : List Event) : Type 0 where
   pub current : IsCurrent true connection history
-  pub none : connection.received.items ≡ []
+  pub none : connection.received.bytes.items ≡ []
 
 -- the bytes begin with a head, and the body that it states is not whole; a client that expects an interim reply had it
 pub record IsPartial (is_continued : Bool) (bytes : List ℕ) : Type 0 where
@@ -104,13 +104,13 @@ IsIncomplete is_continued bytes = IsUnfinished head_limit bytes ⊎ IsPartial is
 -- the bytes held are not a whole request, and may become one
 pub record IsReceiving (connection : Connection) (history : List Event) : Type 0 where
   pub current : IsCurrent false connection history
-  pub incomplete : IsIncomplete connection.is_continued connection.received.items
+  pub incomplete : IsIncomplete connection.is_continued connection.received.bytes.items
 
 -- what follows the request with the current reply
 abbrev pub IsAfterReply : AfterReply → Connection → List Event → Type 0
 IsAfterReply Persist connection history = IsServedUpTo history (rest_of connection) × (interim history ≡ [])
 IsAfterReply Linger connection history = HasEnded history
-IsAfterReply Receive connection history = IsServedUpTo history connection.received.items × KnowsInterim connection history
+IsAfterReply Receive connection history = IsServedUpTo history connection.received.bytes.items × KnowsInterim connection history
 
 -- a part of the last reply remains to be sent
 pub record IsSending (connection : Connection) (history : List Event) : Type 0 where
@@ -152,7 +152,7 @@ HasStateIn Aborted connection history = AreFirst history × IsFrontSent history
 
 -- the bytes of the request whose reply is sent
 abbrev pub request_of : Connection → List ℕ
-request_of connection = take connection.request_len connection.received.items
+request_of connection = take connection.request_len connection.received.bytes.items
 
 -- if there is a request whose reply is sent, it is the last one with a reply
 abbrev pub KnowsRequest : Connection → List Event → Type 0
@@ -199,7 +199,7 @@ pub record HasBegunReply (reply : List ℕ) (size : ℕ) (after : AfterReply) (o
   pub sent_len : new.sent_len ≡ 0
   pub request_len : new.request_len ≡ size
   pub after_is : new.after ≡ after
-  pub received : new.received.items ≡ old.received.items
+  pub received : new.received.bytes.items ≡ old.received.bytes.items
   pub phase : new.phase ≡ first_phase reply after
   pub sent_since : new.sent_since ≡ 0
   pub elapsed : new.elapsed ≡ 0
@@ -210,7 +210,7 @@ pub record HasBegunInterim (old new : Connection) : Type 0 where
   pub sent : new.sent ≡ 0
   pub sent_len : new.sent_len ≡ 0
   pub after_is : new.after ≡ Receive
-  pub received : new.received.items ≡ old.received.items
+  pub received : new.received.bytes.items ≡ old.received.bytes.items
   pub phase : new.phase ≡ Sending
   pub is_continued : new.is_continued ≡ true
   pub sent_since : new.sent_since ≡ old.sent_since
@@ -221,7 +221,7 @@ pub record HasBegunInterim (old new : Connection) : Type 0 where
 abbrev pub HasAborted : Connection → Connection → Type 0
 HasAborted old new =
     (new.phase ≡ Aborted) × (new.sent_len ≡ old.sent_len) × (new.request_len ≡ old.request_len)
-    × (new.received.items ≡ old.received.items)
+    × (new.received.bytes.items ≡ old.received.bytes.items)
 
 -- the responder made no reply to the first bytes: the connection says so, or memory ran out for that too
 abbrev pub HasRefused : ℕ → Connection → Connection → Type 0
@@ -229,7 +229,7 @@ HasRefused size old new = HasBegunReply unavailable size Linger old new ⊎ HasA
 
 -- what a wait leaves as it is
 pub record IsSameButPhase (old new : Connection) : Type 0 where
-  pub received : new.received.items ≡ old.received.items
+  pub received : new.received.bytes.items ≡ old.received.bytes.items
   pub is_continued : new.is_continued ≡ old.is_continued
   pub sent_len : new.sent_len ≡ old.sent_len
   pub sent_since : new.sent_since ≡ old.sent_since
@@ -250,9 +250,9 @@ body_after head_len body_len bytes = take body_len (drop head_len bytes)
 abbrev pub HasResponded : Replies → ℕ → ℕ → Bool → Connection → Connection → Type 0
 HasResponded replies head_len body_len persists old new =
     ((reply : List ℕ)
-    × replies.1 (take head_len old.received.items) (body_after head_len body_len old.received.items) persists (Some reply)
+    × replies.1 (take head_len old.received.bytes.items) (body_after head_len body_len old.received.bytes.items) persists (Some reply)
     × SaysWhetherItKeeps persists reply × HasBegunReply reply (head_len + body_len) (after_reply persists) old new)
-    ⊎ (HasNoReply replies (take head_len old.received.items) (body_after head_len body_len old.received.items)
+    ⊎ (HasNoReply replies (take head_len old.received.bytes.items) (body_after head_len body_len old.received.bytes.items)
     × HasRefused (head_len + body_len) old new)
 
 -- the most bytes that are held: a head and a body
@@ -261,8 +261,8 @@ request_limit = head_limit + body_limit
 
 -- the number of bytes that may be received at once
 abbrev pub room_in : Phase → Connection → ℕ
-room_in Idle connection = request_limit - length connection.received.items
-room_in Receiving connection = request_limit - length connection.received.items
+room_in Idle connection = request_limit - length connection.received.bytes.items
+room_in Receiving connection = request_limit - length connection.received.bytes.items
 room_in Lingering connection = request_limit
 room_in phase connection = 0
 
@@ -337,8 +337,8 @@ pub record IsRightAfter (connection : Connection) (history : List Event) : Type 
   pub frees : wants_in connection.phase ≢ wants.Room → wants_in connection.phase ≢ wants.Close → allocated_bytes connection ≡ 0
   pub persists : connection.phase ≡ Answered → all_persist (requests_in history) ≡ true
   pub ends : (connection.phase ≡ Lingering) ⊎ (connection.phase ≡ Complete) → all_persist (requests_in history) ≡ false
-  pub waits : connection.phase ≡ Receiving → AreSent history × IsServedUpTo history connection.received.items
-      × IsIncomplete connection.is_continued connection.received.items
+  pub waits : connection.phase ≡ Receiving → AreSent history × IsServedUpTo history connection.received.bytes.items
+      × IsIncomplete connection.is_continued connection.received.bytes.items
   pub idles : connection.phase ≡ Idle → AreSent history × IsServedUpTo history []
   pub reads : wants_in connection.phase ≡ wants.Bytes → 0 < room_of connection
   pub closes : limit_in (is_idle history) connection.limits ≤ elapsed history → wants_in connection.phase ≡ wants.Close

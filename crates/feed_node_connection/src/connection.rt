@@ -3,14 +3,18 @@ ghost use Rattle.std.specs.Prelude.{◌≡◌, ◌≢◌, ◌&&◌, ◌==◌, �
 ghost use Rattle.std.specs.Prelude.{not, true, false};
 ghost use Rattle.std.specs.Prelude.{List, ◌∷◌, [], length, take, drop, vec_len, vec_capacity};
 ghost use Rattle.feed_node_connection.specs.Events.{Event, Received, Sent, Resumed, Elapsed, sent_len};
+ghost use Rattle.feed_node_connection.specs.HeldBytes.{covers};
 ghost use Rattle.feed_node_connection.specs.declared.connection.Phase.TheVariants.{Sending, Aborted};
 
 use crate::head_state::{AfterReply, FoundRequest, HeadState, after_reply, head_state};
+use crate::held_bytes::HeldBytes;
 use crate::respond::{
     BODY_LIMIT, IncomingRequest, Reply, ReplySummary, Respond, RespondFault, interim_reply,
     unavailable,
 };
-use feed_http_heads::HEAD_LIMIT;
+use feed_http_heads::{FIELD_LIMIT, HEAD_LIMIT};
+use feed_resolver_request::ReceivedRequest;
+use httparse::spans::HeaderSpan;
 use std::alloc::Global;
 
 /// The number of bytes of a reply that a peer must accept within the time in which it has to send its head.
@@ -80,7 +84,7 @@ pub enum Phase {
 pub struct Connection {
     phase: Phase,
     /// The bytes after the requests that were answered before. They begin with the request whose reply is sent.
-    received: Vec<u8>,
+    received: HeldBytes,
     /// The length of that request, or 0.
     request_len: usize,
     reply: Vec<u8>,
@@ -96,8 +100,9 @@ pub struct Connection {
     sent_len: usize,
     /// Whether the interim reply to the request at the front was made.
     is_continued: bool,
-    ghost bounded: { vec_len received ≤ 16384 },
-    ghost inside: { request_len ≤ vec_len received },
+    ghost bounded: { vec_len received.bytes ≤ 16384 },
+    ghost inside: { request_len ≤ vec_len received.bytes },
+    ghost parsed: { request_len ≢ 0 → covers received request_len ≡ true },
     ghost within: { sent ≤ vec_len reply },
     ghost slow: { sent_since < 16384 },
     ghost freed: { phase ≢ Sending → phase ≢ Aborted → vec_capacity reply ≡ 0 },
@@ -122,7 +127,7 @@ impl Connection {
     {
         Connection {
             phase: Phase::Receiving,
-            received: Vec::new(alloc),
+            received: HeldBytes::new(alloc),
             request_len: 0,
             reply: Vec::new(alloc),
             sent: 0,
@@ -190,8 +195,8 @@ impl Connection {
         ensures { result ≡ room_of self.now }
     {
         match self.phase {
-            Phase::Idle => REQUEST_LIMIT - self.received.len(),
-            Phase::Receiving => REQUEST_LIMIT - self.received.len(),
+            Phase::Idle => REQUEST_LIMIT - self.received.bytes.len(),
+            Phase::Receiving => REQUEST_LIMIT - self.received.bytes.len(),
             Phase::Lingering => REQUEST_LIMIT,
             _ => 0,
         }
@@ -211,7 +216,7 @@ impl Connection {
         if self.is_idle() {
             self.elapsed = 0;
         }
-        self.phase = match self.received.extend_from_slice(bytes) {
+        self.phase = match self.received.append(bytes) {
             Ok(()) => Phase::Parsing,
             Err(_) => Phase::Aborted,
         };
@@ -225,14 +230,14 @@ impl Connection {
         ensures lingers { self.new.phase ≢ Phase.Complete }
         ensures limits { self.new.limits ≡ self.old.limits }
     {
-        let held = self.received.len();
-        match head_state(&self.received, responder) {
+        match head_state(&mut self.received, responder) {
             HeadState::Incomplete => {
                 self.wait();
                 false
             }
             HeadState::Whole(found) => self.take_request(alloc, responder, found),
             HeadState::Invalid => {
+                let held = self.received.bytes.len();
                 self.respond(alloc, responder, held, 0, false);
                 true
             }
@@ -247,13 +252,14 @@ impl Connection {
         found: FoundRequest,
     ) -> bool
         requires parsing { self.old.phase ≡ Phase.Parsing }
-        requires found { IsFoundIn (R.wanted responder.now) self.old.received.items found }
+        requires found { IsFoundIn (R.wanted responder.now) self.old.received.bytes.items found }
+        requires covers { covers self.old.received found.head_len ≡ true }
         ensures state { (history : List Event) → HasState self.old history
             → HasParsed (R.wanted responder.now, R.replies responder.now) result self.new history }
         ensures lingers { self.new.phase ≢ Phase.Complete }
         ensures limits { self.new.limits ≡ self.old.limits }
     {
-        let after_head = self.received.len() - found.head_len;
+        let after_head = self.received.bytes.len() - found.head_len;
         if after_head < found.body_len {
             self.await_body(alloc, found.expects_continue);
             return false;
@@ -318,18 +324,19 @@ impl Connection {
         body_len: usize,
         persists: bool,
     )
-        requires within { head_len + body_len ≤ vec_len self.old.received }
+        requires within { head_len + body_len ≤ vec_len self.old.received.bytes }
+        requires covers { covers self.old.received head_len ≡ true }
         requires allowed { persists ≡ true
-            → IsPersistent (R.wanted responder.now) (take head_len self.old.received.items)
-            (body_after head_len body_len self.old.received.items) }
+            → IsPersistent (R.wanted responder.now) (take head_len self.old.received.bytes.items)
+            (body_after head_len body_len self.old.received.bytes.items) }
         ensures responded { HasResponded (R.wanted responder.now, R.replies responder.now)
             head_len body_len persists self.old self.new }
         ensures limits { self.new.limits ≡ self.old.limits }
     {
         let size = head_len + body_len;
         let request = IncomingRequest {
-            head: &self.received[..head_len],
-            body: &self.received[head_len..size],
+            received: self.received.front(head_len),
+            body: &self.received.bytes[head_len..size],
             persists,
         };
         match responder.respond(alloc, &request) {
@@ -339,7 +346,8 @@ impl Connection {
     }
 
     fn refuse(&mut self, alloc: Global, size: usize, fault: RespondFault)
-        requires within { size ≤ vec_len self.old.received }
+        requires within { size ≤ vec_len self.old.received.bytes }
+        requires covers { covers self.old.received size ≡ true }
         ensures refused { HasRefused size self.old self.new }
         ensures limits { self.new.limits ≡ self.old.limits }
     {
@@ -350,7 +358,8 @@ impl Connection {
     }
 
     fn begin_reply(&mut self, alloc: Global, reply: Reply, size: usize, after: AfterReply)
-        requires within { size ≤ vec_len self.old.received }
+        requires within { size ≤ vec_len self.old.received.bytes }
+        requires covers { covers self.old.received size ≡ true }
         ensures begun { HasBegunReply reply.bytes.items size after self.old self.new }
         ensures limits { self.new.limits ≡ self.old.limits }
     {
@@ -380,11 +389,16 @@ impl Connection {
         }
     }
 
-    /// Returns the request whose reply is sent: its head and its body, or bytes that are not a head.
-    pub fn request_bytes(&self) -> &[u8]
-        ensures { result.now ≡ request_of self.now }
+    /// Returns the request whose reply is sent: its head and its body, or bytes that are not a head. It is empty if
+    /// there is no reply.
+    pub fn request(&self) -> ReceivedRequest<'_>
+        ensures { result.bytes.now ≡ request_of self.now }
     {
-        &self.received[..self.request_len]
+        if self.request_len == 0 {
+            ReceivedRequest::new(b"", None)
+        } else {
+            self.received.front(self.request_len)
+        }
     }
 
     /// Returns the status of the reply and the length of its body, from when it is made until `resume`.
@@ -492,14 +506,14 @@ impl Connection {
         ensures limits { self.new.limits ≡ self.old.limits }
         ensures allocated { allocated_bytes self.new ≡ allocated_bytes self.old }
     {
-        self.received.drain(..self.request_len);
+        self.received.drop_front(self.request_len);
         self.request_len = 0;
         self.summary = None;
         self.is_continued = false;
         self.sent_len = 0;
         self.sent_since = 0;
         self.elapsed = 0;
-        self.phase = if self.received.is_empty() {
+        self.phase = if self.received.bytes.is_empty() {
             Phase::Idle
         } else {
             Phase::Parsing
@@ -557,11 +571,15 @@ impl Connection {
     ghost use Rattle.std.specs.Prelude.{◌-◌};
 
     /// Returns the bytes that follow the requests that were answered before: the request whose reply is sent, or what
-    /// arrived of the next one, also once the connection is over.
-    pub fn held_bytes(&self) -> &[u8]
-        ensures { result.now ≡ self.now.received.items }
+    /// arrived of the next one, also once the connection is over. Uses the headers for the fields of a head that was
+    /// not parsed.
+    pub fn held_request<'b>(
+        &'b self,
+        headers: &'b mut [HeaderSpan; FIELD_LIMIT],
+    ) -> ReceivedRequest<'b>
+        ensures { result.bytes.now ≡ self.now.received.bytes.items }
     {
-        &self.received
+        self.received.all(headers)
     }
 
     /// Returns how many bytes of the reply the peer has not accepted, also once the connection is over.

@@ -1,15 +1,17 @@
 //! Decides whether the bytes held begin with a request, and what follows its reply.
-ghost use Rattle.std.specs.Prelude.{◌≡◌, ◌==◌, ◌≤◌};
+ghost use Rattle.std.specs.Prelude.{◌≡◌, ◌==◌, ◌≤◌, ℕ, true, false};
 ghost use Rattle.httparse.specs.Grammar.{RequestHead};
 ghost use Rattle.feed_http_heads.specs.Requests.{IsInBuffer, HasHead};
+ghost use Rattle.feed_node_connection.specs.HeldBytes.{covers, covers_head};
 ghost use Rattle.feed_node_connection.specs.Requests.{is_post, stated_len, states_len, persists};
 ghost use Rattle.feed_node_connection.specs.Requests.{body_len_of, expects_continue};
 ghost use Rattle.feed_node_connection.specs.Replies.{IsHeadState, IsFound, after_reply};
 
+use crate::held_bytes::HeldBytes;
 use crate::respond::Respond;
-use feed_http_heads::{FIELD_LIMIT, HeadFound, Request, find_head};
+use feed_http_heads::Request;
 use feed_range::read_number;
-use httparse::spans::EMPTY_HEADER_SPAN;
+use feed_resolver_request::ParsedRequest;
 
 /// The state of a connection after a reply was sent.
 #[derive(Clone, Copy, Debug, PartialEq, Eq)]
@@ -126,33 +128,35 @@ fn expects_continue(request: &Request<'_>) -> bool
     is_http_1_1(request) && !request.fields().lacks_option(b"expect", b"100-continue")
 }
 
-// Returns the facts about a head of this length, if the responder wants a body of this length.
-fn found(request: &Request<'_>, head_len: usize, wanted: usize) -> FoundRequest
-    requires { IsInBuffer request.now }
-    ensures found { (head : RequestHead) → HasHead request.now head → IsFound head head_len wanted result }
+// Returns the facts about a head, if the responder wants a body of this length.
+fn found(parsed: &ParsedRequest<'_>, wanted: usize) -> FoundRequest
+    ensures found { (head : RequestHead) → HasHead parsed.now.request head
+        → IsFound head parsed.now.request.spans.len wanted result }
+    ensures len { result.head_len ≡ parsed.now.request.spans.len }
     ensures bound { result.body_len ≤ wanted }
 {
+    let request = &parsed.request;
     let body_len = body_len(request, wanted);
     FoundRequest {
-        head_len,
+        head_len: request.spans.len,
         body_len,
         persists: persists(request, body_len),
         expects_continue: expects_continue(request),
     }
 }
 
-/// Parses the bytes held.
-pub(crate) fn head_state<R: Respond>(bytes: &[u8], responder: &R) -> HeadState
-    ensures { IsHeadState (R.wanted responder.now) bytes.now result }
+/// Finds the head at the front of the bytes held.
+pub(crate) fn head_state<R: Respond>(held: &mut HeldBytes, responder: &R) -> HeadState
+    ensures bytes { held.new.bytes ≡ held.old.bytes }
+    ensures state { IsHeadState (R.wanted responder.now) held.old.bytes.items result }
+    ensures covers { covers_head held.new result ≡ true }
+    ensures kept { (size : ℕ) → covers held.old size ≡ true → covers held.new size ≡ true }
 {
-    let mut headers = [EMPTY_HEADER_SPAN; FIELD_LIMIT];
-    match find_head(bytes, &mut headers) {
-        HeadFound::Whole(spans) => {
-            let request = Request::new(bytes, &headers, spans);
-            let wanted = responder.body_len(&request);
-            HeadState::Whole(found(&request, spans.len, wanted))
-        }
-        HeadFound::Unfinished => HeadState::Incomplete,
-        HeadFound::Never => HeadState::Invalid,
+    if !held.find() {
+        return HeadState::Incomplete;
+    }
+    match held.parsed() {
+        Some(parsed) => HeadState::Whole(found(&parsed, responder.body_len(&parsed))),
+        None => HeadState::Invalid,
     }
 }

@@ -4,6 +4,7 @@
 
 mod connection;
 mod head_state;
+mod held_bytes;
 mod laws;
 mod respond;
 mod sides;
@@ -16,4 +17,4 @@ pub use respond::{
     BODY_LIMIT, CONTINUE, IncomingRequest, Reply, ReplySummary, Respond, RespondFault, UNAVAILABLE,
 };
 pub use sides::{Reading, Receive, Sides, Transmit, Writing};
-pub use streams::{Progress, Share, TURN_SHARE, advance};
+pub use streams::{Progress, Share, TURN_SHARE, run_connection};

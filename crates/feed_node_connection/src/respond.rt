@@ -3,7 +3,7 @@ ghost use Rattle.std.specs.Prelude.{◌≡◌, IfOk};
 ghost use Rattle.feed_node_connection.specs.Events.{continue_text};
 ghost use Rattle.feed_node_connection.specs.Replies.{unavailable};
 
-use feed_http_heads::Request;
+use feed_resolver_request::{ParsedRequest, ReceivedRequest};
 use std::alloc::{AllocError, Global};
 
 /// The reply if the responder makes none (RFC 9110, section 15.6.4).
@@ -75,7 +75,7 @@ impl Reply {
 #[derive(Clone, Copy)]
 pub struct IncomingRequest<'a> {
     /// The head of a request, or bytes that are not one, whatever follows.
-    pub head: &'a [u8],
+    pub received: ReceivedRequest<'a>,
     /// The whole body after the head, or nothing if none was received.
     pub body: &'a [u8],
     /// Whether the connection persists after the reply.
@@ -87,7 +87,7 @@ pub trait Respond {
     ghost use Rattle.std.specs.Prelude.{◌≡◌, ◌≤◌, List, ℕ, Bool, true, Option, Some, None, IfOk, IfErr};
     ghost use Rattle.httparse.specs.Grammar.{RequestHead};
     ghost use Rattle.feed_http_heads.specs.Options.{SaysWhetherItKeeps};
-    ghost use Rattle.feed_http_heads.specs.Requests.{IsInBuffer, HasHead};
+    ghost use Rattle.feed_http_heads.specs.Requests.{HasHead};
     ghost use Rattle.feed_node_connection.specs.Requests.{IsPersistent};
 
     /// The length of the body that the responder wants after this head, or 0.
@@ -99,21 +99,20 @@ pub trait Respond {
 
     /// Returns how many bytes of a body are received after the head of a request: at most 8,192, and 0 for none. They
     /// are received only if the head states this length.
-    fn body_len(&self, request: &Request<'_>) -> usize
-        requires { IsInBuffer request.now }
-        ensures wanted { (head : RequestHead) → HasHead request.now head → result ≡ wanted self.now head }
+    fn body_len(&self, parsed: &ParsedRequest<'_>) -> usize
+        ensures wanted { (head : RequestHead) → HasHead parsed.now.request head → result ≡ wanted self.now head }
         ensures limit { result ≤ BODY_LIMIT };
 
     /// Returns the reply to a request. The reply says `Connection: close` exactly if the connection does not persist
     /// (RFC 9112, section 9.6).
     fn respond(&self, alloc: Global, request: &IncomingRequest<'_>) -> Result<Reply, RespondFault>
         requires allowed { request.now.persists ≡ true
-            → IsPersistent (wanted self.now) request.now.head.now request.now.body.now }
-        ensures reply { IfOk result (λ reply.
-            replies self.now request.now.head.now request.now.body.now request.now.persists (Some reply.bytes.items)) }
+            → IsPersistent (wanted self.now) request.now.received.bytes.now request.now.body.now }
+        ensures reply { IfOk result (λ reply. replies self.now request.now.received.bytes.now
+            request.now.body.now request.now.persists (Some reply.bytes.items)) }
         ensures says { IfOk result (λ reply. SaysWhetherItKeeps request.now.persists reply.bytes.items) }
-        ensures none { IfErr result (λ fault.
-            replies self.now request.now.head.now request.now.body.now request.now.persists None) };
+        ensures none { IfErr result (λ fault. replies self.now request.now.received.bytes.now
+            request.now.body.now request.now.persists None) };
 }
 
 /// Returns the interim reply.

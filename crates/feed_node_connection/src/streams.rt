@@ -37,7 +37,7 @@ pub enum Progress {
 }
 
 /// Receives, replies and sends until the reader or the writer would block, a reply was sent, or the share is used.
-pub fn advance<S: Respond, R: Receive, W: Transmit>(
+pub fn run_connection<S: Respond, R: Receive, W: Transmit>(
     connection: &mut Connection,
     alloc: Global,
     responder: &S,

@@ -16,10 +16,10 @@ returns-then-is_lingering-clause-state c = λ history state. (
 
 pub returns-clause-state : goal.returns-clause-state
 returns-clause-state c = λ history state.
-    let long : vec_len c.args.self.now.received ≡ length c.args.self.now.received.items = (cc) in
-    let inside : c.args.self.now.request_len ≤ length c.args.self.now.received.items = omega (arith, c.args.self.now.inside, long) in
+    let long : vec_len c.args.self.now.received.bytes ≡ length c.args.self.now.received.bytes.items = (cc) in
+    let inside : c.args.self.now.request_len ≤ length c.args.self.now.received.bytes.items = omega (arith, c.args.self.now.inside, long) in
     let current = current_in c.args.self.now.phase c.args.self.now history c.requires.waiting (sym c.is_lingering.ensures ∙ c.if-is_lingering.false) state.0 in (
-      elim c.match-extend_from_slice.branch [
+      elim c.match-append.branch [
         | in-Ok w ↦ received_whole (is_idle_in c.args.self.now.phase) c.args.self.now _ history c.args.bytes.now current w.self-is w.in-Ok.ensures.items refl refl refl
             c.args.self.now.limits.step_some
             (elim c.if-is_idle.branch [
@@ -29,8 +29,8 @@ returns-clause-state c = λ history state.
         | in-Err w ↦ received_aborted (is_idle_in c.args.self.now.phase) c.args.self.now _ history c.args.bytes.now current w.self-is
       ],
       state.1,
-      elim c.match-extend_from_slice.branch [
-        | in-Ok w ↦ knows_more c.args.self.now.request_len c.args.self.now.received.items c.extend_from_slice.new.self.items c.args.bytes.now (requests_in history) inside
+      elim c.match-append.branch [
+        | in-Ok w ↦ knows_more c.args.self.now.request_len c.args.self.now.received.bytes.items c.append.new.self.bytes.items c.args.bytes.now (requests_in history) inside
             w.in-Ok.ensures.items state.2
         | in-Err w ↦ subst (λ held. (c.args.self.now.request_len ≡ 0) ⊎ IsLastOf (requests_in history) (take c.args.self.now.request_len held)) (sym w.in-Err.ensures.items) state.2
       ],

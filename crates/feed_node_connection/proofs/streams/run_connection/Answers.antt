@@ -1,6 +1,6 @@
 use Rattle.std.proofs.Common.{◌++◌, rules}
 use Rattle.feed_node_connection.proofs.Steps.{further, nothing}
-use Rattle.feed_node_connection.proofs.streams.advance.Goals as goal
+use Rattle.feed_node_connection.proofs.streams.run_connection.Goals as goal
 
 pub loop-init : goal.loop-init
 loop-init g c = (

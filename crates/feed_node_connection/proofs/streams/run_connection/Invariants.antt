@@ -2,7 +2,7 @@ use Rattle.std.proofs.Common.{List}
 use Rattle.feed_node_connection.specs.Events.{Event}
 use Rattle.feed_node_connection.specs.States.{HasState}
 use Rattle.feed_node_connection.specs.Streams.{HasAdvanced}
-use Rattle.feed_node_connection.proofs.streams.advance.Given as goal
+use Rattle.feed_node_connection.proofs.streams.run_connection.Given as goal
 
 abbrev pub invariant-loop : goal.invariant-loop
 invariant-loop g l =
