@@ -2,7 +2,7 @@ pub mod AnswersWritten
 pub mod Connections
 pub mod Locations
 pub mod Requests
-pub mod Resources
+pub mod Routed
 pub mod SameBytes
 pub mod StatusTexts
 pub mod WholeTexts

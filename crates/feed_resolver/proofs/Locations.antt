@@ -11,7 +11,7 @@ use Rattle.feed_http_heads.specs.Requests.{lacks_host, is_get, is_head}
 use Rattle.feed_resolver_hits.specs.Searches.{SearchValue}
 use Rattle.feed_openurl.specs.declared.fault.Refusal.{Refusal}
 use Rattle.feed_resolver_request.specs.Representations.{accepted_representation, representation_of}
-use Rattle.feed_resolver_request.specs.Routes.{route_at, package_in, is_unsupported_method}
+use Rattle.feed_resolver_request.specs.Routes.{package_in, route_of, is_unsupported_method}
 use Rattle.feed_resolver_request.specs.Forms.{form_of}
 use Rattle.feed_resolver_request.specs.declared.form.FormFault.{FormFault}
 use Rattle.feed_resolver_request.specs.declared.form.FormFault.TheVariants as fault
@@ -152,19 +152,16 @@ route_located route.Package head path query actives =
 route_located route.Go head path query actives = go_located (accepted_representation head) query actives
 route_located route.Titles head path query actives =
     titles_located actives.library (representation_of query head) actives.actives (title_asks.ask_of query)
-route_located route.Unknown head path query actives = plain
+route_located other head path query actives = plain
 
 target_located : (head : RequestHead) (query : List ℕ) (actives : Sited) → IsLocated (target_reply head query actives)
 target_located head query actives = route_located (route_of head) head (path_of head) query actives
 
 method_located : (r : Route) → IsLocated (method_refusal r)
-method_located route.Home = plain
-method_located route.Status = plain
 method_located route.Resolve = plain
 method_located route.Package = plain
 method_located route.Go = plain
-method_located route.Titles = plain
-method_located route.Unknown = plain
+method_located other = plain
 
 plain_located : (head : RequestHead) (actives : Sited) → IsLocated (plain_reply head actives)
 plain_located head actives =

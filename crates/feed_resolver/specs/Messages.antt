@@ -9,7 +9,7 @@ use Rattle.feed_resolver_request.specs.FoundRequests.{BeginsWith, HasNoHead}
 use Rattle.feed_resolver_request.specs.Routes.{route_of, query_in}
 use Rattle.feed_resolver_request.specs.declared.representation.Representation.{Representation}
 use Rattle.feed_resolver_request.specs.declared.representation.Representation.TheVariants.{Html}
-use Rattle.feed_resolver_request.specs.declared.target.Route.TheVariants.{Go}
+use Rattle.feed_resolver_request.specs.declared.route.Route.TheVariants.{Go}
 use Rattle.feed_resolver_reply.specs.Replies.{ResponseValue, is_page, of_site, response_of}
 use Rattle.feed_resolver_reply.specs.Messages.{IsMessage, IsMessageFor}
 use Rattle.feed_resolver_reply.specs.declared.status.Status.TheVariants as status

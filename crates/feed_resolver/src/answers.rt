@@ -208,9 +208,11 @@ pub(crate) fn put_answer(
         ≡ out.old.items
         ++ answers_body query.now.representation query.now.text.now lookup.now (sited_in context.now)) }
 {
-    if query.representation == Representation::Text {
-        return put_texts(alloc, out, context, lookup);
+    match query.representation {
+        Representation::Text => put_texts(alloc, out, context, lookup),
+        Representation::Json | Representation::Html => {
+            let hits = tally_among(alloc, context, lookup)?;
+            put_counted(alloc, out, query, context, lookup, hits)
+        }
     }
-    let hits = tally_among(alloc, context, lookup)?;
-    put_counted(alloc, out, query, context, lookup, hits)
 }

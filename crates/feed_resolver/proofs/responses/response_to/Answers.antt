@@ -11,7 +11,7 @@ use Rattle.feed_resolver.proofs.Tagged.{IsStatable, tagged_statable}
 use Rattle.feed_resolver.proofs.responses.response_to.Goals as goal
 
 pub returns-clause-value : goal.returns-clause-value
-returns-clause-value c = IfOk-weaker c.sent_response.result _ (λ response. (head : RequestHead) → HasHead c.args.request.now head
+returns-clause-value c = IfOk-weaker c.sent_response.result _ (λ response. (head : RequestHead) → HasHead c.args.parsed.now.request head
     → response ≡ response_to c.args.context.now.site c.args.keeps head c.args.body.now c.args.context.now.actives)
     (λ response is head has. is head has
     ∙ ap (λ (r : ReplyValue). response_of c.args.keeps (is_head head) (of_site c.args.context.now.site.library.redirects_sole_hit r))
@@ -20,7 +20,7 @@ returns-clause-value c = IfOk-weaker c.sent_response.result _ (λ response. (hea
     c.sent_response.ensures.value
 
 pub returns-clause-message : goal.returns-clause-message
-returns-clause-message c = IfOk-weaker c.sent_response.result _ (λ response. (head : RequestHead) → HasHead c.args.request.now head → IsMessageFor c.args.keeps (is_head head) response)
+returns-clause-message c = IfOk-weaker c.sent_response.result _ (λ response. (head : RequestHead) → HasHead c.args.parsed.now.request head → IsMessageFor c.args.keeps (is_head head) response)
     (λ response is head has.
     let fits = subst IsStatable (sym (c.unless_preflight-last.ensures head has ∙ ap (unless_preflight head) (c.in_ok-reply.ensures head has
     ∙ ap (λ t. validated head t c.args.context.now.site.max_age (reply_to head c.args.body.now (sited_in c.args.context.now))) (c.in_ok-tag.ensures head has))))
