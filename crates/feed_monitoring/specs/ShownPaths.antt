@@ -28,7 +28,7 @@ is_release text = is_package (take (length text - 15) text) && is_tail (drop (le
 abbrev pub names_release : List ℕ → Bool
 names_release path = bytes_eq (take 6 path) (codes "/feed/") && is_release (drop 6 path)
 
--- the log shows the path of a route; behind `/resolve/` it has the key of a package, and behind `/feed/` the name of a release
+-- the log shows the path of a route: a package behind `/resolve/` and a release behind `/feed/` have valid names
 abbrev pub is_shown : Route → List ℕ → Bool
 is_shown route.Package path = is_package (package_in path)
 is_shown route.Fetch path = names_release path
