@@ -3,3 +3,4 @@ pub mod Counted
 pub mod LastFields
 pub mod Shown
 pub mod PlainLines
+pub mod HeadLines

@@ -5,8 +5,9 @@ use Rattle.std.specs.Str.{bytes_eq}
 use Rattle.feed_range.specs.Text.{split_once}
 use Rattle.feed_http_heads.specs.Targets.{origin_form}
 use Rattle.feed_access_log.specs.Queries.{first_line}
-use Rattle.feed_resolver_request.specs.Routes.{is_unsupported_method, path_in}
-use Rattle.feed_monitoring.specs.ShownPaths.{is_shown_path}
+use Rattle.feed_resolver_request.specs.Routes.{is_unsupported_method, path_in, route_at}
+use Rattle.feed_resolver_request.specs.declared.route.Route.{Route}
+use Rattle.feed_monitoring.specs.ShownPaths.{is_shown, is_shown_path}
 
 -- a method that RFC 9110 names (section 9.3)
 abbrev pub is_known_method : List ℕ → Bool
@@ -16,9 +17,13 @@ is_known_method method = bytes_eq method (codes "GET") || (bytes_eq method (code
 abbrev pub shown_method : List ℕ → List ℕ
 shown_method method = if is_known_method method then method else codes "-"
 
--- the path of a target, if it is one of a node, or a dash
+-- the path of a route, if the log shows it, or a dash
+abbrev pub shown_path : Route → List ℕ → List ℕ
+shown_path route path = if is_shown route path then path else codes "-"
+
+-- the same for the path of a target
 abbrev pub shown_target : List ℕ → List ℕ
-shown_target target = if is_shown_path (path_in (origin_form target)) then path_in (origin_form target) else codes "-"
+shown_target target = shown_path (route_at (path_in (origin_form target))) (path_in (origin_form target))
 
 -- a version (RFC 9112, section 2.3)
 abbrev pub is_version : List ℕ → Bool

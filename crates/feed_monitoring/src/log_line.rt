@@ -78,7 +78,7 @@ pub(crate) fn put_entry(
     let entry = Entry {
         client: client_of(policy.is_proxy, fields, exchange.peer),
         seconds: exchange.seconds,
-        line: shown_line(policy.has_queries, exchange.received.bytes),
+        line: shown_line(policy.has_queries, &exchange.received),
         status: exchange.status,
         sent: exchange.body_sent,
         referrer: shown_referrer(policy.has_queries, sole_or_empty(fields, b"referer")),

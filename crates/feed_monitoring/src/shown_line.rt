@@ -1,14 +1,18 @@
 //! The first line of a request, as the log of a node shows it: whole, or without what a reader asks.
 ghost use Rattle.std.specs.Prelude.{◌≡◌};
+ghost use Rattle.httparse.specs.Grammar.{RequestHead, print_version};
+ghost use Rattle.feed_http_heads.specs.Requests.{HasHead};
 ghost use Rattle.feed_access_log.specs.Queries.{shown_text};
-ghost use Rattle.feed_monitoring.specs.ShownLines.{behind_method, is_known_method, is_version, line_of_parts};
-ghost use Rattle.feed_monitoring.specs.ShownLines.{plain_line, shown_line, shown_method, shown_target};
+ghost use Rattle.feed_monitoring.specs.ShownLines.{behind_method, is_known_method, is_version, line_of_parts, spaced};
+ghost use Rattle.feed_monitoring.specs.ShownLines.{plain_line, shown_line, shown_method, shown_path, shown_target};
 
-use crate::shown_path::is_shown_path;
+use crate::shown_path::is_shown;
 use feed_access_log::{RequestLine, first_line};
 use feed_http_heads::origin_form;
 use feed_range::split_once;
-use feed_resolver_request::{is_unsupported_method, path_in};
+use feed_resolver_request::{
+    ParsedRequest, ReceivedRequest, Route, is_unsupported_method, path_in, route_at,
+};
 
 fn is_known_method(method: &[u8]) -> bool
     ensures { result ≡ is_known_method method.now }
@@ -28,12 +32,18 @@ fn shown_method(method: &[u8]) -> &[u8]
     }
 }
 
+fn shown_path(route: Route, path: &[u8]) -> &[u8]
+    ensures { result.now ≡ shown_path route path.now }
+{
+    if is_shown(route, path) { path } else { b"-" }
+}
+
 // Returns the path of a target, or a dash if it is not one of the node's.
 fn shown_target(target: &[u8]) -> &[u8]
     ensures { result.now ≡ shown_target target.now }
 {
     let path = path_in(origin_form(target));
-    if is_shown_path(path) { path } else { b"-" }
+    shown_path(route_at(path), path)
 }
 
 fn is_version(text: &[u8]) -> bool
@@ -71,14 +81,42 @@ fn plain_line(line: &[u8]) -> RequestLine<'_>
     }
 }
 
-/// Returns the first line of a request that is not empty, as the log shows it.
-pub(crate) fn shown_line(has_queries: bool, request: &[u8]) -> RequestLine<'_>
-    ensures { shown_text result ≡ shown_line has_queries request.now }
+fn method_of<'b>(parsed: &ParsedRequest<'b>) -> &'b [u8]
+    ensures { (head : RequestHead) → HasHead parsed.now.request head → result.now ≡ head.method }
 {
-    let line = first_line(request);
-    if has_queries {
-        RequestLine::whole(line)
+    parsed.request.spans.method.of(parsed.request.buffer)
+}
+
+fn version_of(parsed: &ParsedRequest<'_>) -> &'static [u8]
+    ensures { (head : RequestHead) → HasHead parsed.now.request head → result.now ≡ print_version head.minor }
+{
+    if parsed.request.spans.version == 1 {
+        b"HTTP/1.1"
     } else {
-        plain_line(line)
+        b"HTTP/1.0"
+    }
+}
+
+// Returns the same line of the parts of a request that was parsed, without splitting its bytes again.
+fn parsed_line<'b>(parsed: &ParsedRequest<'b>) -> RequestLine<'b>
+    ensures { (head : RequestHead) → HasHead parsed.now.request head → shown_text result
+        ≡ spaced (shown_method head.method) (shown_target head.target) (print_version head.minor) }
+{
+    let method = shown_method(method_of(parsed));
+    let path = path_in(origin_form(parsed.request.target()));
+    RequestLine::of_parts(method, shown_path(parsed.route, path), version_of(parsed))
+}
+
+/// Returns the first line of a request that is not empty, as the log shows it.
+pub(crate) fn shown_line<'b>(has_queries: bool, received: &ReceivedRequest<'b>) -> RequestLine<'b>
+    ensures { shown_text result ≡ shown_line has_queries received.now.bytes.now }
+{
+    let line = first_line(received.bytes);
+    if has_queries {
+        return RequestLine::whole(line);
+    }
+    match received.parsed() {
+        Some(parsed) => parsed_line(&parsed),
+        None => plain_line(line),
     }
 }

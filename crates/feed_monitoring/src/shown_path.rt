@@ -2,11 +2,11 @@
 ghost use Rattle.std.specs.Prelude.{◌≡◌};
 ghost use Rattle.std.specs.List.{list_all};
 ghost use Rattle.feed_names.specs.ReleaseName.{is_stem_byte};
-ghost use Rattle.feed_monitoring.specs.ShownPaths.{is_dated, is_package, is_release, is_shown_path};
+ghost use Rattle.feed_monitoring.specs.ShownPaths.{is_dated, is_package, is_release, is_shown};
 ghost use Rattle.feed_monitoring.specs.ShownPaths.{is_tail, names_release};
 
 use feed_dates::read_date;
-use feed_resolver_request::{Route, package_in, route_at};
+use feed_resolver_request::{Route, package_in};
 
 fn is_stem_byte(byte: u8) -> bool
     ensures { result ≡ is_stem_byte byte }
@@ -60,12 +60,12 @@ fn names_release(path: &[u8]) -> bool
     front == b"/feed/".as_slice() && is_release(&path[path.len().min(6)..])
 }
 
-/// Returns whether a path is one of the node's, of any route. A package or a release in it has a valid name, whether the
-/// node has it or not.
-pub(crate) fn is_shown_path(path: &[u8]) -> bool
-    ensures { result ≡ is_shown_path path.now }
+/// Returns whether the log shows the path of a route. A package or a release in it has a valid name, whether the node
+/// has it or not.
+pub(crate) fn is_shown(route: Route, path: &[u8]) -> bool
+    ensures { result ≡ is_shown route path.now }
 {
-    match route_at(path) {
+    match route {
         Route::Package => is_package(package_in(path)),
         Route::Fetch => names_release(path),
         Route::Unknown => false,
