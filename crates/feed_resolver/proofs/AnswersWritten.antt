@@ -1,5 +1,5 @@
 -- The answers that are written are those of the definition.
-use Rattle.std.proofs.Common.{◌≡◌, ℕ, Option, List, [], ◌∷◌, ◌++◌, refl, sym, ap, ◌∙◌}
+use Rattle.std.proofs.Common.{◌≡◌, ℕ, Option, Some, None, List, option_map, [], ◌∷◌, ◌++◌, refl, sym, ap, ◌∙◌}
 use Rattle.std.proofs.lemmas.List.Sums.{fold-append}
 use Rattle.feed_embargo.specs.Today.{TodayValue}
 use Rattle.feed_site.specs.Site as site_file
@@ -7,6 +7,8 @@ use Rattle.feed_resolver_hits.specs.Searches.{SearchValue}
 use Rattle.feed_releases.specs.Actives.{ActiveValue}
 use Rattle.feed_resolver_request.specs.declared.representation.Representation.{Representation}
 use Rattle.feed_resolver_request.specs.declared.representation.Representation.TheVariants.{Text, Json, Html}
+use Rattle.std.specs.Option.{option_map_or}
+use Rattle.feed_resolver_reply.specs.Replies.{ReplyValue, redirect_to}
 use Rattle.feed_resolver_hits.specs.Hits.{ReleaseHitValue}
 use Rattle.feed_resolver_hits.specs.HitsText.{release_text}
 use Rattle.feed_resolver_hits.specs.AnswerJson.{answer_json}
@@ -98,3 +100,12 @@ pub whole_made : (search : SearchValue) (actives : Sited) (running : RunningValu
     → (tally_from running).is_whole ≡ (tally_of (looks_among search actives)).is_whole
 whole_made search actives running made =
     ap (λ (r : RunningValue). (tally_from r).is_whole) made ∙ ap (λ (t : TallyValue). t.is_whole) (tally_is (looks_among search actives))
+
+-- a redirect to the link, if one was copied, and another reply if not
+pub linked : {A : Type 0} (text : A → List ℕ) (link : Option A) (found : Option (List ℕ)) (one : A) (other : ReplyValue) → option_map text link ≡ found → link ≡ Some one
+    → redirect_to (text one) ≡ option_map_or redirect_to found other
+linked text link found one other is some = ap (λ o. option_map_or redirect_to o other) (sym (ap (option_map text) some) ∙ is)
+
+pub unlinked : {A : Type 0} (text : A → List ℕ) (link : Option A) (found : Option (List ℕ)) (other : ReplyValue) → option_map text link ≡ found → link ≡ None
+    → other ≡ option_map_or redirect_to found other
+unlinked text link found other is none = ap (λ o. option_map_or redirect_to o other) (sym (ap (option_map text) none) ∙ is)

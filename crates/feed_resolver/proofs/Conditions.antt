@@ -12,7 +12,7 @@ use Rattle.feed_http_heads.specs.Requests.{lacks_host, is_get, is_head}
 use Rattle.feed_http_heads.specs.Targets.{origin_form}
 use Rattle.feed_resolver_request.specs.Conditions.{has_tag, names_tag}
 use Rattle.feed_resolver_request.specs.Representations.{accepted_representation, representation_of, preferred_in, format_of}
-use Rattle.feed_resolver_request.specs.Routes.{query_in, route_at}
+use Rattle.feed_resolver_request.specs.Routes.{query_in, route_of}
 use Rattle.feed_resolver_request.specs.declared.representation.Representation.TheVariants.{Text}
 use Rattle.feed_resolver_reply.specs.Replies.{ReplyValue, with_tag, not_modified, is_good}
 use Rattle.feed_resolver_tag.specs.Tags.{SiteValue}

@@ -14,14 +14,14 @@ use Rattle.feed_http_heads.specs.Targets.{origin_form}
 use Rattle.feed_resolver_hits.specs.Searches.{SearchValue}
 use Rattle.feed_openurl.specs.declared.fault.Refusal.{Refusal}
 use Rattle.feed_resolver_request.specs.FoundRequests.{BeginsWith}
-use Rattle.feed_resolver_request.specs.FetchRequests.{FetchPolicyValue, name_to_fetch, name_after_feed}
+use Rattle.feed_resolver_request.specs.FetchRequests.{FetchPolicyValue, name_at, name_to_fetch}
 use Rattle.feed_resolver_reply.specs.FetchReplies.{fetch_reply, IsFetchMessage}
 use Rattle.feed_resolver_request.specs.Representations.{accepted_representation, representation_of, preferred_in, format_of}
 use Rattle.feed_resolver_request.specs.Forms.{form_of, form_in, form_by, is_form_post, takes_form, has_form_type, stated_length}
 use Rattle.feed_resolver_request.specs.declared.form.FormFault.{FormFault}
 use Rattle.feed_resolver_request.specs.declared.form.FormFault.TheVariants as fault
 use Rattle.feed_resolver_request.specs.declared.representation.Representation.{Representation}
-use Rattle.feed_resolver_request.specs.Routes.{path_in, query_in, route_at, package_in, is_unsupported_method}
+use Rattle.feed_resolver_request.specs.Routes.{path_in, query_in, route_at, route_of, package_in, is_unsupported_method}
 use Rattle.feed_resolver.specs.Status.{home_page, status_body}
 use Rattle.feed_resolver_request.specs.declared.representation.Representation.TheVariants.{Text, Json, Html}
 use Rattle.feed_resolver_page.specs.TitlesPage.{titles_reply}
@@ -112,7 +112,7 @@ read_reply head body actives read =
 
 -- the reply to such a request is that to its target
 pub answered_to : (head : RequestHead) (actives : Sited) → lacks_host head ≡ false → has_coded_body head ≡ false → is_tagged head ≡ true
-    → IsAnswered (origin_form head.target) actives → IsAnsweredTo head actives
+    → IsAnswered (route_of head) (path_of head) (target_query head) actives → IsAnsweredTo head actives
 answered_to head actives host plain tagged answered body =
     subst (IsGoodIn (representation_of (query_in (origin_form head.target)) head))
     (sym (read_reply head body actives (and_left (is_get head || is_head head) (has_validator (route_of head)) tagged)
@@ -125,9 +125,9 @@ answered_to head actives host plain tagged answered body =
     and_left false b e = absurd (cc)
 
 -- the reply to each request of a target whose query is valid
-pub status_answered : (target : List ℕ) (actives : Sited) → route_at (path_in target) ≡ route.Status → IsAnswered target actives
-status_answered target actives is head =
-    subst (λ r. IsGoodIn (representation_of (query_in target) head) (route_reply r head (path_in target) (query_in target) actives)) (sym is) (refl, refl)
+pub status_answered : (r : Route) (path query : List ℕ) (actives : Sited) → r ≡ route.Status → IsAnswered r path query actives
+status_answered r path query actives is head =
+    subst (λ o. IsGoodIn (representation_of query head) (route_reply o head path query actives)) (sym is) (refl, refl)
 
 -- a library that redirects no browser
 shown : (representation : Representation) (text : List ℕ) (actives : Sited) (query : SearchValue) → actives.library.redirects_sole_hit ≡ false
@@ -144,23 +144,23 @@ query_answered : (representation : Representation) (text : List ℕ) (actives : 
 query_answered representation text actives (Ok other) query off is = shown representation text actives other off
 query_answered representation text actives (Err why) query off is = absurd (cc)
 
-pub resolve_answered : (target : List ℕ) (actives : Sited) (query : SearchValue) → route_at (path_in target) ≡ route.Resolve
-    → actives.library.redirects_sole_hit ≡ false → asked_of (query_in target) ≡ Ok query → IsAnswered target actives
-resolve_answered target actives query is off valid head =
-    subst (λ r. IsGoodIn (representation_of (query_in target) head) (route_reply r head (path_in target) (query_in target) actives)) (sym is)
-    (query_answered (representation_of (query_in target) head) (query_in target) actives (asked_of (query_in target)) query off valid)
+pub resolve_answered : (r : Route) (path query : List ℕ) (actives : Sited) (search : SearchValue) → r ≡ route.Resolve
+    → actives.library.redirects_sole_hit ≡ false → asked_of query ≡ Ok search → IsAnswered r path query actives
+resolve_answered r path query actives search is off valid head =
+    subst (λ o. IsGoodIn (representation_of query head) (route_reply o head path query actives)) (sym is)
+    (query_answered (representation_of query head) query actives (asked_of query) search off valid)
 
 placed_answered : (representation : Representation) (text : List ℕ) (actives : Sited) (query : SearchValue) (o : Option ℕ) (other : ReplyValue) → is_some o ≡ true
     → actives.library.redirects_sole_hit ≡ false → asked_of text ≡ Ok query → IsGoodIn representation (option_map_or (resolve_reply_at representation text actives) o other)
 placed_answered representation text actives query (Some place) other some off valid = query_answered representation text _ (asked_of text) query off valid
 placed_answered representation text actives query None other some off valid = absurd (cc)
 
-pub package_answered : (target : List ℕ) (actives : Sited) (query : SearchValue) → route_at (path_in target) ≡ route.Package
-    → is_some (position (is_of (package_in (path_in target))) actives.actives) ≡ true → actives.library.redirects_sole_hit ≡ false → asked_of (query_in target) ≡ Ok query
-    → IsAnswered target actives
-package_answered target actives query is some off valid head =
-    subst (λ r. IsGoodIn (representation_of (query_in target) head) (route_reply r head (path_in target) (query_in target) actives)) (sym is)
-    (placed_answered (representation_of (query_in target) head) (query_in target) actives query (position (is_of (package_in (path_in target))) actives.actives) _ some off valid)
+pub package_answered : (r : Route) (path query : List ℕ) (actives : Sited) (search : SearchValue) → r ≡ route.Package
+    → is_some (position (is_of (package_in path)) actives.actives) ≡ true → actives.library.redirects_sole_hit ≡ false → asked_of query ≡ Ok search
+    → IsAnswered r path query actives
+package_answered r path query actives search is some off valid head =
+    subst (λ o. IsGoodIn (representation_of query head) (route_reply o head path query actives)) (sym is)
+    (placed_answered (representation_of query head) query actives search (position (is_of (package_in path)) actives.actives) _ some off valid)
 
 -- ---- HEAD
 
@@ -174,7 +174,7 @@ same_parts route.Resolve head other path query actives wants accepts = rw wants 
 same_parts route.Package head other path query actives wants accepts = rw wants refl
 same_parts route.Go head other path query actives wants accepts = rw accepts refl
 same_parts route.Titles head other path query actives wants accepts = rw wants refl
-same_parts route.Unknown head other path query actives wants accepts = rw accepts refl
+same_parts other_route head other path query actives wants accepts = rw accepts refl
 
 same_route : (r : Route) (head : RequestHead) (path query : List ℕ) (actives : Sited) → route_reply r (as_get head) path query actives ≡ route_reply r head path query actives
 same_route r head path query actives = same_parts r (as_get head) head path query actives refl refl
@@ -232,7 +232,7 @@ go_replied head body query actives asks =
     read_reply head body actives asks.method
     ∙ ap (λ l. reply_by l false false (has_coded_body head) (query_answer head actives)) asks.host
     ∙ ap (λ c. reply_by false false false c (query_answer head actives)) asks.body
-    ∙ ap (λ r. route_reply r head (path_of head) (target_query head) actives) asks.resource
+    ∙ ap (λ r. route_reply r head (path_of head) (target_query head) actives) asks.route
     ∙ ap (λ q. query_reply actives status.NotFound (accepted_representation head) (target_query head) (redirect_reply (accepted_representation head) (target_query head) actives) q) asks.asked
 
 -- `/go` has no tag
@@ -270,7 +270,7 @@ goes_to_best site keeps actives bytes body head query response begins asks is =
     let redirects : Bool = site.library.redirects_sole_hit in
     let same : response ≡ response_of keeps (is_head head) (option_map_or redirect_to (best_link hits) (of_site redirects other)) =
     reply_at site keeps bytes body actives head response begins is
-    ∙ ap (λ (t : ReplyValue). response_of keeps (is_head head) (of_site redirects t)) (read_tagged site head body actives asks.method ∙ untagged_go site head body actives asks.resource
+    ∙ ap (λ (t : ReplyValue). response_of keeps (is_head head) (of_site redirects t)) (read_tagged site head body actives asks.method ∙ untagged_go site head body actives asks.route
     ∙ go_replied head body query (sited site actives) asks)
     ∙ ap (response_of keeps (is_head head)) (sited_redirect redirects (best_link hits) other) in
     (best_link hits, best, subst (λ (v : ResponseValue). GoesTo (best_link hits) whole v) (sym same) (goes keeps (is_head head) whole hits (best_link hits) (of_site redirects other) best refl))
@@ -325,8 +325,8 @@ record IsReadForm (post : RequestHead) : Type 0 where
 read_form : (post : RequestHead) (n : ℕ) → form_of post ≡ Some (Ok n) → IsReadForm post
 read_form post n is =
     let parts = chosen_form (is_form_post post) (form_in post) n is in
-    let posted = both (bytes_eq post.method (codes "POST")) (not (lacks_host post) && takes_form (route_at (path_of post))) parts.0 in
-    let hosted = both (not (lacks_host post)) (takes_form (route_at (path_of post))) posted.1 in
+    let posted = both (bytes_eq post.method (codes "POST")) (not (lacks_host post) && takes_form (route_of post)) parts.0 in
+    let hosted = both (not (lacks_host post)) (takes_form (route_of post)) posted.1 in
     record {
       method = posted.0;
       host = not_true (lacks_host post) hosted.0;
@@ -341,7 +341,7 @@ answer_by route.Resolve named accepted path query actives = resolve_reply named 
 answer_by route.Package named accepted path query actives = package_reply named (package_in path) query actives
 answer_by route.Go named accepted path query actives = go_reply accepted query actives
 answer_by route.Titles named accepted path query actives = titles_reply actives.library named query actives.actives
-answer_by route.Unknown named accepted path query actives = error_reply actives.library query status.NotFound accepted advice.NoPage (codes "NoTarget")
+answer_by other_route named accepted path query actives = error_reply actives.library query status.NotFound accepted advice.NoPage (codes "NoTarget")
 
 answered_by : (r : Route) (head : RequestHead) (path query : List ℕ) (actives : Sited)
     → route_reply r head path query actives ≡ answer_by r (representation_of query head) (accepted_representation head) path query actives
@@ -351,7 +351,7 @@ answered_by route.Resolve head path query actives = refl
 answered_by route.Package head path query actives = refl
 answered_by route.Go head path query actives = refl
 answered_by route.Titles head path query actives = refl
-answered_by route.Unknown head path query actives = refl
+answered_by other_route head path query actives = refl
 
 -- a reply depends on no more of a head than its fields
 same_fields : (r : Route) (get post : RequestHead) (path query : List ℕ) (actives : Sited) → get.fields ≡ post.fields
@@ -391,7 +391,7 @@ form_is_get site keeps actives bytes body other post get n response form same be
     let alike : target_reply get (target_query get) (sited site actives) ≡ target_reply post body (sited site actives) =
     ap (λ q. target_reply get q (sited site actives)) same.query
     ∙ ap (λ p. route_reply (route_at p) get p body (sited site actives)) same.path
-    ∙ same_fields (route_at (path_of post)) get post (path_of post) body (sited site actives) same.fields in
+    ∙ same_fields (route_of post) get post (path_of post) body (sited site actives) same.fields in
     let short : is_head post ≡ false = ap (λ m. bytes_eq m (codes "HEAD")) ((bytes_decides post.method (codes "POST")).0 read.method) in
     let unread : is_get post ≡ false = ap (λ m. bytes_eq m (codes "GET")) ((bytes_decides post.method (codes "POST")).0 read.method) in
     let asks : bytes_eq post.method (codes "OPTIONS") ≡ false = ap (λ m. bytes_eq m (codes "OPTIONS")) ((bytes_decides post.method (codes "POST")).0 read.method) in
@@ -428,7 +428,7 @@ only_then false o text e = absurd (cc)
 -- a POST is not a HEAD
 post_not_head : (head : RequestHead) (text : List ℕ) → name_to_fetch head ≡ Some text → is_head head ≡ false
 post_not_head head text named =
-    let post : bytes_eq head.method (codes "POST") ≡ true = only_then (bytes_eq head.method (codes "POST")) (name_after_feed (path_in (origin_form head.target))) text named in
+    let post : bytes_eq head.method (codes "POST") ≡ true = only_then (bytes_eq head.method (codes "POST")) (name_at (route_of head) (path_in (origin_form head.target))) text named in
     ap (λ m. bytes_eq m (codes "HEAD")) ((bytes_decides head.method (codes "POST")).0 post)
 
 -- the reply to such a request

@@ -1,7 +1,5 @@
-use Rattle.std.proofs.Common.{ℕ, ◌++◌, ◌∙◌, ap, sym}
 use Rattle.std.proofs.lemmas.Result.{on_ok_weaker}
-use Rattle.feed_resolver_request.specs.declared.representation.Representation.{Representation}
-use Rattle.feed_resolver.specs.Answers.{answers_body, sited_in}
+use Rattle.feed_resolver.specs.Answers.{sited_in}
 use Rattle.feed_resolver.proofs.AnswersWritten.{text_written}
 use Rattle.feed_resolver.proofs.answers.put_answer.Goals as goal
 

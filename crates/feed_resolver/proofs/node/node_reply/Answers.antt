@@ -10,7 +10,7 @@ use Rattle.feed_resolver.proofs.node.node_reply.Goals as goal
 
 pub returns-in-Some-clause-message : goal.returns-in-Some-clause-message
 returns-in-Some-clause-message c = IfOk-weaker c.fetch_reply.result (IsFetchMessage c.args.keeps)
-    (λ response. (head : RequestHead) → HasHead c.args.request.now head → IsNodeMessageFor c.args.keeps head response)
+    (λ response. (head : RequestHead) → HasHead c.args.parsed.now.request head → IsNodeMessageFor c.args.keeps head response)
     (λ response message head has. elim (fetch_message c.args.keeps head _ response (sym (c.in-Some.ensures head has)) message) [
       | inl whole ↦ inl whole
       | inr begins ↦ inr (begins, (sym (c.lacks_host.ensures head has) ∙ c.if-lacks_host.false, ap is_some (sym (c.in-Some.ensures head has))))

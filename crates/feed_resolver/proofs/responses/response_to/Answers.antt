@@ -2,6 +2,7 @@ use Rattle.std.proofs.Common.{◌≡◌, sym, subst, ◌∙◌, ap}
 use Rattle.std.proofs.lemmas.Result.{IfOk-weaker}
 use Rattle.httparse.specs.Grammar.{RequestHead}
 use Rattle.feed_http_heads.specs.Requests.{HasHead, is_head}
+use Rattle.feed_resolver_request.specs.declared.received.ParsedRequest.{ParsedRequest}
 use Rattle.feed_resolver_reply.specs.Replies.{ReplyValue, of_site, response_of}
 use Rattle.feed_resolver_reply.specs.Messages.{IsMessageFor}
 use Rattle.feed_resolver.specs.Answers.{sited_in}
@@ -13,17 +14,19 @@ use Rattle.feed_resolver.proofs.responses.response_to.Goals as goal
 pub returns-clause-value : goal.returns-clause-value
 returns-clause-value c = IfOk-weaker c.sent_response.result _ (λ response. (head : RequestHead) → HasHead c.args.parsed.now.request head
     → response ≡ response_to c.args.context.now.site c.args.keeps head c.args.body.now c.args.context.now.actives)
-    (λ response is head has. is head has
+    (λ response is head has. let asked = subst (λ (p : ParsedRequest). HasHead p.request head) (sym c.new-request.ensures) has in
+    is head has
     ∙ ap (λ (r : ReplyValue). response_of c.args.keeps (is_head head) (of_site c.args.context.now.site.library.redirects_sole_hit r))
-    (c.unless_preflight-last.ensures head has ∙ ap (unless_preflight head) (c.in_ok-reply.ensures head has
-    ∙ ap (λ t. validated head t c.args.context.now.site.max_age (reply_to head c.args.body.now (sited_in c.args.context.now))) (c.in_ok-tag.ensures head has))))
+    (c.unless_preflight-last.ensures head has ∙ ap (unless_preflight head) (c.in_ok-reply.ensures head asked
+    ∙ ap (λ t. validated head t c.args.context.now.site.max_age (reply_to head c.args.body.now (sited_in c.args.context.now))) (c.in_ok-tag.ensures head asked))))
     c.sent_response.ensures.value
 
 pub returns-clause-message : goal.returns-clause-message
 returns-clause-message c = IfOk-weaker c.sent_response.result _ (λ response. (head : RequestHead) → HasHead c.args.parsed.now.request head → IsMessageFor c.args.keeps (is_head head) response)
     (λ response is head has.
-    let fits = subst IsStatable (sym (c.unless_preflight-last.ensures head has ∙ ap (unless_preflight head) (c.in_ok-reply.ensures head has
-    ∙ ap (λ t. validated head t c.args.context.now.site.max_age (reply_to head c.args.body.now (sited_in c.args.context.now))) (c.in_ok-tag.ensures head has))))
+    let asked = subst (λ (p : ParsedRequest). HasHead p.request head) (sym c.new-request.ensures) has in
+    let fits = subst IsStatable (sym (c.unless_preflight-last.ensures head has ∙ ap (unless_preflight head) (c.in_ok-reply.ensures head asked
+    ∙ ap (λ t. validated head t c.args.context.now.site.max_age (reply_to head c.args.body.now (sited_in c.args.context.now))) (c.in_ok-tag.ensures head asked))))
     (tagged_statable c.args.context.now.site head c.args.body.now c.args.context.now.actives) in
     is head has fits.0 fits.1)
     c.sent_response.ensures.message

@@ -1,8 +1,5 @@
 use Rattle.std.proofs.Common.{ap, ◌∙◌, subst}
-use Rattle.feed_http_heads.specs.Targets.{origin_form}
 use Rattle.feed_resolver_request.specs.Conditions.{has_tag}
-use Rattle.feed_resolver_request.specs.Representations.{representation_of}
-use Rattle.feed_resolver_request.specs.Routes.{query_in}
 use Rattle.feed_site.specs.Site as site_file
 use Rattle.feed_resolver.specs.Answers.{ContextValue, sited_by, sited_in}
 use Rattle.feed_resolver.specs.Answered.{IsAnsweredTo}
@@ -13,11 +10,10 @@ use Rattle.feed_resolver.proofs.validators.validated_reply.Goals as goal
 
 pub returns-then-branch : goal.returns-then-branch
 returns-then-branch c = λ head has.
-    known_validated head c.args.tag.items c.max_age-max_age.result c.args.body.now (sited_in c.args.context.now) c.not_modified.result c.representation_of-representation.result
+    known_validated head c.args.tag.items c.max_age-max_age.result c.args.body.now (sited_in c.args.context.now) c.not_modified.result c.args.request.now.representation
     c.is_tagged.result c.has_tag-has.result c.if-not-is_tagged.false (c.is_tagged.ensures head has) c.if-has.true
     (c.has_tag-has.ensures head (c.fields.ensures.fields head has) ∙ ap (λ t. has_tag t head) c.deref.ensures.value)
-    (c.representation_of-representation.ensures head (c.fields-then-branch.ensures.fields head has)
-    ∙ ap (λ q. representation_of q head) (c.query_in-query.ensures ∙ ap query_in (c.origin_form.ensures ∙ ap origin_form (c.target.ensures head has))))
+    (c.args.request.now.prefers head has)
     (λ tagged. subst (λ (v : ContextValue). IsAnsweredTo head (sited_by c.args.context.now.site.library c.args.context.now.actives.today v.actives.actives)) c.context.view_is
     (subst (λ (s : site_file.SiteValue). IsAnsweredTo head (sited_by s c.args.context.now.actives.today c.context.inside.actives.now)) c.library.ensures
     (c.in_ok-is_answered_to.ensures c.if-branch.true head has tagged c.args.context.now.actives.today))) c.not_modified.ensures
