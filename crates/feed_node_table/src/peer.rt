@@ -11,6 +11,7 @@ ghost use Rattle.feed_node_table.specs.Logs.{HasRecorded, Replied};
 use crate::log::{CloseCause, Log};
 use crate::stream::Stream;
 use feed_node_connection::{Connection, Progress, Respond, Share, TimeLimits, Wants};
+use feed_resolver_request::ReceivedRequest;
 use std::alloc::Global;
 use std::net::SocketAddr;
 
@@ -21,7 +22,7 @@ pub enum Outcome {
     Waits,
     /// It has more to do in the next turn.
     Ready,
-    /// It turned to its next request, so that it may be advanced again in this turn.
+    /// It turned to its next request, so that it may be served again in this turn.
     Resumed,
     /// The head of its streamed reply was sent, so that the body may follow.
     Streams,
@@ -94,15 +95,15 @@ impl<T: Stream> Peer<T> {
     }
 
     /// Returns the request whose reply is streamed, from when the reply is made.
-    pub(crate) fn streamed_request(&self) -> Option<&[u8]>
-        ensures { IfSome result (λ bytes. bytes.now ≡ request_of self.now.connection) }
+    pub(crate) fn streamed_request(&self) -> Option<ReceivedRequest<'_>>
+        ensures { IfSome result (λ received. received.bytes.now ≡ request_of self.now.connection) }
     {
         let is_streamed = match self.connection.summary() {
             Some(summary) => summary.is_streamed,
             None => false,
         };
         if is_streamed {
-            Some(self.connection.request_bytes())
+            Some(self.connection.request())
         } else {
             None
         }
@@ -216,7 +217,7 @@ impl<T: Stream> Peer<T> {
         }
     }
 
-    /// Does what follows `advance`, by how that ended. A reply that was sent ended now.
+    /// Does what follows `exchange`, by how that ended. A reply that was sent ended now.
     pub(crate) fn settle<L: Log>(&mut self, progress: Progress, now: u64, log: &mut L) -> Outcome
         ensures addr { self.new.addr ≡ self.old.addr }
         ensures held { allocated_bytes self.new.connection ≡ allocated_bytes self.old.connection }
@@ -250,7 +251,7 @@ impl<T: Stream> Peer<T> {
     }
 
     /// Receives, replies and sends until the stream would block, a reply was sent, or the share is used.
-    pub(crate) fn advance<S: Respond>(
+    pub(crate) fn exchange<S: Respond>(
         &mut self,
         alloc: Global,
         responder: &S,
@@ -269,7 +270,7 @@ impl<T: Stream> Peer<T> {
         let replies = share.replies;
         let progress = self
             .stream
-            .advance(&mut self.connection, alloc, responder, buffer, share);
+            .transfer(&mut self.connection, alloc, responder, buffer, share);
         self.note_times(share.replies < replies, elapsed, now);
         progress
     }

@@ -20,7 +20,7 @@ pub trait Stream: Drop {
     fn shut_down(&self);
 
     /// Receives, replies and sends until the stream would block, a reply was sent, or the share is used.
-    fn advance<S: Respond>(
+    fn transfer<S: Respond>(
         &self,
         connection: &mut Connection,
         alloc: Global,

@@ -12,6 +12,7 @@ use crate::peer::{NewConnection, Outcome, Peer};
 use crate::stream::Stream;
 use feed_node_connection::{Progress, Respond, Share, Shortage};
 use feed_node_turns::{ReadyQueues, TurnRest};
+use feed_resolver_request::ReceivedRequest;
 use slab::Slab;
 use std::alloc::{AllocError, Global};
 use std::net::SocketAddr;
@@ -333,7 +334,7 @@ impl<T: Stream> Table<T> {
     /// Gives a connection a share of the turn: it receives, replies and sends until its stream would block, a reply was
     /// sent, or the share is used. `free_memory` was called before, so that its reply is the only one past the limit.
     /// If the last step marked it as ready, it is not any more.
-    pub fn advance<S: Respond>(
+    pub fn serve_peer<S: Respond>(
         &mut self,
         turn: Turn,
         alloc: Global,
@@ -356,12 +357,12 @@ impl<T: Stream> Table<T> {
             return Progress::Blocked;
         };
         let rest = self.held - peer.held();
-        let progress = peer.advance(alloc, responder, buffer, turn.now, share);
+        let progress = peer.exchange(alloc, responder, buffer, turn.now, share);
         self.held = rest + peer.held();
         progress
     }
 
-    // Does what follows `advance`, but leaves the queues as they are.
+    // Does what follows `serve_peer`, but leaves the queues as they are.
     fn settle_peer<L: Log>(
         &mut self,
         key: usize,
@@ -400,9 +401,9 @@ impl<T: Stream> Table<T> {
     }
 
     /// Returns the request of a connection whose reply is streamed, from when the reply is made.
-    pub fn streamed_request(&self, key: usize) -> Option<&[u8]>
-        ensures { IfSome result (λ bytes. IsSomeAnd (peer_at self.now key)
-            (λ peer. bytes.now ≡ request_of peer.connection)) }
+    pub fn streamed_request(&self, key: usize) -> Option<ReceivedRequest<'_>>
+        ensures { IfSome result (λ received. IsSomeAnd (peer_at self.now key)
+            (λ peer. received.bytes.now ≡ request_of peer.connection)) }
     {
         match self.peers.get(key) {
             Some(peer) => peer.streamed_request(),
@@ -410,8 +411,8 @@ impl<T: Stream> Table<T> {
         }
     }
 
-    /// Does what follows `advance`, by how that ended: records a reply that was sent, marks the connection as ready if
-    /// it has more to do, and removes it if it is over. A reply that was sent ended now.
+    /// Does what follows `serve_peer`, by how that ended: records a reply that was sent, marks the connection as ready
+    /// if it has more to do, and removes it if it is over. A reply that was sent ended now.
     pub fn settle<L: Log>(
         &mut self,
         key: usize,

@@ -2,11 +2,11 @@ use Rattle.std.proofs.Common.{◌++◌, sym, subst}
 use Rattle.std.proofs.Math.Logic.{∥∥₁_map}
 use Rattle.feed_node_table.specs.Connections.{HasServed}
 use Rattle.feed_node_table.proofs.Shares.{served_none}
-use Rattle.feed_node_table.proofs.peer.Peer.advance.Goals as goal
+use Rattle.feed_node_table.proofs.peer.Peer.exchange.Goals as goal
 
 pub invariant_of-self : goal.invariant_of-self
 invariant_of-self g c = record {
-  stateful = ∥∥₁_map c.args.self.now.stateful (λ was. let moved = c.advance-progress.ensures.moved was.0 was.1 in (moved.more ++ was.0, moved.state));
+  stateful = ∥∥₁_map c.args.self.now.stateful (λ was. let moved = c.transfer-progress.ensures.moved was.0 was.1 in (moved.more ++ was.0, moved.state));
 }
 
 pub returns-then-is_over-clause-served : goal.returns-then-is_over-clause-served
@@ -16,7 +16,7 @@ returns-then-is_over-clause-served g c =
 
 pub returns-clause-served : goal.returns-clause-served
 returns-clause-served g c =
-    subst (λ connection. HasServed (g.S.Respond.wanted c.args.responder.now, g.S.Respond.replies c.args.responder.now) c.advance-progress.result c.args.share.now
-    c.advance-progress.new.share c.args.self.now.connection connection)
+    subst (λ connection. HasServed (g.S.Respond.wanted c.args.responder.now, g.S.Respond.replies c.args.responder.now) c.transfer-progress.result c.args.share.now
+    c.transfer-progress.new.share c.args.self.now.connection connection)
     (sym c.note_times.ensures.connection)
-    (record { moved = c.advance-progress.ensures.moved; still = c.advance-progress.ensures.still; stopped = c.advance-progress.ensures.stopped })
+    (record { moved = c.transfer-progress.ensures.moved; still = c.transfer-progress.ensures.still; stopped = c.transfer-progress.ensures.stopped })
