@@ -50,7 +50,7 @@ module _ {T K S : Type 0} {k : Ghosts K} (wanted : S → RequestHead → ℕ)
     where
       last_asked : (peer : Peer T) → KnowsRequest peer.connection (events_of key history) → bytes ≡ request_of peer.connection → IsLastOf (requests_in (events_of key history)) bytes
       last_asked peer (inl none) same =
-          let empty : bytes ≡ [] = same ∙ rw none (none_taken peer.connection.received.items) in
+          let empty : bytes ≡ [] = same ∙ rw none (none_taken peer.connection.received.bytes.items) in
           asks_nothing is_busy token (Ok name) (subst (λ t. IsFetchBy is_busy token t (Some (Ok name))) empty asks)
       last_asked peer (inr last) same = subst (IsLastOf (requests_in (events_of key history))) (sym same) last
 

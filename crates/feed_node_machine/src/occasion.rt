@@ -1,10 +1,9 @@
 //! The trait `FeedRespond`, which makes the replies of a node from its feed.
 use feed_embargo::Today;
-use feed_http_heads::Request;
 use feed_keep::Keep;
 use feed_node_connection::{BODY_LIMIT, IncomingRequest, Reply, Respond, RespondFault};
 use feed_releases::Feed;
-use feed_resolver_request::FetchPolicy;
+use feed_resolver_request::{FetchPolicy, ParsedRequest};
 use std::alloc::{AllocError, Global};
 
 /// The feed and the circumstances from which a responder makes a reply.
@@ -25,7 +24,7 @@ pub trait FeedRespond {
     ghost use Rattle.std.specs.Prelude.{◌≡◌, ◌≤◌, List, ℕ, Bool, true, Some, IfOk};
     ghost use Rattle.httparse.specs.Grammar.{RequestHead};
     ghost use Rattle.feed_http_heads.specs.Options.{SaysWhetherItKeeps};
-    ghost use Rattle.feed_http_heads.specs.Requests.{IsInBuffer, HasHead};
+    ghost use Rattle.feed_http_heads.specs.Requests.{HasHead};
     ghost use Rattle.feed_model.specs.History.{History};
     ghost use Rattle.feed_node_connection.specs.Requests.{IsPersistent};
     ghost use Rattle.feed_node_machine.specs.Rules.{Terms};
@@ -39,9 +38,8 @@ pub trait FeedRespond {
     ghost replies: { Self → Terms → History → List ℕ → List ℕ → Bool → List ℕ → Type 0 };
 
     /// Returns how many bytes of a body are received after the head of a request: at most 8,192, and 0 for none.
-    fn body_len(&self, request: &Request<'_>) -> usize
-        requires { IsInBuffer request.now }
-        ensures wanted { (head : RequestHead) → HasHead request.now head → result ≡ wanted self.now head }
+    fn body_len(&self, parsed: &ParsedRequest<'_>) -> usize
+        ensures wanted { (head : RequestHead) → HasHead parsed.now.request head → result ≡ wanted self.now head }
         ensures limit { result ≤ BODY_LIMIT };
 
     /// Returns the reply to a request. The reply says `Connection: close` exactly if the connection does not persist
@@ -53,9 +51,9 @@ pub trait FeedRespond {
         request: &IncomingRequest<'_>,
     ) -> Result<Reply, RespondFault>
         requires allowed { request.now.persists ≡ true
-            → IsPersistent (wanted self.now) request.now.head.now request.now.body.now }
+            → IsPersistent (wanted self.now) request.now.received.bytes.now request.now.body.now }
         ensures reply { IfOk result (λ reply. IsReplyOn (replies self.now) occasion.now
-            request.now.head.now request.now.body.now request.now.persists (Some reply.bytes.items)) }
+            request.now.received.bytes.now request.now.body.now request.now.persists (Some reply.bytes.items)) }
         ensures says { IfOk result (λ reply. SaysWhetherItKeeps request.now.persists reply.bytes.items) };
 
     /// Keeps what it computes of the active releases alone, which changes no reply. Returns whether that changed.
@@ -109,8 +107,8 @@ impl<'s, 'f, 't, K: Keep, S: FeedRespond> Respond for MomentResponder<'s, 'f, 't
 
     ghost replies = { λ moment. IsReplyOn (S.replies moment.responder.now) moment.occasion };
 
-    fn body_len(&self, request: &Request<'_>) -> usize {
-        self.responder.body_len(request)
+    fn body_len(&self, parsed: &ParsedRequest<'_>) -> usize {
+        self.responder.body_len(parsed)
     }
 
     fn respond(&self, alloc: Global, request: &IncomingRequest<'_>) -> Result<Reply, RespondFault> {

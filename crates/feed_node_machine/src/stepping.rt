@@ -24,8 +24,8 @@ impl<'a, T: Stream, K: Keep, S: FeedRespond + Drop> NodeMachine<'a, T, K, S> {
         }
     }
 
-    // Gives a connection a share of the turn.
-    fn serve(
+    // Gives a connection a share of the turn, in which it replies from the feed as it is.
+    fn serve_from_feed(
         &mut self,
         turn: Turn,
         is_local: bool,
@@ -45,7 +45,8 @@ impl<'a, T: Stream, K: Keep, S: FeedRespond + Drop> NodeMachine<'a, T, K, S> {
             is_local,
             self.today,
         );
-        self.table.advance(turn, self.alloc, &moment, buffer, share)
+        self.table
+            .serve_peer(turn, self.alloc, &moment, buffer, share)
     }
 
     // Notes the release that the request of a connection makes the node fetch, if its reply is streamed.
@@ -54,10 +55,10 @@ impl<'a, T: Stream, K: Keep, S: FeedRespond + Drop> NodeMachine<'a, T, K, S> {
             → HasAsked S.wanted S.replies key self.new history }
         ensures rest { KeepsRest key self.old self.new }
     {
-        let Some(bytes) = self.table.streamed_request(key) else {
+        let Some(received) = self.table.streamed_request(key) else {
             return;
         };
-        if let Some(asked) = fetch_to_begin(self.alloc, bytes, &self.policy()) {
+        if let Some(asked) = fetch_to_begin(self.alloc, &received, &self.policy()) {
             self.requested = Some(asked);
         }
     }
@@ -66,7 +67,7 @@ impl<'a, T: Stream, K: Keep, S: FeedRespond + Drop> NodeMachine<'a, T, K, S> {
     /// sent, or the share is used. The replies are those to the feed as it is. A request that has the token may ask for
     /// a release, which is to be fetched next. `free_memory` was called before, so that the reply is the only one past
     /// the limit. `is_local` is whether the client is on the same machine.
-    pub fn advance(
+    pub fn serve_share(
         &mut self,
         turn: Turn,
         is_local: bool,
@@ -80,15 +81,15 @@ impl<'a, T: Stream, K: Keep, S: FeedRespond + Drop> NodeMachine<'a, T, K, S> {
         ensures rest { KeepsRest turn.key self.old self.new }
     {
         let replies = share.replies;
-        let progress = self.serve(turn, is_local, buffer, share);
+        let progress = self.serve_from_feed(turn, is_local, buffer, share);
         if share.replies < replies {
             self.note_request(turn.key);
         }
         progress
     }
 
-    /// Does what follows `advance`, by how that ended: records a reply that was sent, marks the connection as ready if
-    /// it has more to do, and removes it if it is over.
+    /// Does what follows `serve_share`, by how that ended: records a reply that was sent, marks the connection as ready
+    /// if it has more to do, and removes it if it is over.
     pub fn settle<L: Log>(
         &mut self,
         key: usize,

@@ -362,15 +362,15 @@ impl Server {
         ensures { IsLater S.wanted S.replies node.old node.new }
     {
         let mut share = TURN_SHARE;
-        if self.advance(key, &mut share, rt, node, log)? == Outcome::Resumed {
-            self.advance(key, &mut share, rt, node, log)?;
+        if self.next_reply(key, &mut share, rt, node, log)? == Outcome::Resumed {
+            self.next_reply(key, &mut share, rt, node, log)?;
         }
         Ok(())
     }
 
     // Has a connection use its share until a reply was sent, once there is memory for another reply. The step begins at
     // the last reading of the clock, so that one reading for each step is enough.
-    fn advance<K: Keep, S: FeedRespond + Drop, L: Log>(
+    fn next_reply<K: Keep, S: FeedRespond + Drop, L: Log>(
         &mut self,
         key: usize,
         share: &mut Share,
@@ -383,7 +383,7 @@ impl Server {
         node.free_memory(self.now, log);
         let is_local = node.table().addr(key).is_some_and(is_local);
         let turn = Turn { key, now: self.now };
-        let progress = node.advance(turn, is_local, &mut self.buffer, share);
+        let progress = node.serve_share(turn, is_local, &mut self.buffer, share);
         self.read_clock(rt)?;
         let outcome = node.settle(key, progress, self.now, log);
         if outcome == Outcome::Streams {

@@ -1,6 +1,6 @@
 //! The socket of a client.
 use feed_node_connection::{
-    Connection, Progress, Reading, Respond, Share, Sides, Writing, advance,
+    Connection, Progress, Reading, Respond, Share, Sides, Writing, run_connection,
 };
 use feed_node_table::Stream;
 use mio::net::TcpStream;
@@ -28,7 +28,7 @@ impl Stream for Socket {
         let _ = self.stream.shutdown(Shutdown::Write);
     }
 
-    fn advance<S: Respond>(
+    fn transfer<S: Respond>(
         &self,
         connection: &mut Connection,
         alloc: Global,
@@ -44,6 +44,6 @@ impl Stream for Socket {
                 writer: &self.stream,
             },
         };
-        advance(connection, alloc, responder, &mut sides, buffer, share)
+        run_connection(connection, alloc, responder, &mut sides, buffer, share)
     }
 }

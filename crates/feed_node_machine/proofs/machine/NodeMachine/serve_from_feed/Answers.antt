@@ -8,7 +8,7 @@ use Rattle.feed_node_machine.specs.NodeEvents.{feed_history, today_in}
 use Rattle.feed_node_machine.specs.Occasions.{IsReplyOn}
 use Rattle.feed_node_machine.proofs.Shares.{MovesBy, reply_to, serve_moves}
 use Rattle.feed_node_machine.proofs.Tabled.{moved}
-use Rattle.feed_node_machine.proofs.machine.NodeMachine.serve.Goals as goal
+use Rattle.feed_node_machine.proofs.machine.NodeMachine.serve_from_feed.Goals as goal
 
 pub returns-clause-history : goal.returns-clause-history
 returns-clause-history g c = λ history has.
@@ -18,9 +18,9 @@ returns-clause-history g c = λ history has.
     let named : moment.occasion.policy.token ≡ token = ap (λ (policy : FetchPolicyValue). policy.token) c.new-moment.ensures.policy ∙ c.policy-policy.ensures in
     let day : today_in history ≡ Some moment.occasion.today = has.today ∙ ap (λ (today : TodayValue). Some today) (sym c.new-moment.ensures.today) in
     let moves = serve_moves (g.S.FeedRespond.wanted moment.responder.now, g.S.FeedRespond.replies moment.responder.now)
-    (IsReplyOn (g.S.FeedRespond.replies moment.responder.now) moment.occasion) token moment.occasion.policy.is_busy moment.occasion.is_local moment.occasion.today c.args.turn.key c.advance.result
-    c.args.share.now c.advance.new.share c.args.self.now.table c.advance.new.self history
+    (IsReplyOn (g.S.FeedRespond.replies moment.responder.now) moment.occasion) token moment.occasion.policy.is_busy moment.occasion.is_local moment.occasion.today c.args.turn.key c.serve_peer.result
+    c.args.share.now c.serve_peer.new.share c.args.self.now.table c.serve_peer.new.self history
     (reply_to (g.S.FeedRespond.replies moment.responder.now) moment.occasion token (feed_history history) named content)
-    c.advance.ensures.served c.advance.ensures.others c.advance.ensures.absent has.connections day in
-    moved g.S.FeedRespond.wanted g.S.FeedRespond.replies c.args.self.now c.advance.new.self c.args.turn.key history
-    (subst (λ responder. MovesBy (g.S.FeedRespond.wanted responder, g.S.FeedRespond.replies responder) token c.args.turn.key c.advance.new.self history) c.new-moment.ensures.responder moves) has
+    c.serve_peer.ensures.served c.serve_peer.ensures.others c.serve_peer.ensures.absent has.connections day in
+    moved g.S.FeedRespond.wanted g.S.FeedRespond.replies c.args.self.now c.serve_peer.new.self c.args.turn.key history
+    (subst (λ responder. MovesBy (g.S.FeedRespond.wanted responder, g.S.FeedRespond.replies responder) token c.args.turn.key c.serve_peer.new.self history) c.new-moment.ensures.responder moves) has

@@ -1,8 +1,8 @@
-use Rattle.feed_node_server.proofs.socket.SocketStream.advance.Goals as goal
+use Rattle.feed_node_server.proofs.socket.SocketStream.transfer.Goals as goal
 
 pub returns-clause-moved : goal.returns-clause-moved
 returns-clause-moved g c = λ history state.
-    let it = c.advance.ensures.advanced history state in
+    let it = c.run_connection.ensures.advanced history state in
     record {
       more = it.more;
       state = it.state;
