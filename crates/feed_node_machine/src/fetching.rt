@@ -8,14 +8,13 @@ ghost use Rattle.feed_node_machine.specs.Nodes.{HasHistory, HasTaken, HasTakenPa
 
 use crate::machine::NodeMachine;
 use crate::occasion::FeedRespond;
-use feed_fetch::{Fetch, Printer, RequestFault, Stop};
+use feed_fetch::{Fetch, Observe, RequestFault, Stop};
 use feed_http::{FilePart, Got};
 use feed_keep::Keep;
 use feed_names::{NameFault, ReleaseName};
 use feed_node_table::Stream;
 use feed_releases::Feed;
 use std::alloc::AllocError;
-use std::io::Write;
 
 /// A fetch that is under way.
 #[derive(Drop)]
@@ -74,10 +73,10 @@ impl<'a, T: Stream, K: Keep, S: FeedRespond + Drop> NodeMachine<'a, T, K, S> {
 
     /// Takes the reply to the last request of the fetch that is under way, or why there is none. Returns why the fetch
     /// stops, if it does.
-    pub fn take_reply<O: Write>(
+    pub fn take_reply<O: Observe>(
         &mut self,
         reply: &Result<Got, RequestFault>,
-        out: &mut Printer<O>,
+        out: &mut O,
     ) -> Result<(), Stop>
         ensures taken { (history : List NodeEvent) → HasHistory S.wanted S.replies self.old history
             → HasTaken S.wanted S.replies reply.now self.old self.new history }
@@ -96,11 +95,7 @@ impl<'a, T: Stream, K: Keep, S: FeedRespond + Drop> NodeMachine<'a, T, K, S> {
 
     /// Takes a part of a whole file whose length the reply stated, before the rest of it has arrived. Returns whether
     /// the part had new bytes, or why the fetch stops.
-    pub fn take_part<O: Write>(
-        &mut self,
-        part: &FilePart<'_>,
-        out: &mut Printer<O>,
-    ) -> Result<bool, Stop>
+    pub fn take_part<O: Observe>(&mut self, part: &FilePart<'_>, out: &mut O) -> Result<bool, Stop>
         ensures taken { (history : List NodeEvent) → HasHistory S.wanted S.replies self.old history
             → HasTakenPart S.wanted S.replies part.now.first part.now.length part.now.bytes.now
             self.old self.new history }
