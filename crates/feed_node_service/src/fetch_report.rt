@@ -21,8 +21,6 @@ pub struct FetchReport<'a> {
     pub was_reported: bool,
     /// The rows of the active release of its package then.
     pub before: usize,
-    /// Whether the counts of the release were sent.
-    pub has_counts: bool,
     /// The bytes of the list that have arrived.
     pub bytes: u64,
     /// The system's error, if the last connection failed.
@@ -42,7 +40,6 @@ impl<'a> FetchReport<'a> {
             begun: Instant::now(rt).ok(),
             was_reported,
             before,
-            has_counts: was_reported,
             bytes: 0,
             fault: None,
         }

@@ -1,5 +1,5 @@
 //! Fetches releases for a node, one request at a time, between the turns of its loop.
-ghost use Rattle.std.specs.Prelude.{◌≡◌, ◌≤◌, length};
+ghost use Rattle.std.specs.Prelude.{◌≡◌, ◌≤◌};
 ghost use Rattle.feed_limits.specs.Limits.{piece_limit};
 ghost use Rattle.feed_node_service.specs.Runs.{IsLaterNode};
 
@@ -14,7 +14,8 @@ use crate::today::unix_seconds;
 use crate::watched_file::WatchedFile;
 use feed_dial::DialFault;
 use feed_fetch::{
-    FetchEnd, Next, Printer, Request, RequestFault, Stop, is_reported, print_end, print_name_fault,
+    FetchEnd, FetchEvent, Next, Observe, Printer, Request, RequestFault, Stop, Unprinted,
+    is_reported, print_end, print_name_fault,
 };
 use feed_file_checks::{
     FileCheck, HeldList, ListCounts, Mismatch, active_counts, gate_by, rows_before,
@@ -23,6 +24,7 @@ use feed_http::{FilePart, Got, Method, is_host, read_reply, write_head_request, 
 use feed_http_heads::HttpFault;
 use feed_keep::Keep;
 use feed_limits::PIECE_LIMIT;
+use feed_model::Reply;
 use feed_node_machine::Fetching;
 use feed_node_server::{Destination, OutgoingRequest, ServedNode, Server};
 use feed_options::{NodeOptions, Source};
@@ -65,6 +67,31 @@ struct RunningExchange {
     at: usize,
     exchange: Exchange,
     check: FileCheck,
+}
+
+// The lines of the events of a fetch, up to the one by which the feed switches to the release.
+#[derive(Drop)]
+struct EventLines {
+    lines: Printer<Vec<u8>>,
+    has_switched: bool,
+}
+
+impl Observe for EventLines {
+    ghost use Rattle.feed_fetch.specs.Printing.{has_failed};
+
+    ghost has_failed = { λ events. has_failed events.lines };
+
+    fn observe(&mut self, event: FetchEvent) -> Result<(), Unprinted> {
+        if let FetchEvent::Accepted(Reply::Activated) = event {
+            self.has_switched = true;
+            return Ok(());
+        }
+        self.lines.print(event)
+    }
+
+    fn finish(&mut self) -> Result<(), Unprinted> {
+        self.lines.finish()
+    }
 }
 
 impl<'a> Fetcher<'a> {
@@ -337,8 +364,12 @@ impl<'a> Fetcher<'a> {
         let Some(mut running) = self.running.take() else {
             return true;
         };
-        let mut lines = Vec::new(self.rt.alloc());
-        let step = self.take_arrived(server, node, &mut running, &mut lines);
+        let mut events = EventLines {
+            lines: self.lines(),
+            has_switched: false,
+        };
+        let step = self.take_arrived(server, node, &mut running, &mut events);
+        let lines = self.print_switch(node, events);
         if !lines.is_empty() && !self.file.is_there() {
             return false;
         }
@@ -382,7 +413,7 @@ impl<'a> Fetcher<'a> {
         server: &mut Server,
         node: &mut FeedNode<'_, K>,
         running: &mut RunningExchange,
-        lines: &mut Vec<u8>,
+        events: &mut EventLines,
     ) -> Step
         ensures { IsLaterNode node.old node.new }
     {
@@ -390,7 +421,7 @@ impl<'a> Fetcher<'a> {
             return Step::Wait;
         };
         for _ in 0..PARTS {
-            match self.take_next(node, running, outgoing, lines) {
+            match self.take(node, running, outgoing, events) {
                 Step::Again => {}
                 step => return step,
             }
@@ -398,30 +429,13 @@ impl<'a> Fetcher<'a> {
         Step::Again
     }
 
-    // Takes the next part of the reply that has arrived, or the reply, and appends the answers of the feed. The counts
-    // of a release that it switches to are ahead of its last answer.
-    fn take_next<K: Keep>(
-        &mut self,
-        node: &mut FeedNode<'_, K>,
-        running: &mut RunningExchange,
-        outgoing: &mut OutgoingRequest,
-        lines: &mut Vec<u8>,
-    ) -> Step
-        ensures later { IsLaterNode node.old node.new }
-        ensures refused { (mismatch : Mismatch) → result ≡ Step.Refuse mismatch → node.new ≡ node.old }
-    {
-        let mut answers = self.lines();
-        let step = self.take(node, running, outgoing, &mut answers);
-        let _ = self.put_answers(node, &answers.into_writer(), lines);
-        step
-    }
-
+    // Takes the next part of the reply that has arrived, or the reply.
     fn take<K: Keep>(
         &mut self,
         node: &mut FeedNode<'_, K>,
         running: &mut RunningExchange,
         outgoing: &mut OutgoingRequest,
-        lines: &mut Printer<Vec<u8>>,
+        events: &mut EventLines,
     ) -> Step
         ensures later { IsLaterNode node.old node.new }
         ensures refused { (mismatch : Mismatch) → result ≡ Step.Refuse mismatch → node.new ≡ node.old }
@@ -430,45 +444,39 @@ impl<'a> Fetcher<'a> {
         match running.exchange.look(outgoing, &running.check) {
             Step::Part(part) => {
                 self.report.add(part.to.saturating_sub(part.from));
-                take_part(self.rt, node, running, outgoing, part, lines)
+                take_part(self.rt, node, running, outgoing, part, events)
             }
             Step::Parse => {
                 let reply = self.parse_reply(running.exchange.method(), outgoing);
                 self.report.add_reply(&reply);
-                take_reply(self.rt, node, &mut running.check, &reply, lines)
+                take_reply(self.rt, node, &mut running.check, &reply, events)
             }
             Step::Fail(fault) => {
                 let reply = Err(RequestFault::Http(fault));
-                take_reply(self.rt, node, &mut running.check, &reply, lines)
+                take_reply(self.rt, node, &mut running.check, &reply, events)
             }
             Step::End(FetchEnd::NoRanges) => {
                 let fault = RequestFault::Http(HttpFault::BodyTooLong);
-                let _ = node.take_reply(&Err(fault), lines);
+                let _ = node.take_reply(&Err(fault), events);
                 Step::End(FetchEnd::NoRanges)
             }
             step => step,
         }
     }
 
-    // Appends answers of the feed, with the counts of the release ahead of the last one if the feed switched to it.
-    fn put_answers<K: Keep>(
-        &mut self,
-        node: &FeedNode<'_, K>,
-        answers: &[u8],
-        lines: &mut Vec<u8>,
-    ) -> Result<(), AllocError> {
-        if self.report.has_counts || answers.is_empty() || !is_answered(node) {
-            return Ok(lines.extend_from_slice(answers)?);
+    // Returns the lines of the events. The counts of a release that the feed switched to are ahead of that event.
+    fn print_switch<K: Keep>(&self, node: &FeedNode<'_, K>, events: EventLines) -> Vec<u8> {
+        let EventLines {
+            mut lines,
+            has_switched,
+        } = events;
+        if has_switched {
+            if let Some(counts) = counts_of_active(node) {
+                print_counts(&mut lines, counts, self.report.before);
+            }
+            let _ = lines.print(FetchEvent::Accepted(Reply::Activated));
         }
-        self.report.has_counts = true;
-        let (front, last) = answers.split_at(last_line_at(answers));
-        lines.extend_from_slice(front)?;
-        if let Some(counts) = counts_of_active(node) {
-            let mut printer = self.lines();
-            print_counts(&mut printer, counts, self.report.before);
-            lines.extend_from_slice(&printer.into_writer())?;
-        }
-        Ok(lines.extend_from_slice(last)?)
+        lines.into_writer()
     }
 
     // Parses the reply to the last request.
@@ -486,7 +494,7 @@ fn take_reply<K: Keep>(
     node: &mut FeedNode<'_, K>,
     check: &mut FileCheck,
     reply: &Result<Got, RequestFault>,
-    lines: &mut Printer<Vec<u8>>,
+    events: &mut EventLines,
 ) -> Step
     ensures later { IsLaterNode node.old node.new }
     ensures refused { (mismatch : Mismatch) → result ≡ Step.Refuse mismatch → node.new ≡ node.old }
@@ -494,7 +502,7 @@ fn take_reply<K: Keep>(
     if let Some(mismatch) = mismatch_of(rt.alloc(), node, check, reply) {
         return Step::Refuse(mismatch);
     }
-    match submit(node, check, reply, lines) {
+    match submit(node, check, reply, events) {
         Ok(()) => Step::Send,
         Err(stop) => Step::End(FetchEnd::Stopped(stop)),
     }
@@ -505,7 +513,7 @@ fn submit<K: Keep>(
     node: &mut FeedNode<'_, K>,
     check: &FileCheck,
     reply: &Result<Got, RequestFault>,
-    lines: &mut Printer<Vec<u8>>,
+    events: &mut EventLines,
 ) -> Result<(), Stop>
     ensures { IsLaterNode node.old node.new }
 {
@@ -525,12 +533,12 @@ fn submit<K: Keep>(
                 length: total.unwrap_or(size),
                 bytes: bytes.as_slice(),
             };
-            match node.take_part(&part, lines) {
+            match node.take_part(&part, events) {
                 Ok(_) => Ok(()),
                 Err(stop) => Err(stop),
             }
         }
-        _ => node.take_reply(reply, lines),
+        _ => node.take_reply(reply, events),
     }
 }
 
@@ -584,7 +592,7 @@ fn take_part<K: Keep>(
     running: &mut RunningExchange,
     outgoing: &mut OutgoingRequest,
     part: WholePart,
-    lines: &mut Printer<Vec<u8>>,
+    events: &mut EventLines,
 ) -> Step
     ensures later { IsLaterNode node.old node.new }
     ensures refused { (mismatch : Mismatch) → result ≡ Step.Refuse mismatch → node.new ≡ node.old }
@@ -600,7 +608,7 @@ fn take_part<K: Keep>(
     if let Some(mismatch) = part_mismatch(rt.alloc(), node, &mut running.check, &found) {
         return Step::Refuse(mismatch);
     }
-    match node.take_part(&found, lines) {
+    match node.take_part(&found, events) {
         Ok(is_new) => {
             let step = running.exchange.pass(outgoing, part, is_new);
             if is_done(node) { Step::Send } else { step }
@@ -635,19 +643,6 @@ fn rows_of_active<K: Keep>(node: &FeedNode<'_, K>) -> usize {
 fn print_counts(lines: &mut Printer<Vec<u8>>, counts: ListCounts, before: usize) {
     let ListCounts { rows, aside } = counts;
     let _ = lines.print(format_args!("rows {rows} aside {aside}, before {before}"));
-}
-
-// Returns the place of the last line of a text.
-fn last_line_at(text: &[u8]) -> usize
-    ensures { result ≤ length text.now }
-{
-    let Some((_, before)) = text.split_last() else {
-        return 0;
-    };
-    match before.iter().rposition(|byte| *byte == b'\n') {
-        Some(place) => place.saturating_add(1).min(text.len()),
-        None => 0,
-    }
 }
 
 // Returns the most bytes of a request, 1 to 1,048,576.

@@ -5,4 +5,4 @@ pub loop-init : goal.loop-init
 loop-init g c = later_same c.args.node.now
 
 pub loop-preserved : goal.loop-preserved
-loop-preserved g c = later_after c.args.node.now c.loop.node c.take_next.new.node c.loop.invariant c.take_next.ensures.later
+loop-preserved g c = later_after c.args.node.now c.loop.node c.take.new.node c.loop.invariant c.take.ensures.later
