@@ -155,8 +155,8 @@ impl Fetch {
     }
 
     /// Takes a part of a whole file whose length the reply stated, before the rest of it has arrived: submits it to the
-    /// feed as a piece, and passes the feed's answer to the observer. Returns whether the part had new bytes, or why the
-    /// fetch stops.
+    /// feed as a piece, and passes the feed's answer to the observer. Returns whether the part had new bytes, or why
+    /// the fetch stops.
     pub fn take_part<K: Keep, O: Observe>(
         &mut self,
         feed: &mut Feed<K>,

@@ -174,8 +174,8 @@ fn put_page<'a>(
     put_hits_page(alloc, out, context.library(), query.pairs(), &ask, &found)
 }
 
-/// Writes the answer of the given releases to a query, from the tally of its hits: the hits as text, or what it asks and
-/// the hits of highest rank as JSON or as a page.
+/// Writes the answer of the given releases to a query, from the tally of its hits: the hits as text, or what it asks
+/// and the hits of highest rank as JSON or as a page.
 pub(crate) fn put_counted<'a>(
     alloc: Global,
     out: &mut Vec<u8>,

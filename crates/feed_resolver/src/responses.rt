@@ -448,9 +448,9 @@ pub fn respond_with(
 }
 
 /// Returns the whole reply to a request. The body is that of a form, whose length `form_length` returns, and is ignored
-/// for any other request. Uses only the active releases of the feed, the site and the day. Reads and writes nothing, and
-/// stores nothing. The reply says `Connection: close` exactly if the connection is not kept for another request
-/// (RFC 9112, section 9.6).
+/// for any other request. Uses only the active releases of the feed, the site and the day. Reads, writes and stores
+/// nothing. The reply says `Connection: close` exactly if the connection is not kept for another request (RFC 9112,
+/// section 9.6).
 ///
 /// # Errors
 ///

@@ -8,7 +8,8 @@ ghost use Rattle.feed_page_texts.specs.declared.table.Text.TheVariants as page;
 ghost use Rattle.feed_resolver_page.specs.ErrorPages.{error_body, error_reply};
 ghost use Rattle.feed_resolver_page.specs.QueryRefusals.{asks_for_form, form_page};
 ghost use Rattle.feed_resolver_page.specs.QueryRefusals.{is_numberless, nothing_json, nothing_part};
-ghost use Rattle.feed_resolver_page.specs.QueryRefusals.{nothing_text, numberless_body, numberless_reply, numberless_status};
+ghost use Rattle.feed_resolver_page.specs.QueryRefusals.{nothing_text, numberless_body, numberless_reply};
+ghost use Rattle.feed_resolver_page.specs.QueryRefusals.{numberless_status};
 ghost use Rattle.feed_resolver_page.specs.QueryRefusals.{page_of_nothing};
 ghost use Rattle.feed_resolver_page.specs.QueryRefusals.{reason_text, unasked_reply};
 
