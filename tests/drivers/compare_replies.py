@@ -16,8 +16,9 @@ These are compared for each connection: all bytes received, but for the values o
 the times in /feed. At the end of a world: the log without its times and milliseconds, standard error without seconds,
 and all counters of /metrics, but those of durations. The count of bytes sent is compared less the bytes received.
 
-A node that starts is left out, and so are clients that reset a connection, read slowly or exceed a time limit: there
-the moment decides. At midnight (UTC) a reply may differ by chance.
+At last nodes get a long list, and many connections at once while they check it. They are compared as far as both nodes
+still start. Clients that reset a connection, read slowly or exceed a time limit are left out: there the moment decides.
+At midnight (UTC) a reply may differ by chance.
 
 Prints a line for each world, with the number of replies of each status. Prints the first difference in full, and exits
 with 1 then. --world N runs one world alone, to repeat a difference."""
@@ -56,6 +57,9 @@ PATIENCE, QUIET, LOOK = 60, 0.004, 0.000_2
 
 # The requests of each world: one setting, lists and a site file.
 WORLD = 500
+# The folders of the two nodes. The rows of the list that a node checks as it starts, how many connections it gets at
+# once then, and how often that is tried.
+NODES, ROWS, AT_ONCE, TRIES = ["old", "new"], 80_000, 100, 3
 # The settings, each with the options of its nodes. Those of OURS say what the site file has, or that there is no list.
 OURS = ["--redirects", "--german", "--empty"]
 SETTINGS = {
@@ -307,11 +311,9 @@ class Node:
 
     def __init__(self, program, folder, words):
         self.program, self.folder, self.arrivals, self.received = program, folder, Arrivals(), 0
+        self.before, self.received_before = {}, 0
         self.start(words)
         self.descriptors = self.count_descriptors()
-        self.wait_until_ready()
-        self.received_before = self.received
-        self.before = self.counters()
 
     def start(self, words):
         """Starts the node at a port that is free."""
@@ -332,6 +334,8 @@ class Node:
         """Waits until the lists are checked. A node that waits for a package replies 503 to readers then, too."""
         for _ in range(1_000):
             if b" 200 OK" in self.get("/status") or b"\nkbfeed_active_release" in self.get("/metrics"):
+                self.received_before = self.received
+                self.before = self.counters()
                 return
             time.sleep(0.05)
         sys.exit(f"compare_replies: a node of {self.program} does not get ready")
@@ -370,6 +374,23 @@ class Node:
         self.settle()
         return bytes(got)
 
+    def exchange_all(self, texts):
+        """Sends each text over a connection of its own, and returns what is received over each."""
+        peers, replies = [], []
+        for text in texts:
+            peers.append(socket.create_connection(self.address, timeout=PATIENCE))
+            peers[-1].sendall(text)
+            peers[-1].shutdown(socket.SHUT_WR)
+        for peer in peers:
+            with peer:
+                got = bytearray()
+                while receive(peer, got, PATIENCE):
+                    pass
+            self.received += len(got)
+            replies.append(bytes(got))
+        self.settle()
+        return replies
+
     def talk(self, peer, parts, ends_at_once, got):
         end, is_open, size = time.monotonic() + PATIENCE, True, 0
         for part in parts:
@@ -398,7 +419,15 @@ class Node:
             time.sleep(LOOK)
 
     def count_descriptors(self):
-        return len(os.listdir(f"/proc/{self.run.pid}/fd"))
+        try:
+            return len(os.listdir(f"/proc/{self.run.pid}/fd"))
+        except OSError:
+            return 0
+
+    def ended(self):
+        """Returns how the node ended, or nothing if it runs."""
+        faults = (self.folder / "faults").read_text(encoding="latin-1")
+        return [f"(the node ended with {self.run.returncode}: {faults[-2000:]})"] if self.run.poll() is not None else []
 
     def end(self):
         self.run.kill()
@@ -447,21 +476,22 @@ def make_world(dice, options):
     return world
 
 
-def make_database(program, world, folder):
-    """Makes a database with all lists."""
-    (folder / "lists").mkdir()
-    for it in world.lists:
-        (folder / "lists" / name_of(it)).write_text(world.list_text(it), encoding="utf-8")
+def make_database(program, folder):
+    """Makes a database with all lists of the folder, and a copy of it for each node."""
     with socket.create_server(("127.0.0.1", 0)) as free:
         address = "{}:{}".format(*free.getsockname())
     with subprocess.Popen([program, "serve", "lists", address], cwd=folder, stdout=subprocess.PIPE) as server:
         try:
             server.stdout.readline()
-            for it in world.lists:
-                subprocess.run([program, "fetch", "node.db", address, name_of(it)], cwd=folder, check=True,
+            for it in sorted((folder / "lists").iterdir()):
+                subprocess.run([program, "fetch", "node.db", address, it.name], cwd=folder, check=True,
                                stdout=subprocess.DEVNULL)
         finally:
             server.kill()
+    for name in NODES:
+        (folder / name).mkdir()
+        for it in folder.glob("node.db*"):
+            shutil.copy(it, folder / name)
 
 
 def node_words(options, world, folder, source):
@@ -489,19 +519,18 @@ def compare(title, setting, programs, dice, cases, folder):
     """Compares nodes of both programs in a world. Returns a line about it, or None after a difference."""
     options, began, statuses = SETTINGS[setting], time.monotonic(), collections.Counter()
     world, nodes, count, tried = make_world(dice, options), [], 0, 0
+    (folder / "lists").mkdir()
+    for it in [] if "--empty" in options else world.lists:
+        (folder / "lists" / name_of(it)).write_text(world.list_text(it), encoding="utf-8")
+    make_database(programs[0], folder)
     # Nothing listens here while the socket is bound.
     with socket.socket() as source, concurrent.futures.ThreadPoolExecutor(2) as pool:
         source.bind(("127.0.0.1", 0))
         words = node_words(options, world, folder, "{}:{}".format(*source.getsockname()))
-        if "--empty" not in options:
-            make_database(programs[0], world, folder)
         try:
-            for number, program in enumerate(programs):
-                place = folder / str(number)
-                place.mkdir()
-                for it in folder.glob("node.db*"):
-                    shutil.copy(it, place)
-                nodes.append(Node(program, place, words))
+            for name, program in zip(NODES, programs):
+                nodes.append(Node(program, folder / name, words))
+                nodes[-1].wait_until_ready()
             requests = Requests(dice, world)
             while tried < cases:
                 texts, ends_at_once = requests.connection(), dice.happens(0.6)
@@ -510,7 +539,8 @@ def compare(title, setting, programs, dice, cases, folder):
                 if masked(old) != masked(new):
                     sent = [line for part in parts for line in ["(a write)", *shown(part)]]
                     sent.append(f"(the end of the client's side, {'at once' if ends_at_once else 'after a while'})")
-                    report(f"{title}: connection {count} differs", sent, shown(old), shown(new))
+                    given = [[*shown(reply), *it.ended()] for reply, it in zip((old, new), nodes)]
+                    report(f"{title}: connection {count} differs", sent, *given)
                     return None
                 statuses.update(re.findall(rb"HTTP/1\.1 (\d\d\d) ", old))
                 if len(texts) == 1:
@@ -524,6 +554,53 @@ def compare(title, setting, programs, dice, cases, folder):
         return None
     codes = " ".join(f"{it.decode()}:{statuses[it]}" for it in sorted(statuses))
     return f"{title}: {tried} requests, {count} connections, {time.monotonic() - began:.0f} s, equal; {codes}"
+
+
+def observe_start(program, folder, batches):
+    """Returns for each batch of connections what a node gave while it checked its lists: replies, counters, log."""
+    node, seen, first = Node(program, folder, []), [], 0
+    try:
+        for number, batch in enumerate(batches):
+            replies, counted = node.exchange_all(batch), node.counted()
+            if not node.get(f"/status?batch={number}").startswith(b"HTTP/1.1 503 "):
+                break
+            # The connections of a batch end in any order. The line of that request may be a moment late.
+            lines = node.printed("log")
+            while not any(f"?batch={number} " in it for it in lines):
+                lines = node.printed("log")
+            seen.append((replies, [*counted, *sorted(lines[first:-1])]))
+            first = len(lines) - 1
+    finally:
+        node.end()
+    return seen
+
+
+def compare_start(programs, dice, folder):
+    """Compares nodes that check a long list, of which each program has one after the other."""
+    requests = Requests(dice, make_world(dice, []))
+    (folder / "lists").mkdir()
+    with open(folder / "lists" / "Many_2024-01-01.txt", "wb") as file:
+        rows = [sys.executable, pathlib.Path(__file__).parent / "many_rows.py", str(ROWS), "1"]
+        subprocess.run(rows, stdout=file, check=True)
+    make_database(programs[0], folder)
+    batches = [[b"".join(requests.connection())[:WRITE] for _ in range(AT_ONCE)] for _ in range(20)]
+    for _ in range(TRIES):
+        seen = [observe_start(program, folder / name, batches) for name, program in zip(NODES, programs)]
+        if all(seen):
+            break
+    else:
+        return "starting: not compared, since a node has checked the list before it replied"
+    count = 0
+    for batch, (old, old_lines), (new, new_lines) in zip(batches, *seen):
+        for text, one, other in zip(batch, old, new):
+            count += 1
+            if masked(one) != masked(other):
+                report("a connection to a node that starts differs", shown(text), shown(one), shown(other))
+                return None
+        if old_lines != new_lines:
+            report("counters or log of a node that starts differ", [f"({count} connections)"], old_lines, new_lines)
+            return None
+    return f"starting: {count} connections, equal"
 
 
 def main():
@@ -547,6 +624,12 @@ def main():
             print(f"repeat it by --seed {given.seed} --world {number}")
             return 1
         print(line, flush=True)
+    if given.world is None:
+        with tempfile.TemporaryDirectory() as place:
+            line = compare_start(programs, Dice(f"{given.seed} start"), pathlib.Path(place))
+        if line is None:
+            return 1
+        print(line)
     print(f"{given.cases} requests: none differ")
     return 0
 
