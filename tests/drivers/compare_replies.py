@@ -14,7 +14,7 @@ nothing listens at the address of the knowledge base.
 
 These are compared for each connection: all bytes received, but for the values of /metrics, the length of that page, and
 the times in /feed. At the end of a world: the log without its times and milliseconds, standard error without seconds,
-and all counters of /metrics, but those of durations. The count of bytes sent is compared less the bytes received.
+and all counters of /metrics, but those of times. The count of bytes sent is compared less the bytes received.
 
 At last nodes get a long list, and many connections at once while they check it. They are compared as far as both nodes
 still start. Clients that reset a connection, read slowly or exceed a time limit are left out: there the moment decides.
@@ -60,7 +60,7 @@ WORLD = 500
 # The folders of the two nodes. The rows of the list that a node checks as it starts, how many connections it gets at
 # once then, and how often that is tried.
 NODES, ROWS, AT_ONCE, TRIES = ["old", "new"], 80_000, 100, 3
-# The settings, each with the options of its nodes. Those of OURS say what the site file has, or that there is no list.
+# The settings, each with the options of its nodes. Those of OURS are for this program alone.
 OURS = ["--redirects", "--german", "--empty"]
 SETTINGS = {
     "plain": [],
@@ -254,7 +254,7 @@ class Requests:
         """Returns a text with some bytes changed, dropped or added, or its front."""
         dice, text = self.dice, bytearray(text)
         for _ in range(dice.choice([1, 1, 2, 5])):
-            at = dice.randrange(len(text))
+            at = dice.randrange(len(text) + 1)
             if dice.happens(0.6):
                 at = min(at, dice.randrange(40))
             span, byte = dice.choice([0, 1, 1, 3]), dice.choice([dice.randrange(256), *b"\r\n :/?&%\t\0"])
@@ -344,9 +344,9 @@ class Node:
         return self.exchange([f"GET {target} HTTP/1.0\r\n\r\n".encode()], True)
 
     def counters(self):
-        """Returns the counters of the node, but those of durations."""
+        """Returns the counters of the node, but those of times."""
         found = re.findall(r"^(kbfeed_\S+) (\d+)$", self.get("/metrics").decode("latin-1"), re.M)
-        return {name: int(value) for name, value in found if not re.search("duration|since|timestamp", name)}
+        return {name: int(value) for name, value in found if not re.search("_bucket|_sum|since", name)}
 
     def counted(self):
         """Returns by how much each counter grew. Of the bytes sent, those that the client received are taken off."""
@@ -432,6 +432,7 @@ class Node:
     def end(self):
         self.run.kill()
         self.run.wait()
+        self.arrivals.link.close()
 
 
 def receive(peer, got, seconds):
@@ -458,12 +459,16 @@ def shown(text):
 
 
 def report(title, sent, old, new):
-    """Prints a difference: what was sent, what both nodes gave, and how that differs."""
+    """Prints what was sent, what both nodes gave, and how that differs."""
     print(title)
     for name, lines in (("sent", sent), ("old", old), ("new", new)):
         print(f"--- {name}", *lines, sep="\n")
-    print("--- difference", *list(difflib.unified_diff(old, new, "old", "new", n=1, lineterm=""))[2:], sep="\n",
-          flush=True)
+    report_lines("--- difference", old, new)
+
+
+def report_lines(title, old, new):
+    """Prints how lines differ."""
+    print(title, *list(difflib.unified_diff(old, new, "old", "new", n=2, lineterm=""))[2:], sep="\n", flush=True)
 
 
 def make_world(dice, options):
@@ -550,7 +555,7 @@ def compare(title, setting, programs, dice, cases, folder):
             for it in nodes:
                 it.end()
     if given[0] != given[1]:
-        report(f"{title}: counters, log or standard error differ", [f"({tried} requests)"], *given)
+        report_lines(f"{title}: counters, log or standard error differ", *given)
         return None
     codes = " ".join(f"{it.decode()}:{statuses[it]}" for it in sorted(statuses))
     return f"{title}: {tried} requests, {count} connections, {time.monotonic() - began:.0f} s, equal; {codes}"
@@ -598,7 +603,7 @@ def compare_start(programs, dice, folder):
                 report("a connection to a node that starts differs", shown(text), shown(one), shown(other))
                 return None
         if old_lines != new_lines:
-            report("counters or log of a node that starts differ", [f"({count} connections)"], old_lines, new_lines)
+            report_lines("the counters or the log of a node that starts differ", old_lines, new_lines)
             return None
     return f"starting: {count} connections, equal"
 
