@@ -7,11 +7,11 @@ use crate::fault::{Fault, NO_COMMAND};
 use crate::line::Line;
 use crate::node::Node;
 use crate::print::print_escaped;
-use feed_http_heads::Request;
 use feed_node_connection::{
     BODY_LIMIT, Connection, IncomingRequest, Reading, Reply, Respond, RespondFault, Sides,
-    TURN_SHARE, TimeLimits, Wants, Writing, advance,
+    TURN_SHARE, TimeLimits, Wants, Writing, run_connection,
 };
+use feed_resolver_request::ParsedRequest;
 use feed_test_output::Out;
 use std::alloc::{AllocError, Global};
 
@@ -52,7 +52,7 @@ impl Respond for Echo {
 
     ghost replies = { λ echo head body persists reply. ⊤ };
 
-    fn body_len(&self, _request: &Request<'_>) -> usize {
+    fn body_len(&self, _parsed: &ParsedRequest<'_>) -> usize {
         self.wanted.min(BODY_LIMIT)
     }
 
@@ -61,7 +61,12 @@ impl Respond for Echo {
         if self.is_short {
             return Err(RespondFault::Memory);
         }
-        let text = echo_text(alloc, request.head, request.body, request.persists)?;
+        let text = echo_text(
+            alloc,
+            request.received.bytes,
+            request.body,
+            request.persists,
+        )?;
         Ok(Reply::new(text, 200, 0))
     }
 }

@@ -11,7 +11,7 @@ use feed_names::ReleaseName;
 use feed_node_connection::{Connection, TimeLimits};
 use feed_releases::{Event, Feed};
 use feed_resolver::{keep_releases, respond, respond_as_node};
-use feed_resolver_request::{FetchPolicy, fetch_request, find_request, form_length};
+use feed_resolver_request::{FetchPolicy, ReceivedRequest, fetch_request, form_length};
 use feed_resolver_tag::Site;
 use feed_site::SiteFault;
 use feed_test_output::Out;
@@ -117,9 +117,11 @@ impl<'a> Node<'a> {
         body: &[u8],
         keeps: bool,
     ) -> Result<(), Fault> {
+        let mut headers = [EMPTY_HEADER_SPAN; FIELD_LIMIT];
+        let received = ReceivedRequest::parse(request, &mut headers);
         let reply = respond(
             self.rt.alloc(),
-            request,
+            &received,
             body,
             keeps,
             &self.site,
@@ -145,9 +147,11 @@ impl<'a> Node<'a> {
         keeps: bool,
         policy: &FetchPolicy<'_>,
     ) -> Result<(), Fault> {
+        let mut headers = [EMPTY_HEADER_SPAN; FIELD_LIMIT];
+        let received = ReceivedRequest::parse(request, &mut headers);
         let reply = respond_as_node(
             self.rt.alloc(),
-            request,
+            &received,
             b"",
             keeps,
             policy,
@@ -162,7 +166,9 @@ impl<'a> Node<'a> {
     fn fetch_request(&self, out: &mut Out<'_>, mut line: Line<'_>) -> Result<(), Fault> {
         let token = line.word().as_bytes();
         let request = line.text(self.rt.alloc())?;
-        match fetch_request(self.rt.alloc(), &request, token) {
+        let mut headers = [EMPTY_HEADER_SPAN; FIELD_LIMIT];
+        let received = ReceivedRequest::parse(&request, &mut headers);
+        match fetch_request(self.rt.alloc(), &received, token) {
             Some(Ok(name)) => print_escaped(out, name.text()),
             Some(Err(_)) => out.line("no name"),
             None => out.line("none"),
@@ -198,8 +204,8 @@ fn print_head_end(out: &mut Out<'_>, end: HeadEnd) {
 
 fn form_length_of(bytes: &[u8]) -> u64 {
     let mut headers = [EMPTY_HEADER_SPAN; FIELD_LIMIT];
-    match find_request(bytes, &mut headers) {
-        Some(request) => form_length(&request),
+    match ReceivedRequest::parse(bytes, &mut headers).parsed() {
+        Some(parsed) => form_length(&parsed),
         None => 0,
     }
 }

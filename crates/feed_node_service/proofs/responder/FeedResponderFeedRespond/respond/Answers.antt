@@ -15,4 +15,4 @@ returns-in-None-clause-reply g c = IfOk-weaker c.reader_reply.result _ _ (λ rep
 
 pub returns-in-None-clause-says : goal.returns-in-None-clause-says
 returns-in-None-clause-says g c = IfOk-weaker c.reader_reply.result _ _ (λ reply says.
-    says_in_turn c.args.request.now.head.now c.args.request.now.body.now c.args.request.now.persists (response_in reply) c.requires.allowed says) c.reader_reply.ensures.says
+    says_in_turn c.args.request.now.received.bytes.now c.args.request.now.body.now c.args.request.now.persists (response_in reply) c.requires.allowed says) c.reader_reply.ensures.says
