@@ -1,9 +1,8 @@
 -- Two nodes that report the same releases agree.
-use Rattle.std.proofs.Common.{◌≡◌, ℕ, Bool, List, Option, Some, None, inl, inr, refl, sym, ap, ◌∙◌, subst}
+use Rattle.std.proofs.Common.{◌≡◌, ℕ, Bool, List, Option, Some, None, inl, inr, sym, ap, ◌∙◌, subst}
 use Rattle.httparse.specs.Grammar.{RequestHead}
 use Rattle.httparse.proofs.GrammarLemmas.{request_unique}
 use Rattle.feed_embargo.specs.Today.{TodayValue}
-use Rattle.feed_names.specs.ReleaseName.{Name}
 use Rattle.feed_kbart.specs.Files.{holdings_of}
 use Rattle.feed_model.specs.History.{History}
 use Rattle.feed_resolver_request.specs.FetchRequests.{FetchPolicyValue}
@@ -15,13 +14,13 @@ use Rattle.feed_resolver.specs.Laws.{SameReleasesSameNodeBytes}
 use Rattle.feed_resolver.specs.NodeReplies.{IsNodeReplyAt}
 use Rattle.feed_monitoring.specs.Reports.{report_of, AsksForNoReport}
 use Rattle.feed_monitoring.specs.declared.report_text.ReportReply.{ReportReply}
-use Rattle.feed_node_machine.specs.NodeEvents.{NodeEvent, feed_history}
+use Rattle.feed_node_machine.specs.NodeEvents.{feed_history}
 use Rattle.feed_node_machine.specs.Rules.{Terms}
 use Rattle.feed_node_machine.specs.Promise.{FilesArePublished}
 use Rattle.feed_node_service.specs.declared.responder.FeedResponder.{FeedResponder}
 use Rattle.feed_node_service.specs.Reports.{IsReportFor}
 use Rattle.feed_node_service.specs.Responders.{IsTurnText}
-use Rattle.feed_node_service.specs.Agreement.{AsksForNoFeed, IsOfReader, IsFromFiles, NodesAgree, IsOfPublished, HitsArePublished}
+use Rattle.feed_node_service.specs.Agreement.{AsksForNoFeed, IsOfReader, NodesAgree, HitsArePublished}
 
 one_head : (bytes : List ℕ) (head other : RequestHead) → BeginsWith bytes head → BeginsWith bytes other → head ≡ other
 one_head bytes head other begins also = (request_unique bytes head other begins.rest also.rest begins.reads also.reads).0

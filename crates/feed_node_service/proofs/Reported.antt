@@ -2,10 +2,8 @@
 use Rattle.std.proofs.Common.{◌≡◌, ◌<◌, ◌+◌, ℕ, Bool, List, [], ◌∷◌, ◌++◌, length, take, get_or, map, Option, Some, None, ap, sym, subst, inl, inr, ◌∙◌}
 use Rattle.std.specs.Prelude.{◌&&◌, is_some}
 use Rattle.std.proofs.lemmas.List.{take_more, map-append}
-use Rattle.feed_metrics.specs.Texts.{MetricsValue}
-use Rattle.feed_metrics.specs.declared.text.Gauges.{Gauges}
 use Rattle.feed_metrics.specs.declared.text.ReleaseTime.{ReleaseTime}
-use Rattle.feed_monitoring.specs.Reports.{AsksForNoReport, GetsNoReport, IsReportAnswer, IsReportReply, may_report}
+use Rattle.feed_monitoring.specs.Reports.{AsksForNoReport, GetsNoReport, IsReportAnswer, may_report}
 use Rattle.feed_monitoring.specs.declared.report_text.ReportReply.{ReportReply}
 use Rattle.feed_model.specs.History.{History}
 use Rattle.feed_releases.specs.Actives.{ActiveValue, AreReported}

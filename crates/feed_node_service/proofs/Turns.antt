@@ -6,7 +6,7 @@ use Rattle.std.specs.Str.{bytes_eq}
 use Rattle.httparse.specs.Grammar.{RequestHead}
 use Rattle.httparse.proofs.GrammarLemmas.{request_unique}
 use Rattle.feed_http_heads.specs.Options.{lacks_close, SaysWhetherItKeeps}
-use Rattle.feed_node_connection.specs.Requests.{IsPersistent, is_post, persists, states_len, body_len_of}
+use Rattle.feed_node_connection.specs.Requests.{IsPersistent, is_post, persists, states_len}
 use Rattle.feed_embargo.specs.Today.{TodayValue}
 use Rattle.feed_model.specs.History.{History}
 use Rattle.feed_http_heads.specs.Fields.{values_named, has_any}
@@ -44,7 +44,10 @@ same_response r bytes status size b s l = rw (b, s, l) refl
 
 -- ---- a request to fetch has no form
 
-none_named : (post : Bool) → is_some (if post then None {A = List ℕ} else None) ≡ true → ⊥
+abbrev unnamed : Option (List ℕ)
+unnamed = None
+
+none_named : (post : Bool) → is_some (if post then unnamed else None) ≡ true → ⊥
 none_named true named = false≢true named
 none_named false named = false≢true named
 

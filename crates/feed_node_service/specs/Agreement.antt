@@ -12,7 +12,7 @@ use Rattle.feed_resolver_reply.specs.Replies.{ResponseValue}
 use Rattle.feed_resolver_tag.specs.Tags.{SiteValue}
 use Rattle.feed_resolver.specs.Answers.{dated}
 use Rattle.feed_resolver.specs.FeedReplies.{feed_target}
-use Rattle.feed_resolver.specs.NodeReplies.{AsksForNoFetch, IsNodeReply, IsNodeReplyAt}
+use Rattle.feed_resolver.specs.NodeReplies.{AsksForNoFetch, IsNodeReply}
 use Rattle.feed_monitoring.specs.Reports.{AsksForNoReport}
 use Rattle.feed_node_machine.specs.NodeEvents.{NodeEvent, feed_history}
 use Rattle.feed_node_machine.specs.Rules.{Terms, AreGiven}

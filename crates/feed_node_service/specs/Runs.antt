@@ -1,5 +1,5 @@
 -- A run of a node.
-use Rattle.std.specs.Prelude.{ℕ, List, ◌++◌}
+use Rattle.std.specs.Prelude.{List, ◌++◌}
 use Rattle.feed_resolver_request.specs.Forms.{form_length}
 use Rattle.feed_keep.specs.declared.keep.Keep.{Ghosts}
 use Rattle.feed_model.specs.Content.{IsContent}

@@ -230,7 +230,7 @@ impl Exchange {
     }
 
     /// Passes a part of the whole file that was taken, and discards its bytes. The kept ones then begin behind it.
-    pub fn pass(&mut self, outgoing: &mut OutgoingRequest, part: WholePart, is_new: bool) -> Step {
+    pub fn pass(&mut self, outgoing: &mut OutgoingRequest, part: WholePart, is_new: bool) {
         outgoing.discard(part.to);
         if let Some(whole) = &mut self.whole {
             let count = part.to.saturating_sub(part.from) as u64;
@@ -238,6 +238,5 @@ impl Exchange {
             whole.first = whole.first.saturating_add(count);
             whole.is_new = whole.is_new || is_new;
         }
-        Step::Again
     }
 }

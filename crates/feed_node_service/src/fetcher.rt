@@ -610,8 +610,12 @@ fn take_part<K: Keep>(
     }
     match node.take_part(&found, events) {
         Ok(is_new) => {
-            let step = running.exchange.pass(outgoing, part, is_new);
-            if is_done(node) { Step::Send } else { step }
+            running.exchange.pass(outgoing, part, is_new);
+            if is_done(node) {
+                Step::Send
+            } else {
+                Step::Again
+            }
         }
         Err(stop) => Step::End(FetchEnd::Stopped(stop)),
     }

@@ -1,4 +1,4 @@
-use Rattle.std.proofs.Common.{◌≡◌, List, [], ◌∷◌, ◌++◌, sym, subst, append_assoc}
+use Rattle.std.proofs.Common.{List, [], ◌∷◌, ◌++◌, sym, subst, append_assoc}
 use Rattle.feed_resolver_request.specs.Forms.{form_length}
 use Rattle.feed_model.specs.Content.{IsContent}
 use Rattle.feed_node_server.specs.declared.socket.Socket.{Socket}

@@ -1,4 +1,4 @@
-use Rattle.std.proofs.Common.{ℕ, List, length, take, subst, sym, ◌∙◌, arith, option_map, take_all, ap}
+use Rattle.std.proofs.Common.{ℕ, List, subst, ◌∙◌, arith, option_map, take_all}
 use Rattle.feed_model.specs.History.{Reports}
 use Rattle.feed_node_service.specs.Wanted.{HasEach}
 use Rattle.feed_node_service.proofs.WantedPackages.{has_next, lacks}
