@@ -227,7 +227,7 @@ fn converse(
     let mut buffer = [0u8; 64];
     for _ in 0..200 {
         let mut share = TURN_SHARE;
-        advance(connection, alloc, echo, &mut sides, &mut buffer, &mut share);
+        run_connection(connection, alloc, echo, &mut sides, &mut buffer, &mut share);
         if let Wants::Next = connection.wants() {
             connection.resume();
         }
