@@ -121,8 +121,8 @@ impl<'a, T: Stream, K: Keep, S: FeedRespond + Drop> NodeMachine<'a, T, K, S> {
         self.feed.catch_up()
     }
 
-    /// Keeps what the responder computes of the active releases alone, which changes no reply. Returns whether that
-    /// changed.
+    /// Keeps what the responder computes of the active releases and the day alone, which changes no reply. Returns
+    /// whether the releases changed.
     ///
     /// # Errors
     ///
@@ -130,7 +130,8 @@ impl<'a, T: Stream, K: Keep, S: FeedRespond + Drop> NodeMachine<'a, T, K, S> {
     pub fn keep_releases(&mut self) -> Result<bool, AllocError>
         ensures { self.new ≡ self.old }
     {
-        self.responder.keep_releases(self.alloc, &self.feed)
+        self.responder
+            .keep_releases(self.alloc, &self.today, &self.feed)
     }
 
     /// Closes all connections, and returns the keeper. A node that is opened over it has the same history.

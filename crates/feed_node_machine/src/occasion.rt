@@ -56,12 +56,18 @@ pub trait FeedRespond {
             request.now.received.bytes.now request.now.body.now request.now.persists (Some reply.bytes.items)) }
         ensures says { IfOk result (λ reply. SaysWhetherItKeeps request.now.persists reply.bytes.items) };
 
-    /// Keeps what it computes of the active releases alone, which changes no reply. Returns whether that changed.
+    /// Keeps what it computes of the active releases and the day alone, which changes no reply. Returns whether the
+    /// releases changed.
     ///
     /// # Errors
     ///
     /// Running out of memory.
-    fn keep_releases<K: Keep>(&mut self, alloc: Global, feed: &Feed<K>) -> Result<bool, AllocError>
+    fn keep_releases<K: Keep>(
+        &mut self,
+        alloc: Global,
+        today: &Today,
+        feed: &Feed<K>,
+    ) -> Result<bool, AllocError>
         ensures { self.new ≡ self.old };
 }
 

@@ -185,6 +185,7 @@ impl<'a, W: Write, F: Write> RunningNode<'a, W, F> {
         if day != self.day {
             self.day = day;
             node.begin_day(today(day));
+            let _ = node.keep_releases();
         }
     }
 

@@ -13,6 +13,7 @@ ghost use Rattle.feed_node_service.specs.Responders.{IsHeldBack, IsReplyBy, IsTu
 use crate::node_state::NodeState;
 use crate::release_times::release_times;
 use crate::wanted::{WantedPackage, is_answerable, missing_text};
+use feed_embargo::Today;
 use feed_file_checks::ExpectedFile;
 use feed_keep::Keep;
 use feed_monitoring::{ReportReply, gets_report};
@@ -227,10 +228,11 @@ impl<'a> FeedRespond for FeedResponder<'a> {
     fn keep_releases<K: Keep>(
         &mut self,
         alloc: Global,
+        today: &Today,
         feed: &Feed<K>,
     ) -> Result<bool, AllocError> {
         let before = Vec::from_slice(alloc, self.site.releases().text())?;
-        keep_releases(alloc, &mut self.site, feed)?;
+        keep_releases(alloc, &mut self.site, today, feed)?;
         Ok(before.as_slice() != self.site.releases().text())
     }
 }

@@ -1,5 +1,6 @@
 //! The replies of a node whose feed is not open yet: reports of itself, and no others.
 use crate::node_state::NodeState;
+use feed_embargo::Today;
 use feed_keep::Keep;
 use feed_monitoring::ReportRequest;
 use feed_node_connection::{IncomingRequest, Reply, RespondFault};
@@ -52,6 +53,7 @@ impl<'a> FeedRespond for StartingResponder<'a> {
     fn keep_releases<K: Keep>(
         &mut self,
         _alloc: Global,
+        _today: &Today,
         _feed: &Feed<K>,
     ) -> Result<bool, AllocError> {
         Ok(false)

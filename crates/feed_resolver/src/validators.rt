@@ -221,14 +221,15 @@ pub(crate) fn preflight_status(parsed: &ParsedRequest<'_>) -> Option<Status>
     preflight_of(parsed.route)
 }
 
-/// Keeps the digest of the active releases, if the site keeps that of others.
+/// Keeps the digest of the active releases, if the site keeps that of others, and the digests of the day's tags.
 ///
 /// # Errors
 ///
-/// Running out of memory, after which each reply computes the digest itself.
+/// Running out of memory, after which each reply computes its digest itself.
 pub fn keep_releases<K: Keep>(
     alloc: Global,
     site: &mut Site,
+    today: &Today,
     feed: &Feed<K>,
 ) -> Result<(), AllocError>
     ensures { site.new ≡ site.old }
@@ -238,5 +239,5 @@ pub fn keep_releases<K: Keep>(
     if site.releases().text() != text.as_slice() {
         site.keep_releases(text);
     }
-    Ok(())
+    site.keep_day(alloc, today)
 }

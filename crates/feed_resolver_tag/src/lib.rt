@@ -2,6 +2,7 @@
 //! beside its request.
 #![tactic(auto)]
 
+mod day_digests;
 mod digested;
 mod laws;
 mod site;

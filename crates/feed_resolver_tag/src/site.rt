@@ -1,10 +1,11 @@
 //! The version, the settings and the site file of a node, on which its replies depend, and the tags that follow.
 ghost use Rattle.std.specs.Prelude.{◌≡◌, IfErr, IfOk};
 ghost use Rattle.std.specs.Fmt.{decimal};
-ghost use Rattle.feed_resolver_tag.specs.Tags.{entity_tag, inputs_of, kind_and_day, kind_of, message_of};
+ghost use Rattle.feed_resolver_tag.specs.Tags.{entity_tag, inputs_of, kind_and_day, message_of};
 ghost use Rattle.feed_resolver_tag.specs.Tags.{quoted_hex, source_digest};
 ghost use Rattle.sha2.specs.Sha256.{sha256};
 
+use crate::day_digests::{DayDigests, digest_on};
 use crate::digested::Digested;
 use feed_embargo::Today;
 use feed_resolver_request::Representation;
@@ -29,6 +30,8 @@ pub struct Site {
     releases: Digested,
     /// The digest of the digests of all four.
     source: [u8; 32],
+    /// The digests of the tags of a day, if they are kept.
+    kept: Option<DayDigests>,
     /// For how many seconds a cache may use a reply without asking again; 0 if it always has to ask.
     max_age: u32,
 }
@@ -37,23 +40,14 @@ impl Model for Site {
     ghost use Rattle.std.specs.Prelude.{◌≡◌};
     ghost use Rattle.std.specs.Fmt.{decimal};
     ghost use Rattle.feed_resolver_tag.specs.Tags.{SiteValue, source_digest};
+    ghost use Rattle.feed_resolver_tag.specs.DayDigests.{AreDigestsOf};
 
     ghost Value = { SiteValue };
 
     ghost view = { λ s. record { version = s.version; max_age = s.max_age; file = s.file; library = s.library } };
 
     ghost invariant = { λ s. (s.settings ≡ decimal s.max_age)
-        × (s.source ≡ source_digest s.version s.settings s.file s.releases) };
-}
-
-fn kind_of(representation: Representation) -> u8
-    ensures { result ≡ kind_of representation }
-{
-    match representation {
-        Representation::Text => b't',
-        Representation::Json => b'j',
-        Representation::Html => b'h',
-    }
+        × ((s.source ≡ source_digest s.version s.settings s.file s.releases) × AreDigestsOf s.source s.kept) };
 }
 
 fn decimal(alloc: Global, number: u32) -> Result<Vec<u8>, AllocError>
@@ -61,22 +55,6 @@ fn decimal(alloc: Global, number: u32) -> Result<Vec<u8>, AllocError>
 {
     let mut text = Vec::new(alloc);
     match write!(&mut text, "{number}") {
-        Ok(()) => Ok(text),
-        Err(_) => Err(AllocError),
-    }
-}
-
-fn kind_and_day(
-    alloc: Global,
-    representation: Representation,
-    today: &Today,
-) -> Result<Vec<u8>, AllocError>
-    ensures { IfOk result (λ text. text.items ≡ kind_and_day representation today.now.day) }
-{
-    let day = today.day();
-    let mut text = Vec::new(alloc);
-    text.push(kind_of(representation))?;
-    match write!(&mut text, "{day}") {
         Ok(()) => Ok(text),
         Err(_) => Err(AllocError),
     }
@@ -96,15 +74,6 @@ fn source_digest(
     hasher.update(settings.digest().as_slice());
     hasher.update(file.digest().as_slice());
     hasher.update(releases.digest().as_slice());
-    hasher.finalize()
-}
-
-fn digest_of(source: &[u8; 32], last: &[u8]) -> [u8; 32]
-    ensures { result ≡ sha256 (message_of source.now last.now) }
-{
-    let mut hasher = Sha256::new();
-    hasher.update(source.as_slice());
-    hasher.update(last);
     hasher.finalize()
 }
 
@@ -174,6 +143,7 @@ impl Site {
             library,
             releases,
             source,
+            kept: None,
             max_age,
         })
     }
@@ -195,8 +165,41 @@ impl Site {
         ensures { self.new ≡ self.old }
     {
         let releases = Digested::new(text);
+        self.kept = None;
         self.source = source_digest(&self.version, &self.settings, &self.file, &releases);
         self.releases = releases;
+    }
+
+    /// Keeps the digests of a day's tags, for the releases whose digest is kept. Changes no tag.
+    ///
+    /// # Errors
+    ///
+    /// Running out of memory, after which each reply computes its own.
+    pub fn keep_day(&mut self, alloc: Global, today: &Today) -> Result<(), AllocError>
+        ensures { self.new ≡ self.old }
+    {
+        self.kept = Some(DayDigests::new(alloc, &self.source, today)?);
+        Ok(())
+    }
+
+    // Returns the digest of what the replies depend on, of a representation and of a day. Computes it only if it is not
+    // kept.
+    fn day_digest(
+        &self,
+        alloc: Global,
+        source: &[u8; 32],
+        today: &Today,
+        representation: Representation,
+    ) -> Result<[u8; 32], AllocError>
+        ensures { IfOk result (λ digest. digest
+            ≡ sha256 (message_of source.now (kind_and_day representation today.now.day))) }
+    {
+        match &self.kept {
+            Some(kept) if kept.day == today.day() && *source == self.source => {
+                Ok(kept.of(representation))
+            }
+            _ => digest_on(alloc, source, today, representation),
+        }
     }
 
     // Returns the digest of what the replies depend on, with a text about the releases. Computes it only if the site
@@ -233,8 +236,8 @@ impl Site {
         ensures { IfOk result (λ tag. tag.items
             ≡ entity_tag (inputs_of self.now today.now releases.now representation)) }
     {
-        let last = kind_and_day(alloc, representation, today)?;
-        let digest = digest_of(&self.source_with(releases), last.as_slice());
+        let source = self.source_with(releases);
+        let digest = self.day_digest(alloc, &source, today, representation)?;
         quoted_hex(alloc, &digest)
     }
 }

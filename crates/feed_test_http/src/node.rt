@@ -92,7 +92,7 @@ impl<'a> Node<'a> {
     }
 
     fn keep_releases(&mut self) -> Result<(), Fault> {
-        Ok(keep_releases(self.rt.alloc(), &mut self.site, &self.feed)?)
+        Ok(keep_releases(self.rt.alloc(), &mut self.site, &self.today, &self.feed)?)
     }
 
     fn respond(&self, out: &mut Out<'_>, mut line: Line<'_>) -> Result<(), Fault> {
