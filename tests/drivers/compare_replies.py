@@ -14,7 +14,8 @@ nothing listens at the address of the knowledge base.
 
 These are compared for each connection: all bytes received, but for the values of /metrics, the length of that page, and
 the times in /feed. At the end of a world: the log without its times and milliseconds, standard error without seconds,
-and all counters of /metrics, but those of times. The count of bytes sent is compared less the bytes received.
+and all counters of /metrics, but those of times and that of the bytes of requests: of bytes that are no request it has
+those that had arrived, which the moment decides. The count of bytes sent is compared less the bytes received.
 
 At last nodes get a long list, and many connections at once while they check it. They are compared as far as both nodes
 still start. Clients that reset a connection, read slowly or exceed a time limit are left out: there the moment decides.
@@ -346,7 +347,7 @@ class Node:
     def counters(self):
         """Returns the counters of the node, but those of times."""
         found = re.findall(r"^(kbfeed_\S+) (\d+)$", self.get("/metrics").decode("latin-1"), re.M)
-        return {name: int(value) for name, value in found if not re.search("_bucket|_sum|since", name)}
+        return {name: int(value) for name, value in found if not re.search("_bucket|_sum|since|request_bytes", name)}
 
     def counted(self):
         """Returns by how much each counter grew. Of the bytes sent, those that the client received are taken off."""
