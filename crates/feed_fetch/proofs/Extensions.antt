@@ -19,6 +19,8 @@ use Rattle.feed_model.proofs.Goods.{IsStill, goods_still, passed_same}
 use Rattle.feed_dial.specs.declared.DialFault.{DialFault}
 use Rattle.feed_http_heads.specs.declared.http_fault.HttpFault.{HttpFault}
 use Rattle.feed_http_heads.specs.declared.http_fault.HttpFault.TheVariants as http
+use Rattle.feed_fetch.specs.declared.machine.Phase.TheVariants as phases
+use Rattle.feed_fetch.specs.Steps.{IsReplyEvent, without_news}
 use Rattle.feed_fetch.specs.declared.stop.RequestFault.{RequestFault}
 use Rattle.feed_fetch.specs.declared.stop.RequestFault.TheVariants.{Dial, Http}
 use Rattle.feed_fetch.specs.declared.stop.Stop.{Stop}
@@ -225,6 +227,23 @@ taken_extends A n given c d taken so extends =
     by : (k : History) (r : Result Bool Stop) → IfErr r (λ stop. IsStoppedAt n stop k) → IfErr (round_result r) (λ stop. IsStoppedAt n stop k)
     by k (Ok true) p = tt
     by k (Ok false) p = tt
+    by k (Err stop) p = p
+
+-- the same of a reply that may have nothing new
+pub taken_again : (n : Name) (given : Got) (c d : Content) (taken : Result Bool Stop)
+    → IsExtension (IsTakenFrom n given) (λ k. IfErr taken (λ stop. IsStoppedAt n stop k)) c d
+    → IsExtension (IsReplyEvent n phases.Offered (Ok given)) (λ k. IfErr (without_news taken) (λ stop. IsStoppedAt n stop k)) c d
+taken_again n given c d taken extends =
+    extends_so (IsTakenFrom n given) (IsReplyEvent n phases.Offered (Ok given)) (λ k. IfErr taken (λ stop. IsStoppedAt n stop k))
+    (λ k. IfErr (without_news taken) (λ stop. IsStoppedAt n stop k)) c d event (λ k p. by k taken p) extends
+  where
+    event : (e : Event) → IsTakenFrom n given e → IsReplyEvent n phases.Offered (Ok given) e
+    event (Offered m size) is = absurd is
+    event (Piece m first total bytes) is = is
+    event (Lost m) is = absurd is
+
+    by : (k : History) (r : Result Bool Stop) → IfErr r (λ stop. IsStoppedAt n stop k) → IfErr (without_news r) (λ stop. IsStoppedAt n stop k)
+    by k (Ok is_new) p = tt
     by k (Err stop) p = p
 
 -- a request that got no answer stops the fetch

@@ -32,6 +32,11 @@ abbrev pub phase_after_part : Phase → Result Bool Stop → Phase
 phase_after_part phase (Ok is_new) = phase
 phase_after_part phase (Err stop) = phases.Stopped
 
+-- a piece was taken, new or not
+abbrev pub without_news : Result Bool Stop → Result (Unit {0}) Stop
+without_news (Ok is_new) = Ok tt
+without_news (Err stop) = Err stop
+
 -- the bytes that have arrived of a whole file of this length, from this place on; the rest of the file may never arrive
 abbrev pub IsArrivedPart : List ℕ → ℕ → ℕ → List ℕ → Type 0
 IsArrivedPart file first size bytes = IsPieceOf (got.Whole file) first (Some size) bytes
@@ -61,6 +66,11 @@ HasLength file reply = MatchResult reply (λ given. given ≡ got.Size (length f
 abbrev pub HasRange : List ℕ → ℕ → ℕ → Result Got RequestFault → Type 0
 HasRange file first last reply =
     MatchResult reply (λ given. given ≡ got.Piece first (Some (length file)) (slice_range file first (last + 1))) (λ why. IsExcused (stops.Request why))
+
+-- the bytes of a request for the file of this name
+abbrev pub request_text : List ℕ → List ℕ → Request → List ℕ
+request_text host name requests.Length = head_request_text host name
+request_text host name (requests.Range first last) = get_text host name first last
 
 -- what is known of the result of a request
 abbrev pub IsReplyOf : Replies → List ℕ → Name → Request → Result Got RequestFault → Type 0

@@ -18,6 +18,11 @@ pub enum FetchEvent {
 }
 
 impl fmt::Display for FetchEvent {
+    ghost use Rattle.std.specs.Prelude.{Some};
+    ghost use Rattle.feed_fetch.specs.Lines.{event_text};
+
+    ghost output = { λ event. Some (event_text event) };
+
     fn fmt<W: fmt::Write>(&self, f: &mut fmt::Formatter<W>) -> fmt::Result {
         match self {
             FetchEvent::Size(size) => write!(f, "size {size}"),

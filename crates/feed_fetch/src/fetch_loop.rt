@@ -1,40 +1,14 @@
 //! The loop of a fetch: request the size, offer the release, then request missing ranges until none is left.
-ghost use Rattle.std.specs.Prelude.{
-  ℕ,
-  List,
-  ◌≡◌,
-  ◌≤◌,
-  ◌⊎◌,
-  ◌||◌,
-  IsTrue,
-  Some,
-  Ok,
-  Err,
-  IfErr,
-  OnOk,
-};
+ghost use Rattle.std.specs.Prelude.{ℕ, List, ◌≡◌, ◌≤◌, ◌⊎◌, ◌||◌, IsTrue, Some, Ok, Err, IfErr, IfSome, OnOk};
 ghost use Rattle.feed_model.specs.History.{History, IsGood, IsPassed};
 ghost use Rattle.feed_model.specs.Content.{IsContent};
 ghost use Rattle.feed_releases.specs.Feeds.{recorded};
-ghost use Rattle.feed_fetch.specs.Answers.{
-  status_of,
-  HasCause,
-  IsExcused,
-  IsStoppedAt,
-};
-ghost use Rattle.feed_fetch.specs.Effects.{
-  IsExtension,
-  IsFetchEvent,
-  EndsWithStatus,
-  ServesFile,
-  IsFetchable,
-  IsOpenTo,
-  IsFetched,
-  IsReported,
-  IsAllFetched,
-};
+ghost use Rattle.feed_fetch.specs.Answers.{status_of, HasCause, IsExcused, IsStoppedAt};
+ghost use Rattle.feed_fetch.specs.Effects.{IsExtension, IsFetchEvent, EndsWithStatus, ServesFile, IsFetchable};
+ghost use Rattle.feed_fetch.specs.Effects.{IsOpenTo, IsFetched, IsReported, IsAllFetched};
+ghost use Rattle.feed_fetch.specs.FetchEnds.{stop_lines};
 ghost use Rattle.feed_fetch.specs.Steps.{IsReplyOf};
-ghost use Rattle.feed_fetch.specs.Printing.{has_failed};
+ghost use Rattle.feed_fetch.specs.Printing.{has_failed, HasAppended, IfPrinted};
 ghost use Rattle.feed_http.specs.RequestTexts.{is_host};
 ghost use Rattle.feed_limits.specs.Limits.{piece_limit};
 
@@ -122,6 +96,7 @@ pub fn print_stop<F: Write>(stop: Stop, faults: &mut Printer<F>) -> u8
     ensures status { (result ≡ status_of stop) ⊎ ((result ≡ 3) × IsTrue (has_failed faults.new)) }
     ensures kept { IsTrue (has_failed faults.old) → IsTrue (has_failed faults.new) }
     ensures excused { IsExcused stop → result ≡ 3 }
+    ensures lines { IfPrinted faults.new (IfSome (stop_lines stop) (HasAppended F.contents faults.old faults.new)) }
 {
     let printed = match stop {
         Stop::NoProgress => faults.print("kbfeed: NoProgress"),

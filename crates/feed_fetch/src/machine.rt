@@ -8,7 +8,7 @@ ghost use Rattle.feed_fetch.specs.Answers.{HasCause, HasRightAnswer, IsStoppedAt
 ghost use Rattle.feed_fetch.specs.Effects.{IsExtension, IsTakenFrom};
 ghost use Rattle.feed_fetch.specs.Exchanges.{Opens, Fills};
 ghost use Rattle.feed_fetch.specs.Steps.{IsNextStep, IsReplyEvent, IsArrivedPart};
-ghost use Rattle.feed_fetch.specs.Steps.{phase_after, phase_after_part};
+ghost use Rattle.feed_fetch.specs.Steps.{phase_after, phase_after_part, without_news};
 
 use crate::observe::Observe;
 use crate::replies::{handle_piece, take_length, take_range};
@@ -75,6 +75,16 @@ fn phase_after_part(phase: Phase, taken: Result<bool, Stop>) -> Phase
     match taken {
         Ok(_) => phase,
         Err(_) => Phase::Stopped,
+    }
+}
+
+// Returns whether a piece was taken, new or not.
+fn without_news(taken: Result<bool, Stop>) -> Result<(), Stop>
+    ensures { result ≡ without_news taken }
+{
+    match taken {
+        Ok(_) => Ok(()),
+        Err(stop) => Err(stop),
     }
 }
 
@@ -152,6 +162,40 @@ impl Fetch {
         let outcome = self.submit(feed, name, reply, out);
         self.phase = phase_after(outcome);
         outcome
+    }
+
+    /// Takes the reply as `take` does, but continues after a piece without new bytes. The feed may have bytes of a file
+    /// that is read from its front on.
+    pub fn take_again<K: Keep, O: Observe>(
+        &mut self,
+        feed: &mut Feed<K>,
+        name: &ReleaseName,
+        reply: &Result<Got, RequestFault>,
+        out: &mut O,
+    ) -> Result<(), Stop>
+        ensures extends { IsExtension (IsReplyEvent name.now self.old.phase reply.now)
+            (λ k. IfErr result (λ stop. IsStoppedAt name.now stop k)) (recorded feed.old) (recorded feed.new) }
+        ensures phase { self.new.phase ≡ phase_after result }
+        ensures piece { self.new.piece ≡ self.old.piece }
+    {
+        match (self.phase, reply) {
+            (
+                Phase::Offered,
+                Ok(
+                    Got::Piece {
+                        first,
+                        total,
+                        bytes,
+                    },
+                ),
+            ) => {
+                let taken = handle_piece(feed, name, *first, *total, bytes.as_slice(), out);
+                let outcome = without_news(taken);
+                self.phase = phase_after(outcome);
+                outcome
+            }
+            _ => self.take(feed, name, reply, out),
+        }
     }
 
     /// Takes a part of a whole file whose length the reply stated, before the rest of it has arrived: submits it to the

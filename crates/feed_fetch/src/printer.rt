@@ -1,6 +1,6 @@
 //! Prints lines, and records whether a print failed.
-ghost use Rattle.std.specs.Prelude.{◌≡◌, false, IsTrue, OnOk, OnErr};
-ghost use Rattle.feed_fetch.specs.Printing.{has_failed};
+ghost use Rattle.std.specs.Prelude.{◌≡◌, false, IfSome, IsTrue, OnOk, OnErr};
+ghost use Rattle.feed_fetch.specs.Printing.{has_failed, HasPrinted};
 
 use crate::events::FetchEvent;
 use crate::observe::Observe;
@@ -32,6 +32,7 @@ impl<W: Write> Printer<W> {
     /// Prints a line.
     pub fn print<D: fmt::Display + Drop>(&mut self, line: D) -> Result<(), Unprinted>
         ensures printed { OnOk result (has_failed self.new ≡ has_failed self.old) }
+        ensures line { OnOk result (IfSome (D.output line) (HasPrinted W.contents self.old self.new)) }
         ensures failed { OnErr result (IsTrue (has_failed self.new)) }
     {
         match writeln!(&mut self.writer, "{line}") {
@@ -54,6 +55,8 @@ impl<W: Write> Observe for Printer<W> {
     ghost use Rattle.feed_fetch.specs.Printing.{has_failed};
 
     ghost has_failed = { has_failed };
+
+    ghost lines = { λ printer. W.contents printer.writer };
 
     fn observe(&mut self, event: FetchEvent) -> Result<(), Unprinted> {
         self.print(event)

@@ -3,16 +3,10 @@ ghost use Rattle.std.specs.Prelude.{ℕ, List, Option, Some, None, ◌≡◌, �
 ghost use Rattle.feed_model.specs.History.{Lost, Offered, Piece};
 ghost use Rattle.feed_releases.specs.Feeds.{recorded};
 ghost use Rattle.feed_releases.specs.Events.{event_of};
-ghost use Rattle.feed_fetch.specs.Answers.{
-  HasRightAnswer,
-  has_new_bytes,
-  reply_or_stop,
-  piece_result,
-  offer_result,
-  round_result,
-  HasCause,
-  IsStoppedAt,
-};
+ghost use Rattle.feed_fetch.specs.Answers.{HasCause, HasRightAnswer, IsStoppedAt, has_new_bytes, offer_result};
+ghost use Rattle.feed_fetch.specs.Answers.{piece_result, reply_or_stop, round_result};
+ghost use Rattle.feed_fetch.specs.Lines.{event_text, HasLine, IsPrintedAs};
+ghost use Rattle.feed_fetch.specs.declared.events.FetchEvent.TheVariants.{Size};
 ghost use Rattle.feed_fetch.specs.Steps.{IsReplyEvent, HasLength, HasRange};
 ghost use Rattle.feed_fetch.specs.Effects.{IsExtension, IsTakenFrom, IsFetchable, IsOpened, IsFilled};
 
@@ -36,6 +30,8 @@ pub fn handle_event<K: Keep, O: Observe>(
     out: &mut O,
 ) -> Result<Reply, Stop>
     ensures right { HasRightAnswer (λ answer. (result ≡ reply_or_stop answer) ⊎ (result ≡ Err Stop.Print))
+        (recorded feed.old) (event_of event.now) (recorded feed.new) }
+    ensures line { HasRightAnswer (λ answer. IsPrintedAs (O.lines out.old) (O.lines out.new) answer result)
         (recorded feed.old) (event_of event.now) (recorded feed.new) }
     ensures caused { IfErr result (λ stop. HasCause (O.has_failed out.new) None stop) }
 {
@@ -216,6 +212,7 @@ fn report_size<O: Observe>(got: &Got, out: &mut O) -> Result<u64, Stop>
     ensures printed { (size : ℕ) → got.now ≡ Got.Size size
         → (result ≡ Ok size) ⊎ (result ≡ Err Stop.Print) }
     ensures given { IfOk result (λ size. got.now ≡ Got.Size size) }
+    ensures line { IfOk result (λ size. HasLine (O.lines out.old) (O.lines out.new) (event_text (Size size))) }
     ensures stops { IfErr result (λ stop.
         (stop ≡ Stop.Missing) ⊎ ((stop ≡ Stop.NoProgress) ⊎ (stop ≡ Stop.Print))) }
     ensures caused { IfErr result (λ stop. HasCause (O.has_failed out.new) None stop) }

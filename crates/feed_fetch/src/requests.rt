@@ -1,16 +1,43 @@
 //! Sends one request on a connection of its own, and reads the reply.
-ghost use Rattle.std.specs.Prelude.{◌≡◌, Some, Err, IsTrue};
+ghost use Rattle.std.specs.Prelude.{◌≡◌, Some, Err, IfOk, IsTrue};
 ghost use Rattle.feed_names.specs.ReleaseName.{text_of};
 ghost use Rattle.feed_http.specs.RequestTexts.{is_host, get_text, head_request_text};
 ghost use Rattle.feed_dial.specs.Replies.{IfKnown};
 ghost use Rattle.feed_fetch.specs.Servers.{IsReadOf};
+ghost use Rattle.feed_fetch.specs.Steps.{request_text};
 
+use crate::machine::Request;
 use crate::stop::RequestFault;
 use feed_dial::{Dial, DialFault};
 use feed_http::{Got, Method, read_reply, write_head_request, write_request};
 use feed_http_heads::HttpFault;
 use feed_names::ReleaseName;
-use std::alloc::Global;
+use std::alloc::{AllocError, Global};
+
+/// Returns the bytes of a request for a release to a server with this host.
+///
+/// # Errors
+///
+/// Running out of memory.
+pub fn request_text(
+    alloc: Global,
+    host: &[u8],
+    name: &ReleaseName,
+    request: Request,
+) -> Result<Vec<u8>, AllocError>
+    requires { IsTrue (is_host host.now) }
+    ensures { IfOk result (λ text. text.items ≡ request_text host.now (text_of name.now) request) }
+{
+    let mut text = Vec::new(alloc);
+    let written = match request {
+        Request::Length => write_head_request(&mut text, host, name),
+        Request::Range { first, last } => write_request(&mut text, host, name, first, last),
+    };
+    match written {
+        Ok(()) => Ok(text),
+        Err(_) => Err(AllocError),
+    }
+}
 
 /// Requests the length of the file.
 pub fn request_size<D: Dial>(

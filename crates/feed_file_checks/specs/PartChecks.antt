@@ -22,12 +22,12 @@ pub record HasReceived (check : FileCheck) (seen : List ℕ) : Type 0 where
   pub sum : (wanted : List ℕ) → check.expected.sum ≡ Some wanted → HasSeen check.front seen
   pub rows : IfSome check.gate (λ gate. HasCounted gate.rows seen)
 
--- the next range that is requested: that behind these bytes until the file ends, and otherwise the one that is missing
-abbrev pub next_range : FileCheck → List ℕ → ℕ × ℕ → ℕ → ℕ × ℕ
-next_range check seen missing piece =
+-- the range that is requested in place of a missing one: that behind these bytes, until the file ends
+abbrev pub front_range : FileCheck → List ℕ → ℕ → Option (ℕ × ℕ)
+front_range check seen piece =
     if reads_from_front check && nat_lt (length seen) check.size
-    then (length seen, min (length seen + piece) check.size - 1)
-    else missing
+    then Some (length seen, min (length seen + piece) check.size - 1)
+    else None
 
 -- how the file of a request differs by its length, if it does
 abbrev pub size_mismatch : Option ℕ → ℕ → Option Mismatch

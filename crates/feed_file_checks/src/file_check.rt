@@ -7,7 +7,7 @@ ghost use Rattle.feed_releases.specs.Feeds.{recorded};
 ghost use Rattle.feed_file_checks.specs.FileChecks.{HasSeen, MayTake, has_size};
 ghost use Rattle.feed_file_checks.specs.FileTypes.{HasOtherType};
 ghost use Rattle.feed_file_checks.specs.PartChecks.{HasReceived, IsGateMismatch, IsMismatch, IsPartMismatch};
-ghost use Rattle.feed_file_checks.specs.PartChecks.{IsSumMismatch, next_range, range_mismatch, reads_from_front};
+ghost use Rattle.feed_file_checks.specs.PartChecks.{IsSumMismatch, front_range, range_mismatch, reads_from_front};
 ghost use Rattle.feed_file_checks.specs.PartChecks.{seen_after, size_after, size_mismatch};
 ghost use Rattle.feed_file_checks.specs.RowCounts.{HasCounted, seen_with};
 ghost use Rattle.feed_file_checks.specs.ShrinkGates.{IsChecked};
@@ -157,21 +157,21 @@ impl FileCheck {
         }
     }
 
-    /// Returns the first and the last place of the next request for at most `piece` places: the range that is missing,
-    /// or what follows the bytes that were read.
-    pub fn next_range(&self, missing: (u64, u64), piece: u64) -> (u64, u64)
+    /// Returns the first and the last place of the next request for at most `piece` places if the file is read from its
+    /// front on: what follows the bytes that were read.
+    pub fn front_range(&self, piece: u64) -> Option<(u64, u64)>
         ensures { (seen : List ℕ) → HasReceived self.now seen
-            → result ≡ next_range self.now seen missing piece }
+            → result ≡ front_range self.now seen piece }
     {
         match self.read_size() {
             Some(size) if self.count() < size => {
                 let first = self.count();
-                (
+                Some((
                     first,
                     first.saturating_add(piece).min(size).saturating_sub(1),
-                )
+                ))
             }
-            _ => missing,
+            _ => None,
         }
     }
 

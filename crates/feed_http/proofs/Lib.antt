@@ -4,11 +4,15 @@ pub mod Exchanges
 pub mod Answering
 pub mod RequestWriting
 pub mod CommonLengths
-pub mod LineReading
-pub mod ChunkReading
-mod ChunkFaults
-pub mod ChunkScanning
+pub mod ChunkParts
+pub mod ChunkPassing
+pub mod ChunkLaw
+pub mod HeadsPassing
+pub mod BodyPassing
+pub mod ReplyPassing
+pub mod Advancing
+pub mod ReplyReading
+pub mod ReplyLaw
 pub mod AnnouncedFaults
-pub mod ReplyValidation
 pub mod ExchangeLaw
 pub mod RequestLaw

@@ -16,7 +16,7 @@ started old mid new method host name rest a b =
 pub three : (a b c d : Option (List ℕ)) (xs ys zs : List ℕ) → Appends a b xs → Appends b c ys → Appends c d zs → Appends a d (xs ++ (ys ++ zs))
 three a b c d xs ys zs p q r = Appends-trans a b d xs (ys ++ zs) p (Appends-trans b c d ys zs q r)
 
--- six pieces, the last of which is there if its write succeeded
+-- six pieces; the last is there if its write succeeded
 pub six : {A E : Type 0} (a b c d e f g : Option (List ℕ)) (result : Result A E) (us vs ws xs ys zs : List ℕ) → Appends a b us → Appends b c vs → Appends c d ws → Appends d e xs → Appends e f ys
     → OnOk result (Appends f g zs) → OnOk result (Appends a g (us ++ (vs ++ (ws ++ (xs ++ (ys ++ zs))))))
 six a b c d e f g (Err fault) us vs ws xs ys zs m n o p q r = tt

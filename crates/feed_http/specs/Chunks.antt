@@ -1,14 +1,13 @@
 -- Chunked bodies (RFC 9112, section 7.1): their structure, text and bytes, and the faults of a text that has no such
 -- body.
-use Rattle.std.specs.Prelude.{◌≡◌, ◌≤◌, ◌<◌, ◌+◌, ◌-◌, ◌⊎◌, ℕ, zero, suc, List, ◌++◌, length, All, Option, IfSome, ⊤}
+use Rattle.std.specs.Prelude.{◌≡◌, ◌≤◌, ◌<◌, ◌-◌, ◌⊎◌, ℕ, zero, suc, List, ◌++◌, length, All}
 use Rattle.std.specs.List.{flat_map}
-use Rattle.std.specs.Io.KnownBytes.{Consumes}
 use Rattle.httparse.specs.Ascii.{crlf_bytes}
 use Rattle.httparse.specs.Grammar.{ChunkLine, IsChunkLine, HasNoChunkLine, MayBecomeChunkLine, print_chunk_line, chunk_size, Field, IsField, LineEnd, print_section, HasNoSection, MayBecomeSection}
 use Rattle.feed_http_heads.specs.Limits.{head_limit, field_limit}
 use Rattle.feed_http.specs.Limits.{chunk_line_limit}
 use Rattle.feed_http_heads.specs.declared.http_fault.HttpFault.{HttpFault}
-use Rattle.feed_http_heads.specs.declared.http_fault.HttpFault.TheVariants.{Read, Short, Coding, Length, BodyTooLong, Memory}
+use Rattle.feed_http_heads.specs.declared.http_fault.HttpFault.TheVariants.{Short, Coding, Length, BodyTooLong, Memory}
 
 -- a chunk line within the limit
 pub record IsLine (line : ChunkLine) : Type 0 where
@@ -80,6 +79,16 @@ pub record IsUnfinishedTrailers (text : List ℕ) : Type 0 where
 abbrev pub NeverBeginsWithEnd : List ℕ → Type 0
 NeverBeginsWithEnd text = (more rest : List ℕ) → text ++ more ≡ crlf_bytes ++ rest → ⊥
 
+-- the text is none or one byte of CR LF, and may still become it
+pub record IsUnfinishedEnd (text : List ℕ) : Type 0 where
+  pub short : length text < 2
+  pub more : List ℕ
+  pub may_become : text ++ more ≡ crlf_bytes
+
+-- the text has fewer bytes than a chunk of this size, or all of them and what may still become CR LF
+abbrev pub IsUnfinishedChunk : ℕ → List ℕ → Type 0
+IsUnfinishedChunk size text = (length text < size) ⊎ ((bytes : List ℕ) × (rest : List ℕ) × (length bytes ≡ size) × (text ≡ bytes ++ rest) × IsUnfinishedEnd rest)
+
 -- after this many bytes of a chunk, the text does not continue with CR LF
 abbrev pub IsBadChunk : ℕ → List ℕ → Type 0
 IsBadChunk size text = (bytes : List ℕ) × (rest : List ℕ) × (length bytes ≡ size) × (text ≡ bytes ++ rest) × NeverBeginsWithEnd rest
@@ -88,7 +97,7 @@ IsBadChunk size text = (bytes : List ℕ) × (rest : List ℕ) × (length bytes 
 -- other
 abbrev pub IsUnfinishedBehind : ℕ → List ℕ → Type 0
 IsUnfinishedBehind zero text = IsUnfinishedTrailers text
-IsUnfinishedBehind (suc size) text = length text < suc size + 2
+IsUnfinishedBehind (suc size) text = IsUnfinishedChunk (suc size) text
 
 -- the text after a line of this size is invalid
 abbrev pub IsBadBehind : ℕ → List ℕ → Type 0
@@ -130,61 +139,6 @@ pub record IsNotChunked (least most : ℕ) (fault : HttpFault) (text : List ℕ)
   pub fits : length (bytes_of chunks) ≤ most
   pub text_is : text ≡ print_chunks chunks ++ rest
   pub why : IsWhyNoChunk (least - length (bytes_of chunks)) (most - length (bytes_of chunks)) fault rest
-
--- the same for a reader's bytes; if the reader fails, they are unspecified
-abbrev pub IsChunkedFault : ℕ → ℕ → Option (List ℕ) → HttpFault → Type 0
-IsChunkedFault least most remaining Read = ⊤
-IsChunkedFault least most remaining fault = IfSome remaining (IsNotChunked least most fault)
-
--- the faults of reading a line; here and below, a failed reader leaves its bytes unspecified
-abbrev pub IsLineFault : Option (List ℕ) → HttpFault → Type 0
-IsLineFault remaining Read = ⊤
-IsLineFault remaining Short = IfSome remaining IsUnfinishedLine
-IsLineFault remaining Coding = IfSome remaining NeverBeginsWithLine
-IsLineFault remaining _ = ⊥
-
--- the faults of reading a trailer section
-abbrev pub IsTrailersFault : Option (List ℕ) → HttpFault → Type 0
-IsTrailersFault remaining Read = ⊤
-IsTrailersFault remaining Short = IfSome remaining IsUnfinishedTrailers
-IsTrailersFault remaining Coding = IfSome remaining NeverBeginsWithTrailers
-IsTrailersFault remaining _ = ⊥
-
--- the faults of reading CR LF
-abbrev pub IsEndFault : Option (List ℕ) → HttpFault → Type 0
-IsEndFault remaining Read = ⊤
-IsEndFault remaining Short = IfSome remaining (λ text. length text < 2)
-IsEndFault remaining Coding = IfSome remaining NeverBeginsWithEnd
-IsEndFault remaining _ = ⊥
-
--- the faults of reading this many bytes and CR LF
-abbrev pub IsChunkFault : ℕ → Option (List ℕ) → HttpFault → Type 0
-IsChunkFault size remaining Read = ⊤
-IsChunkFault size remaining Memory = ⊤
-IsChunkFault size remaining Short = IfSome remaining (λ text. length text < size + 2)
-IsChunkFault size remaining Coding = IfSome remaining (IsBadChunk size)
-IsChunkFault size remaining _ = ⊥
-
--- the reader returned a line of this size
-pub record IsLineTaken (old new : Option (List ℕ)) (size : ℕ) : Type 0 where
-  pub line : ChunkLine
-  pub valid : IsLine line
-  pub size_is : size ≡ chunk_size line
-  pub taken : Consumes old new (print_chunk_line line)
-
--- the reader returned a trailer section
-pub record AreTrailersTaken (old new : Option (List ℕ)) : Type 0 where
-  pub fields : List Field
-  pub end : LineEnd
-  pub valid : IsTrailers fields end
-  pub taken : Consumes old new (print_section fields end)
-
--- the reader returned this many bytes and CR LF, and the bytes were appended to the body
-pub record IsChunkTaken (old new : Option (List ℕ)) (size : ℕ) (before after : List ℕ) : Type 0 where
-  pub bytes : List ℕ
-  pub size_is : length bytes ≡ size
-  pub added : after ≡ before ++ bytes
-  pub taken : Consumes old new (bytes ++ crlf_bytes)
 
 -- the text begins with a chunked body with these bytes
 abbrev pub IsBodyChunked : List ℕ → List ℕ → Type 0

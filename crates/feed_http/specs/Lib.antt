@@ -6,9 +6,11 @@ pub mod Requests
 pub mod ServerReplies
 pub mod RequestTexts
 pub mod Announcements
-pub mod Bodies
 pub mod Chunks
-pub mod ChunkScans
 pub mod Got
-pub mod ReplyScans
+pub mod ArrivingChunks
+pub mod ArrivingHeads
+pub mod ArrivingBodies
+pub mod ArrivingReplies
 pub mod Laws
+pub mod ReplyLaws

@@ -1,11 +1,13 @@
 //! The client end of an exchange, which a node uses to fetch files.
 
-pub(crate) mod body;
-pub(crate) mod chunk_scan;
-pub(crate) mod chunks;
+pub(crate) mod body_machine;
+pub(crate) mod chunk_machine;
+pub(crate) mod chunk_parts;
 pub(crate) mod got;
+pub(crate) mod heads_machine;
 pub(crate) mod length;
 pub(crate) mod reply;
-pub(crate) mod reply_scan;
+pub(crate) mod reply_machine;
 pub(crate) mod request_text;
+pub(crate) mod step;
 pub(crate) mod validation;

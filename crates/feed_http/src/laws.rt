@@ -1,5 +1,7 @@
-//! Laws over both ends, each stated as the contract of a function with an empty body.
+//! Laws of replies and over both ends, each stated as the contract of a function with an empty body.
 ghost use Rattle.feed_http.specs.Laws.{FetchGivesSlice, HeadGivesSize, PartReadsBack, SizeReadsBack};
+ghost use Rattle.feed_http.specs.ReplyLaws.{HasOneBody, IsNeverBoth, GivesParts, IsPartOfFile};
+ghost use Rattle.feed_http.specs.ReplyLaws.{HasOneResult, IsNeverShort, HasNoFault, HasNoFront};
 
 /// If the reply to a GET is a part of a file, as the server writes it, `read_reply` returns the piece with its first
 /// place, the file's length and the bytes.
@@ -23,4 +25,26 @@ pub fn size_reads_back()
 /// length of the file, for a host that `is_host` accepts and a release whose file is on the shelf.
 pub fn head_gives_size()
     ensures { HeadGivesSize }
+{}
+
+/// A text has at most one chunked body at its front, and no text that has one breaks off.
+pub fn a_body_ends_in_one_place()
+    ensures one { HasOneBody }
+    ensures never { IsNeverBoth }
+{}
+
+/// A text has at most one result. A text that has one does not break off, and has no fault but `Read` and `Memory`. No
+/// shorter front of a whole reply has a result, so a machine finds the byte at which the reply ends.
+pub fn a_reply_has_one_result()
+    ensures one { HasOneResult }
+    ensures never { IsNeverShort }
+    ensures fault { HasNoFault }
+    ensures front { HasNoFront }
+{}
+
+/// If the front of a reply announces a whole file of a stated length, each part of the body that a machine gave is a
+/// slice of the body at its place. If further bytes complete the reply, the part is a slice of its file.
+pub fn an_arriving_part_is_of_the_file()
+    ensures given { GivesParts }
+    ensures file { IsPartOfFile }
 {}

@@ -7,4 +7,3 @@ pub mod Options
 pub mod Requests
 pub mod Targets
 pub mod ReplyHeads
-pub mod ReplyReads

@@ -18,7 +18,7 @@ pub use head_ends::{HeadEnd, HeadFound, find_head, head_end};
 pub use http_fault::HttpFault;
 pub use limits::{FIELD_LIMIT, HEAD_LIMIT};
 pub use reads::read_some;
-pub use reply_head::{ReplyRead, is_interim, read_reply_head};
+pub use reply_head::is_interim;
 pub use request::Request;
 pub use request_head::{RequestRead, read_request};
 pub use target::origin_form;

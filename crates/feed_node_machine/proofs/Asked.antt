@@ -63,7 +63,7 @@ module _ {T K S : Type 0} {k : Ghosts K} (wanted : S → RequestHead → ℕ)
         record {
           connections = has.connections;
           feed = has.feed;
-          fetching = λ fetching e. inr (has.fetching fetching e);
+          fetching = λ fetching e. (inr (has.fetching fetching e).0, (has.fetching fetching e).1);
           requested = λ n e. inl (cc);
           today = has.today;
           allowed = (

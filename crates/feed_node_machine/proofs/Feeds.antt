@@ -1,7 +1,7 @@
 -- The history of a node's feed: what it knows of a release stays, and agrees with the published file.
 use Rattle.std.proofs.Common.{◌≡◌, ◌<◌, ◌+◌, ℕ, zero, suc, Bool, true, false, ◌≤ℤ◌, List, [], ◌∷◌, ◌++◌, length}
 use Rattle.std.proofs.Common.{Option, Some, None, Result, Ok, Err, slice_get, refl, sym, ◌∙◌, ap, subst, arith}
-use Rattle.std.specs.Prelude.{slice_range}
+use Rattle.std.specs.Prelude.{slice_range, IsSomeAnd}
 use Rattle.std.specs.List.{AllByRecursion}
 use Rattle.std.proofs.lemmas.List.Elements.{recursion_from_All}
 use Rattle.feed_names.specs.ReleaseName.{Name, name_eq}
@@ -16,9 +16,14 @@ use Rattle.feed_fetch.specs.declared.machine.Phase.TheVariants as phases
 use Rattle.feed_fetch.specs.declared.stop.RequestFault.{RequestFault}
 use Rattle.feed_fetch.specs.Steps.{IsReplyEvent}
 use Rattle.feed_fetch.proofs.Filling.{slice_at}
-use Rattle.feed_node_machine.specs.NodeEvents.{NodeEvent, Accepted, Served, Passed, DayBegan, Asked, Took, TookPart, Reopened, feed_history}
+use Rattle.feed_http.specs.Got.{IsReply}
+use Rattle.feed_http.specs.ReplyLaws.{HasPart}
+use Rattle.feed_http.proofs.ReplyLaw.{part_of_file}
+use Rattle.feed_fetch.specs.declared.machine.Request.{Request}
+use Rattle.feed_node_machine.specs.Exchanges.{ExchangeEvent, HasReply, HasArrivedPart, Reads, method_of, received_of, request_of}
+use Rattle.feed_node_machine.specs.NodeEvents.{NodeEvent, Accepted, Served, Passed, DayBegan, Asked, Took, TookPart, Exchanged, Reopened, feed_history, exchange_in}
 use Rattle.feed_node_machine.specs.Rules.{AreGiven}
-use Rattle.feed_node_machine.specs.Promise.{AgreeWith, IsOfFile, AreOfFiles, FilesArePublished, NeverOlder}
+use Rattle.feed_node_machine.specs.Promise.{AgreeWith, IsOfFile, IsServedFrom, AreOfFiles, FilesArePublished, NeverOlder}
 
 -- ---- what is known of a release stays
 
@@ -73,6 +78,7 @@ keeps_moment (TookPart name first size bytes answer ∷ later) moment legal =
     let h = feed_history (later ++ moment) in
     keeps_on (feed_history moment) h ((Piece name first (Some size) bytes, answer) ∷ h) (keeps_moment later moment legal.1)
     (keeps_more h (Piece name first (Some size) bytes) answer legal.0)
+keeps_moment (Exchanged event ∷ later) moment legal = keeps_moment later moment legal
 keeps_moment (Reopened ∷ later) moment legal = keeps_moment later moment legal
 
 get_some : (xs : List ℕ) (i : ℕ) → i < length xs → (x : ℕ) × (slice_get xs i ≡ Some x)
@@ -139,11 +145,34 @@ slice_agrees file first end = slice_at file first end
 at_name : (file : Name → List ℕ) (m n : Name) (first : ℕ) (bytes : List ℕ) → m ≡ n → AgreeWith (file n) first bytes → AgreeWith (file m) first bytes
 at_name file m n first bytes same agree = subst (λ (z : Name). AgreeWith (file z) first bytes) (sym same) agree
 
+abbrev IsOfReply : List ℕ → Result Got RequestFault → Type 0
+IsOfReply file (Ok given) = IsOfFile file given
+IsOfReply file (Err why) = Unit {0}
+
+-- a reply to a server of the file, by the bytes received, is of the file
+of_reply : (file : List ℕ) (events : List ExchangeEvent) (reply : Result Got RequestFault) → IsServedFrom file events → HasReply events reply → IsOfReply file reply
+of_reply file events (Ok given) served has = served.complete given has
+of_reply file events (Err why) served has = tt
+
+-- and a part that has arrived
+of_part : (file : List ℕ) (events : List ExchangeEvent) (size first : ℕ) (bytes : List ℕ) → IsServedFrom file events → HasArrivedPart events size first bytes → AgreeWith file first bytes
+of_part file events size first bytes served part = by (request_of events) part more.1
+  where
+    more : (more : List ℕ) × Reads events more (Ok (got.Whole file))
+    more = served.arriving size first bytes part
+
+    by : (asked : Option Request) → IsSomeAnd asked (λ r. HasPart (method_of r) (received_of events) size first bytes)
+        → IsSomeAnd asked (λ r. IsReply (method_of r) (received_of events ++ more.0) (Ok (got.Whole file))) → AgreeWith file first bytes
+    by None has reads = absurd has
+    by (Some request) has reads =
+        let is = (part_of_file (method_of request) (received_of events) size first bytes more.0 file has reads).1 in
+        subst (AgreeWith file first) (sym is) (slice_agrees file first (first + length bytes))
+
 -- the event of a reply that agrees with the file agrees with it
-true_step : (file : Name → List ℕ) (n : Name) (phase : Phase) (reply : Result Got RequestFault) (event : Event) → IsOfFile (file n) reply → IsReplyEvent n phase reply event
+true_step : (file : Name → List ℕ) (n : Name) (phase : Phase) (reply : Result Got RequestFault) (event : Event) → IsOfReply (file n) reply → IsReplyEvent n phase reply event
     → IsTrueOf file event
 true_step file n phases.New (Ok given) (Offered m size) of is =
-    let stated : size ≡ length (file n) = subst (λ (g : Got). IsOfFile (file n) (Ok g)) is.1 of in stated ∙ ap (λ (z : Name). length (file z)) (sym is.0)
+    let stated : size ≡ length (file n) = subst (λ (g : Got). IsOfFile (file n) g) is.1 of in stated ∙ ap (λ (z : Name). length (file z)) (sym is.0)
 true_step file n phases.New (Ok given) (Piece m first total bytes) of is = absurd is
 true_step file n phases.New (Ok given) (Lost m) of is = absurd is
 true_step file n phases.Offered (Ok given) (Offered m size) of is = absurd is
@@ -168,7 +197,7 @@ true_step file n phases.Stopped (Err why) (Offered m size) of is = absurd is
 true_step file n phases.Stopped (Err why) (Piece m first total bytes) of is = absurd is
 true_step file n phases.Stopped (Err why) (Lost m) of is = tt
 
-true_steps : (file : Name → List ℕ) (n : Name) (phase : Phase) (reply : Result Got RequestFault) (steps : History) → IsOfFile (file n) reply
+true_steps : (file : Name → List ℕ) (n : Name) (phase : Phase) (reply : Result Got RequestFault) (steps : History) → IsOfReply (file n) reply
     → AllByRecursion (λ (step : Event × Answer). IsReplyEvent n phase reply step.0) steps → AllByRecursion (λ (step : Event × Answer). IsTrueOf file step.0) steps
 true_steps file n phase reply [] of all = tt
 true_steps file n phase reply (step ∷ steps) of all = (true_step file n phase reply step.0 of all.0, true_steps file n phase reply steps of all.1)
@@ -181,9 +210,12 @@ over_history file (Passed millis ∷ earlier) given of = over_history file earli
 over_history file (DayBegan today ∷ earlier) given of = over_history file earlier given of
 over_history file (Asked key bytes name ∷ earlier) given of = over_history file earlier given of
 over_history file (Took name phase reply steps ∷ earlier) given of =
-    over_steps file steps (feed_history earlier) (true_steps file name phase reply steps of.0 (recursion_from_All _ steps given.0)) (over_history file earlier given.1 of.1)
+    over_steps file steps (feed_history earlier)
+    (true_steps file name phase reply steps (of_reply (file name) (exchange_in earlier) reply of.0 given.2) (recursion_from_All _ steps given.0)) (over_history file earlier given.3 of.1)
 over_history file (TookPart name first size bytes answer ∷ earlier) given of =
-    over_more file (feed_history earlier) (Piece name first (Some size) bytes) answer (over_history file earlier given of.1) of.0
+    over_more file (feed_history earlier) (Piece name first (Some size) bytes) answer (over_history file earlier given.2 of.1)
+    (of_part (file name) (exchange_in earlier) size first bytes of.0 given.1)
+over_history file (Exchanged event ∷ earlier) given of = over_history file earlier given.1 of
 over_history file (Reopened ∷ earlier) given of = over_history file earlier given of
 
 same_list : (xs ys : List ℕ) → length xs ≡ length ys → ((i : ℕ) → i < length xs → slice_get xs i ≡ slice_get ys i) → xs ≡ ys

@@ -8,10 +8,11 @@ use Rattle.std.specs.Prelude.{Result}
 use Rattle.feed_fetch.specs.declared.stop.RequestFault.{RequestFault}
 use Rattle.feed_node_machine.specs.declared.fetching.Fetching.{Fetching}
 use Rattle.feed_node_machine.specs.declared.machine.NodeMachine.{NodeMachine}
-use Rattle.feed_node_machine.specs.NodeEvents.{NodeEvent, Accepted, Served, Asked, Took, TookPart, accepted_in}
+use Rattle.feed_node_machine.specs.Exchanges.{ExchangeEvent, reply_of, part_of}
+use Rattle.feed_node_machine.specs.NodeEvents.{NodeEvent, Accepted, Served, Asked, Took, TookPart, Exchanged, accepted_in}
 use Rattle.feed_node_machine.specs.Rules.{Terms}
 use Rattle.feed_node_machine.specs.Promise.{NodeIsRight, IsRightAfter}
-use Rattle.feed_node_machine.specs.Nodes.{HasHistory, HasServed, HasAdvanced, HasTaken, HasTakenPart, IsLater, KeepsHistory}
+use Rattle.feed_node_machine.specs.Nodes.{HasHistory, HasServed, HasAdvanced, HasExchanged, HasTaken, HasTakenPart, IsLater, KeepsHistory}
 
 module _ {T K S : Type 0} {k : Ghosts K} (wanted : S → RequestHead → ℕ)
     (replies : S → Terms → History → List ℕ → List ℕ → Bool → List ℕ → Type 0) where
@@ -47,20 +48,24 @@ module _ {T K S : Type 0} {k : Ghosts K} (wanted : S → RequestHead → ℕ)
       by history (inr (share, inl is)) = (Served key share ∷ [], is)
       by history (inr (share, inr (bytes, name, is))) = (Asked key bytes name ∷ Served key share ∷ [], is)
 
-  pub later_taken : (reply : Result Got RequestFault) (fetching : Fetching) (old new : NodeMachine T K S k) → old.fetching ≡ Some fetching
-      → ((history : List NodeEvent) → HasHistory wanted replies old history → HasTaken wanted replies reply old new history) → IsLater wanted replies old new
-  later_taken reply fetching old new is has = record {
+  pub later_taken : (fetching : Fetching) (reply : Result Got RequestFault) (old new : NodeMachine T K S k) → old.fetching ≡ Some fetching → reply_of fetching.exchange ≡ Some reply
+      → ((history : List NodeEvent) → HasHistory wanted replies old history → HasTaken wanted replies old new history) → IsLater wanted replies old new
+  later_taken fetching reply old new is of has = record {
     history = λ history was.
-        (let now = has history was fetching is in (Took fetching.name fetching.fetch.phase reply now.0 ∷ [], now.1));
+        (let now = has history was fetching reply is of in (Took fetching.name fetching.fetch.phase reply now.0 ∷ [], now.1));
   }
 
-  pub later_taken_part : (first size : ℕ) (bytes : List ℕ) (fetching : Fetching) (old new : NodeMachine T K S k) → old.fetching ≡ Some fetching
-      → ((history : List NodeEvent) → HasHistory wanted replies old history → HasTakenPart wanted replies first size bytes old new history)
+  pub later_taken_part : (fetching : Fetching) (first size : ℕ) (bytes : List ℕ) (old new : NodeMachine T K S k) → old.fetching ≡ Some fetching
+      → part_of fetching.exchange ≡ Some (first, size, bytes)
+      → ((history : List NodeEvent) → HasHistory wanted replies old history → HasTakenPart wanted replies old new history)
       → IsLater wanted replies old new
-  later_taken_part first size bytes fetching old new is has = record {
+  later_taken_part fetching first size bytes old new is of has = record {
     history = λ history was.
-        (let now = has history was fetching is in (TookPart fetching.name first size bytes now.0 ∷ [], now.1));
+        (let now = has history was fetching first size bytes is of in (TookPart fetching.name first size bytes now.0 ∷ [], now.1));
   }
+
+  pub later_exchanged : (event : ExchangeEvent) (old new : NodeMachine T K S k) → HasExchanged wanted replies event old new → IsLater wanted replies old new
+  later_exchanged event old new has = record { history = λ history was. (Exchanged event ∷ [], has history was) }
 
 module _ {T K S : Type 0} {k : Ghosts K} {wanted : S → RequestHead → ℕ}
     {replies : S → Terms → History → List ℕ → List ℕ → Bool → List ℕ → Type 0} where

@@ -1,8 +1,10 @@
 pub mod Connections
 pub mod Replies
+pub mod Exchanging
 pub mod Feeds
 pub mod Moments
 pub mod Shares
 pub mod Asked
 pub mod Later
+pub mod Exchanged
 pub mod Tabled

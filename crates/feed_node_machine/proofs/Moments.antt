@@ -1,7 +1,7 @@
 -- The requests that made a node fetch.
 use Rattle.std.proofs.Common.{ℕ, List, [], ◌∷◌, Option, inl, inr, sym, ap, subst}
 use Rattle.feed_names.specs.ReleaseName.{Name}
-use Rattle.feed_node_machine.specs.NodeEvents.{NodeEvent, Accepted, Served, Passed, DayBegan, Asked, Took, TookPart, Reopened, WasAsked, events_of}
+use Rattle.feed_node_machine.specs.NodeEvents.{NodeEvent, Accepted, Served, Passed, DayBegan, Asked, Took, TookPart, Exchanged, Reopened, WasAsked, events_of}
 use Rattle.feed_node_machine.specs.Rules.{Rules, IsAskedBy, AreAllowed}
 use Rattle.feed_node_machine.specs.Promise.{IsAuthorized, ChangesByToken, AreOfTheMoment}
 
@@ -36,6 +36,8 @@ authorized rules token name (Took other phase reply steps ∷ earlier) allowed w
     authorized_more token name (Took other phase reply steps) earlier (authorized rules token name earlier allowed.1 was)
 authorized rules token name (TookPart other first size bytes answer ∷ earlier) allowed was =
     authorized_more token name (TookPart other first size bytes answer) earlier (authorized rules token name earlier allowed.1 was)
+authorized rules token name (Exchanged event ∷ earlier) allowed was =
+    authorized_more token name (Exchanged event) earlier (authorized rules token name earlier allowed.1 was)
 authorized rules token name (Reopened ∷ earlier) allowed was = absurd was
 
 -- the feed changes only for a release that was asked for

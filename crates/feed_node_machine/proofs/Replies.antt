@@ -8,7 +8,7 @@ use Rattle.feed_node_connection.specs.Replies.{Replies, Exchange, IsReplyOf, Has
 use Rattle.feed_node_connection.specs.States.{HasState}
 use Rattle.feed_node_connection.specs.Streams.{AreReplies}
 use Rattle.feed_node_connection.proofs.States.{all_served}
-use Rattle.feed_node_machine.specs.NodeEvents.{NodeEvent, Accepted, Served, Passed, DayBegan, Asked, Took, TookPart, Reopened, events_of, IsMoment}
+use Rattle.feed_node_machine.specs.NodeEvents.{NodeEvent, Accepted, Served, Passed, DayBegan, Asked, Took, TookPart, Exchanged, Reopened, events_of, IsMoment}
 use Rattle.feed_node_machine.specs.Rules.{Rules, IsShare, AreAllowed}
 use Rattle.feed_node_machine.specs.Promise.{IsMadeFor, replies_in}
 
@@ -127,6 +127,7 @@ module _ (rules : Rules) (token : Option (List ℕ)) (key : ℕ) where
   all_made (Took name phase reply steps ∷ earlier) allowed = more_in (Took name phase reply steps) earlier (events_of key earlier) (all_made earlier allowed.1)
   all_made (TookPart name first size bytes answer ∷ earlier) allowed =
       more_in (TookPart name first size bytes answer) earlier (events_of key earlier) (all_made earlier allowed.1)
+  all_made (Exchanged event ∷ earlier) allowed = more_in (Exchanged event) earlier (events_of key earlier) (all_made earlier allowed.1)
   all_made (Reopened ∷ earlier) allowed = tt
 
   nothing_served : (history : List NodeEvent) → IsServed (replies_in rules token key history) [] []
@@ -159,4 +160,5 @@ module _ (rules : Rules) (token : Option (List ℕ)) (key : ℕ) where
   all_served_in (Took name phase reply steps ∷ earlier) allowed = served_in (Took name phase reply steps) earlier _ _ (all_served_in earlier allowed.1)
   all_served_in (TookPart name first size bytes answer ∷ earlier) allowed =
       served_in (TookPart name first size bytes answer) earlier _ _ (all_served_in earlier allowed.1)
+  all_served_in (Exchanged event ∷ earlier) allowed = served_in (Exchanged event) earlier _ _ (all_served_in earlier allowed.1)
   all_served_in (Reopened ∷ earlier) allowed = nothing_served (Reopened ∷ earlier)

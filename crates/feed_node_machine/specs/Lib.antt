@@ -1,3 +1,4 @@
+pub mod Exchanges
 pub mod NodeEvents
 pub mod Rules
 pub mod Occasions

@@ -7,12 +7,13 @@ use Rattle.feed_http.specs.declared.fetching.got.Got.{Got}
 use Rattle.feed_fetch.specs.declared.machine.Phase.{Phase}
 use Rattle.feed_fetch.specs.declared.stop.RequestFault.{RequestFault}
 use Rattle.feed_node_connection.specs.Events.{Event, Elapsed}
+use Rattle.feed_node_machine.specs.Exchanges.{ExchangeEvent, Requested, exchange_with}
 
 -- a connection was accepted under a key; the connection with this key had these events, the newest first; time passed, of
 -- which the clock of each connection counted so many milliseconds; a day began; the request with these bytes, on the
 -- connection with this key, asked for this release; the fetch of a release took the reply of the knowledge base to its
--- request, and the feed handled these events, the newest first; it took a part of a whole file, which the feed answered; or
--- the process ended, and the node was opened again
+-- request, and the feed handled these events, the newest first; it took a part of a whole file, which the feed answered; on the
+-- connection to the knowledge base there was this event; or the process ended, and the node was opened again
 pub data NodeEvent : Type 0 where
   Accepted : (key : ℕ) → NodeEvent
   Served : (key : ℕ) → (share : List Event) → NodeEvent
@@ -21,6 +22,7 @@ pub data NodeEvent : Type 0 where
   Asked : (key : ℕ) → (bytes : List ℕ) → (name : Name) → NodeEvent
   Took : (name : Name) → (phase : Phase) → (reply : Result Got RequestFault) → (steps : History) → NodeEvent
   TookPart : (name : Name) → (first size : ℕ) → (bytes : List ℕ) → (answer : Answer) → NodeEvent
+  Exchanged : (event : ExchangeEvent) → NodeEvent
   Reopened : NodeEvent
 
 -- the events of the connection that has this key
@@ -33,6 +35,7 @@ events_of key (DayBegan today ∷ earlier) = events_of key earlier
 events_of key (Asked other bytes name ∷ earlier) = events_of key earlier
 events_of key (Took name phase reply steps ∷ earlier) = events_of key earlier
 events_of key (TookPart name first size bytes answer ∷ earlier) = events_of key earlier
+events_of key (Exchanged event ∷ earlier) = events_of key earlier
 events_of key (Reopened ∷ earlier) = []
 
 -- the events of the feed, over all runs of the process: only a reply of the knowledge base adds some
@@ -45,6 +48,7 @@ feed_history (DayBegan today ∷ earlier) = feed_history earlier
 feed_history (Asked key bytes name ∷ earlier) = feed_history earlier
 feed_history (Took name phase reply steps ∷ earlier) = steps ++ feed_history earlier
 feed_history (TookPart name first size bytes answer ∷ earlier) = (Piece name first (Some size) bytes, answer) ∷ feed_history earlier
+feed_history (Exchanged event ∷ earlier) = feed_history earlier
 feed_history (Reopened ∷ earlier) = feed_history earlier
 
 -- a request asked for the release since the node was opened
@@ -57,6 +61,7 @@ WasAsked n (DayBegan today ∷ earlier) = WasAsked n earlier
 WasAsked n (Asked key bytes name ∷ earlier) = (name ≡ n) ⊎ WasAsked n earlier
 WasAsked n (Took name phase reply steps ∷ earlier) = WasAsked n earlier
 WasAsked n (TookPart name first size bytes answer ∷ earlier) = WasAsked n earlier
+WasAsked n (Exchanged event ∷ earlier) = WasAsked n earlier
 WasAsked n (Reopened ∷ earlier) = ⊥
 
 -- the history was this one at some moment
@@ -78,4 +83,35 @@ today_in (DayBegan today ∷ earlier) = Some today
 today_in (Asked key bytes name ∷ earlier) = today_in earlier
 today_in (Took name phase reply steps ∷ earlier) = today_in earlier
 today_in (TookPart name first size bytes answer ∷ earlier) = today_in earlier
+today_in (Exchanged event ∷ earlier) = today_in earlier
 today_in (Reopened ∷ earlier) = None
+
+-- the events of the last exchange with the knowledge base in this run, the newest first
+abbrev pub exchange_in : List NodeEvent → List ExchangeEvent
+exchange_in [] = []
+exchange_in (Accepted key ∷ earlier) = exchange_in earlier
+exchange_in (Served key share ∷ earlier) = exchange_in earlier
+exchange_in (Passed millis ∷ earlier) = exchange_in earlier
+exchange_in (DayBegan today ∷ earlier) = exchange_in earlier
+exchange_in (Asked key bytes name ∷ earlier) = exchange_in earlier
+exchange_in (Took name phase reply steps ∷ earlier) = exchange_in earlier
+exchange_in (TookPart name first size bytes answer ∷ earlier) = exchange_in earlier
+exchange_in (Exchanged event ∷ earlier) = exchange_with event (exchange_in earlier)
+exchange_in (Reopened ∷ earlier) = []
+
+-- the bytes of a whole file that the feed took in parts since the last request
+abbrev pub given_after : ExchangeEvent → List ℕ → List ℕ
+given_after (Requested name piece phase front request) given = []
+given_after event given = given
+
+abbrev pub given_in : List NodeEvent → List ℕ
+given_in [] = []
+given_in (Accepted key ∷ earlier) = given_in earlier
+given_in (Served key share ∷ earlier) = given_in earlier
+given_in (Passed millis ∷ earlier) = given_in earlier
+given_in (DayBegan today ∷ earlier) = given_in earlier
+given_in (Asked key bytes name ∷ earlier) = given_in earlier
+given_in (Took name phase reply steps ∷ earlier) = given_in earlier
+given_in (TookPart name first size bytes answer ∷ earlier) = given_in earlier ++ bytes
+given_in (Exchanged event ∷ earlier) = given_after event (given_in earlier)
+given_in (Reopened ∷ earlier) = []

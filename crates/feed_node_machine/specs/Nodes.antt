@@ -1,5 +1,5 @@
 -- The node after a history.
-use Rattle.std.specs.Prelude.{◌≡◌, ◌⊎◌, ◌∷◌, ◌++◌, ℕ, Bool, List, Some, Ok, Result, option_copied}
+use Rattle.std.specs.Prelude.{◌≡◌, ◌⊎◌, ◌∷◌, ◌++◌, ℕ, Bool, List, Option, None, Some, Ok, Result, option_copied}
 use Rattle.httparse.specs.Grammar.{RequestHead}
 use Rattle.feed_names.specs.ReleaseName.{Name}
 use Rattle.feed_keep.specs.declared.keep.Keep.{Ghosts}
@@ -15,12 +15,24 @@ use Rattle.feed_node_table.specs.declared.table.Table.{Table}
 use Rattle.feed_node_table.specs.Tables.{peer_at, KeepsOthers}
 use Rattle.feed_node_machine.specs.declared.fetching.Fetching.{Fetching}
 use Rattle.feed_node_machine.specs.declared.machine.NodeMachine.{NodeMachine}
-use Rattle.feed_node_machine.specs.NodeEvents.{NodeEvent, Served, Asked, Took, TookPart, events_of, feed_history, today_in, WasAsked}
+use Rattle.feed_fetch.specs.declared.machine.Request.{Request}
+use Rattle.feed_node_machine.specs.declared.exchange.Exchange.{Exchange}
+use Rattle.feed_node_machine.specs.Exchanges.{ExchangeEvent, Requested, IsExchangeOf, reply_of, part_of}
+use Rattle.feed_node_machine.specs.NodeEvents.{NodeEvent, Served, Asked, Took, TookPart, Exchanged, events_of, feed_history, today_in, exchange_in, given_in, WasAsked}
 use Rattle.feed_node_machine.specs.Rules.{Rules, Terms, AreAllowed, AreGiven}
 
 -- each connection of the table has the state that the events under its key determine
 abbrev pub AreAt : {T : Type 0} → Table T → List NodeEvent → Type 0
 AreAt {T} table history = (key : ℕ) (peer : Peer T) → peer_at table key ≡ Some peer → HasState peer.connection (events_of key history)
+
+-- a request asked for the release that is fetched, and the exchange has these events
+abbrev pub IsFetching : Fetching → List NodeEvent → Type 0
+IsFetching fetching history = WasAsked fetching.name history × IsExchangeOf fetching.exchange fetching.name (exchange_in history) (given_in history)
+
+-- the exchange of the fetch that is under way
+abbrev pub exchange_of : Option Fetching → Option Exchange
+exchange_of None = None
+exchange_of (Some fetching) = fetching.exchange
 
 module _ {T K S : Type 0} {k : Ghosts K} where
   -- the connections of a node
@@ -43,12 +55,12 @@ module _ {T K S : Type 0} {k : Ghosts K} (wanted : S → RequestHead → ℕ)
   rules_of node = (wanted node.responder, replies node.responder)
 
   -- the node has this history: each connection has the state that its events determine, the feed holds what its events gave
-  -- it, a request asked for the release that it fetches or is to fetch, the day is the one that began last, and each event
-  -- was allowed
+  -- it, a request asked for the release that it fetches or is to fetch, its exchange with the knowledge base has the events
+  -- of the last one, the day is the one that began last, and each event was allowed
   pub record HasHistory (node : NodeMachine T K S k) (history : List NodeEvent) : Type 0 where
     pub connections : AreAt node.table history
     pub feed : IsContent (recorded node.feed) (feed_history history)
-    pub fetching : (fetching : Fetching) → node.fetching ≡ Some fetching → WasAsked fetching.name history
+    pub fetching : (fetching : Fetching) → node.fetching ≡ Some fetching → IsFetching fetching history
     pub requested : (name : Name) → node.requested ≡ Some (Ok name) → WasAsked name history
     pub today : today_in history ≡ Some node.today
     pub allowed : AreAllowed (rules_of node) (option_copied node.token) history
@@ -66,17 +78,28 @@ module _ {T K S : Type 0} {k : Ghosts K} (wanted : S → RequestHead → ℕ)
   abbrev pub HasAdvanced : ℕ → NodeMachine T K S k → List NodeEvent → Type 0
   HasAdvanced key node history = HasAsked key node history ⊎ ((share : List Event) × HasAsked key node (Served key share ∷ history))
 
-  -- the fetch that is under way took this reply: the node has this history with the events that the feed handled
-  abbrev pub HasTaken : Result Got RequestFault → NodeMachine T K S k → NodeMachine T K S k → List NodeEvent → Type 0
-  HasTaken reply old new history =
-      (fetching : Fetching) → old.fetching ≡ Some fetching
+  -- the fetch that is under way took the reply that its exchange ended with: the node has this history with the events that
+  -- the feed handled
+  abbrev pub HasTaken : NodeMachine T K S k → NodeMachine T K S k → List NodeEvent → Type 0
+  HasTaken old new history =
+      (fetching : Fetching) (reply : Result Got RequestFault) → old.fetching ≡ Some fetching → reply_of fetching.exchange ≡ Some reply
       → (steps : History) × HasHistory new (Took fetching.name fetching.fetch.phase reply steps ∷ history)
 
-  -- it took a part of a whole file
-  abbrev pub HasTakenPart : ℕ → ℕ → List ℕ → NodeMachine T K S k → NodeMachine T K S k → List NodeEvent → Type 0
-  HasTakenPart first size bytes old new history =
-      (fetching : Fetching) → old.fetching ≡ Some fetching
+  -- it took the part of a whole file that has arrived
+  abbrev pub HasTakenPart : NodeMachine T K S k → NodeMachine T K S k → List NodeEvent → Type 0
+  HasTakenPart old new history =
+      (fetching : Fetching) (first size : ℕ) (bytes : List ℕ) → old.fetching ≡ Some fetching → part_of fetching.exchange ≡ Some (first, size, bytes)
       → (answer : Answer) × HasHistory new (TookPart fetching.name first size bytes answer ∷ history)
+
+  -- there was this event on the connection to the knowledge base
+  abbrev pub HasExchanged : ExchangeEvent → NodeMachine T K S k → NodeMachine T K S k → Type 0
+  HasExchanged event old new = (history : List NodeEvent) → HasHistory old history → HasHistory new (Exchanged event ∷ history)
+
+  -- the fetch that is under way needs this request next, which was sent
+  abbrev pub HasRequested : Option (ℕ × ℕ) → Request → NodeMachine T K S k → NodeMachine T K S k → Type 0
+  HasRequested front request old new =
+      (fetching : Fetching) → old.fetching ≡ Some fetching
+      → HasExchanged (Requested fetching.name fetching.fetch.piece fetching.fetch.phase front request) old new
 
   -- the node has each history that it had
   abbrev pub KeepsHistory : NodeMachine T K S k → NodeMachine T K S k → Type 0

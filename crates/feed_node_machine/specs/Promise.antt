@@ -14,7 +14,9 @@ use Rattle.feed_node_connection.specs.Events.{Event, received_bytes, sent_bytes}
 use Rattle.feed_node_connection.specs.Replies.{Replies, IsServed}
 use Rattle.feed_node_connection.specs.Streams.{AreReplies}
 use Rattle.feed_node_machine.specs.declared.machine.NodeMachine.{NodeMachine}
-use Rattle.feed_node_machine.specs.NodeEvents.{NodeEvent, Accepted, Served, Passed, DayBegan, Asked, Took, TookPart, Reopened, events_of, feed_history, today_in, IsMoment}
+use Rattle.feed_node_machine.specs.Exchanges.{ExchangeEvent, HasReply, HasArrivedPart, Reads}
+use Rattle.feed_node_machine.specs.NodeEvents.{NodeEvent, Accepted, Served, Passed, DayBegan, Asked, Took, TookPart, Exchanged, Reopened}
+use Rattle.feed_node_machine.specs.NodeEvents.{events_of, feed_history, today_in, exchange_in, IsMoment}
 use Rattle.feed_node_machine.specs.Rules.{Rules, Terms, replies_at, terms_with, IsAskedBy, AreGiven}
 use Rattle.feed_node_machine.specs.Nodes.{HasHistory, rules_of}
 
@@ -66,8 +68,8 @@ pub record ChangesByToken (token : Option (List ℕ)) (history : List NodeEvent)
 
 -- the promise, of a node whose responder has these rules and that has this token: on each connection the bytes sent are the
 -- beginning of the replies, in order, to the requests in the bytes received; each reply is one of the responder to the feed
--- as it was when the reply was made, on that day; the feed has a legal history, which the replies of the knowledge base gave; it reports
--- no older release than before; and only requests that have the token change it
+-- as it was when the reply was made, on that day; the feed has a legal history, of nothing but what the replies of the knowledge
+-- base gave; it reports no older release than before; and only requests that have the token change it
 pub record IsRightNode (rules : Rules) (token : Option (List ℕ)) (history : List NodeEvent) : Type 0 where
   pub served : (key : ℕ) → IsServed (replies_in rules token key history) (received_bytes (events_of key history)) (sent_bytes (events_of key history))
   pub moment : AreOfTheMoment rules token history
@@ -94,11 +96,17 @@ abbrev pub AgreeWith : List ℕ → ℕ → List ℕ → Type 0
 AgreeWith file first bytes = (place byte : ℕ) → byte_at first bytes place ≡ Some byte → slice_get file place ≡ Some byte
 
 -- a reply of the knowledge base has the length of the file, or bytes of it
-abbrev pub IsOfFile : List ℕ → Result Got RequestFault → Type 0
-IsOfFile file (Ok (got.Size size)) = size ≡ length file
-IsOfFile file (Ok (got.Piece first total bytes)) = AgreeWith file first bytes
-IsOfFile file (Ok (got.Whole bytes)) = bytes ≡ file
-IsOfFile file reply = Unit {0}
+abbrev pub IsOfFile : List ℕ → Got → Type 0
+IsOfFile file (got.Size size) = size ≡ length file
+IsOfFile file (got.Piece first total bytes) = AgreeWith file first bytes
+IsOfFile file (got.Whole bytes) = bytes ≡ file
+IsOfFile file given = Unit {0}
+
+-- the bytes received in an exchange are a slice of the file: a complete reply is of it, and the front of a whole file of a stated
+-- length is completed by some bytes to a reply with the file
+pub record IsServedFrom (file : List ℕ) (events : List ExchangeEvent) : Type 0 where
+  pub complete : (given : Got) → HasReply events (Ok given) → IsOfFile file given
+  pub arriving : (size first : ℕ) (bytes : List ℕ) → HasArrivedPart events size first bytes → (more : List ℕ) × Reads events more (Ok (got.Whole file))
 
 -- the knowledge bases of a node served slices of the same published files, one for each release
 abbrev pub AreOfFiles : (Name → List ℕ) → List NodeEvent → Type 0
@@ -108,8 +116,9 @@ AreOfFiles file (Served key share ∷ earlier) = AreOfFiles file earlier
 AreOfFiles file (Passed millis ∷ earlier) = AreOfFiles file earlier
 AreOfFiles file (DayBegan today ∷ earlier) = AreOfFiles file earlier
 AreOfFiles file (Asked key bytes name ∷ earlier) = AreOfFiles file earlier
-AreOfFiles file (Took name phase reply steps ∷ earlier) = IsOfFile (file name) reply × AreOfFiles file earlier
-AreOfFiles file (TookPart name first size bytes answer ∷ earlier) = AgreeWith (file name) first bytes × AreOfFiles file earlier
+AreOfFiles file (Took name phase reply steps ∷ earlier) = IsServedFrom (file name) (exchange_in earlier) × AreOfFiles file earlier
+AreOfFiles file (TookPart name first size bytes answer ∷ earlier) = IsServedFrom (file name) (exchange_in earlier) × AreOfFiles file earlier
+AreOfFiles file (Exchanged event ∷ earlier) = AreOfFiles file earlier
 AreOfFiles file (Reopened ∷ earlier) = AreOfFiles file earlier
 
 -- each complete file of such a node is the published one

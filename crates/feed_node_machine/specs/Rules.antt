@@ -12,7 +12,9 @@ use Rattle.feed_node_connection.specs.Requests.{AreRequestsIn, IsLastOf}
 use Rattle.feed_node_connection.specs.Replies.{Replies}
 use Rattle.feed_node_connection.specs.States.{HasState}
 use Rattle.feed_node_connection.specs.Streams.{AreReplies}
-use Rattle.feed_node_machine.specs.NodeEvents.{NodeEvent, Accepted, Served, Passed, DayBegan, Asked, Took, TookPart, Reopened, events_of, feed_history, today_in, WasAsked}
+use Rattle.feed_node_machine.specs.Exchanges.{ExchangeEvent, Requested, IsOwed, HasReply, HasArrivedPart, name_of}
+use Rattle.feed_node_machine.specs.NodeEvents.{NodeEvent, Accepted, Served, Passed, DayBegan, Asked, Took, TookPart, Exchanged, Reopened}
+use Rattle.feed_node_machine.specs.NodeEvents.{events_of, feed_history, today_in, exchange_in, WasAsked}
 
 -- the circumstances of a reply beside the feed: who may make the node fetch, whether the client is on the same machine, and
 -- the day
@@ -53,6 +55,11 @@ pub record IsAskedBy (token : Option (List ℕ)) (events : List Event) (bytes : 
   pub last : IsLastOf (requests_in events) bytes
   pub asks : IsFetchBy false token bytes (Some (Ok name))
 
+-- a request asked for the release that the node requests from the knowledge base
+abbrev pub MayExchange : ExchangeEvent → List NodeEvent → Type 0
+MayExchange (Requested name piece phase front request) earlier = WasAsked name earlier
+MayExchange event earlier = Unit {0}
+
 -- each event since the node was opened may follow those before it; an earlier run may have had another responder or token
 abbrev pub AreAllowed : Rules → Option (List ℕ) → List NodeEvent → Type 0
 AreAllowed rules token [] = Unit {0}
@@ -63,9 +70,17 @@ AreAllowed rules token (DayBegan today ∷ earlier) = AreAllowed rules token ear
 AreAllowed rules token (Asked key bytes name ∷ earlier) = IsAskedBy token (events_of key earlier) bytes name × AreAllowed rules token earlier
 AreAllowed rules token (Took name phase reply steps ∷ earlier) = WasAsked name earlier × AreAllowed rules token earlier
 AreAllowed rules token (TookPart name first size bytes answer ∷ earlier) = WasAsked name earlier × AreAllowed rules token earlier
+AreAllowed rules token (Exchanged event ∷ earlier) = MayExchange event earlier × AreAllowed rules token earlier
 AreAllowed rules token (Reopened ∷ earlier) = Unit {0}
 
--- in this run and the earlier ones, the feed handled the events that a reply of the knowledge base gives, and no others
+-- a request to the knowledge base is the one that the fetch needs next
+abbrev pub IsOwedAfter : ExchangeEvent → History → Type 0
+IsOwedAfter (Requested name piece phase front request) h = IsOwed name piece phase front h request
+IsOwedAfter event h = Unit {0}
+
+-- in this run and the earlier ones, the node requested what the fetch needed next; each reply that it took is the one to its
+-- last request, which was for this release, by the bytes received on that connection, and the feed handled no events but those that the reply gives; and
+-- each part that it took is one of the file that was arriving
 abbrev pub AreGiven : List NodeEvent → Type 0
 AreGiven [] = Unit {0}
 AreGiven (Accepted key ∷ earlier) = AreGiven earlier
@@ -73,6 +88,10 @@ AreGiven (Served key share ∷ earlier) = AreGiven earlier
 AreGiven (Passed millis ∷ earlier) = AreGiven earlier
 AreGiven (DayBegan today ∷ earlier) = AreGiven earlier
 AreGiven (Asked key bytes name ∷ earlier) = AreGiven earlier
-AreGiven (Took name phase reply steps ∷ earlier) = All (λ step. IsReplyEvent name phase reply step.0) steps × AreGiven earlier
-AreGiven (TookPart name first size bytes answer ∷ earlier) = AreGiven earlier
+AreGiven (Took name phase reply steps ∷ earlier) =
+    All (λ step. IsReplyEvent name phase reply step.0) steps × (name_of (exchange_in earlier) ≡ Some name) × HasReply (exchange_in earlier) reply
+    × AreGiven earlier
+AreGiven (TookPart name first size bytes answer ∷ earlier) =
+    (name_of (exchange_in earlier) ≡ Some name) × HasArrivedPart (exchange_in earlier) size first bytes × AreGiven earlier
+AreGiven (Exchanged event ∷ earlier) = IsOwedAfter event (feed_history earlier) × AreGiven earlier
 AreGiven (Reopened ∷ earlier) = AreGiven earlier

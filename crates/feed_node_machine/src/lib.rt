@@ -2,13 +2,15 @@
 //! say which history it has after each step.
 #![tactic(auto)]
 
+mod exchange;
 mod fetching;
 mod laws;
 mod machine;
 mod occasion;
 mod stepping;
 
-pub use fetching::Fetching;
+pub use exchange::{Arrival, Exchange};
+pub use fetching::{Fetching, NextRequest};
 pub use laws::{node_is_right, published_files_are_kept};
 pub use machine::NodeMachine;
 pub use occasion::{FeedRespond, Occasion};

@@ -7,7 +7,7 @@ use std::io;
 use std::io::{ErrorKind, Read, Write};
 use std::net::{Net, SocketAddr};
 
-// The most bytes of one read, and the most reads or writes of one turn.
+// The most bytes that are received in one turn, and the most reads or writes of one.
 const READ_BYTES: usize = 65_536;
 
 const READS: usize = 16;
@@ -15,25 +15,17 @@ const READS: usize = 16;
 // The bytes for which a request may take a second longer.
 const BYTES_PER_SECOND: usize = 65_536;
 
-/// The server that a request is sent to, and the limits of the request.
-#[derive(Clone, Copy)]
-pub struct Destination {
-    pub addr: SocketAddr,
-    /// The milliseconds that the request and its reply may take, and a second more for each 65,536 bytes that move.
-    pub limit: u64,
-    /// How many bytes of the reply are kept at a time. No more are read until some are discarded.
-    pub reply_limit: usize,
-}
-
-/// A request to another server, and the bytes of its reply that were received and not yet discarded.
+/// A request to another server, and the bytes of its reply that were received and not yet taken.
 #[derive(Drop)]
 pub struct OutgoingRequest {
     pub(crate) stream: TcpStream,
     request: Vec<u8>,
     sent: usize,
-    reply: Vec<u8>,
     buffer: Vec<u8>,
-    reply_limit: usize,
+    /// How many bytes of the reply are at the front of the buffer.
+    received: usize,
+    /// How many it may have before they are taken.
+    room: usize,
     /// The bytes sent and received since the time was last extended.
     moved: usize,
     /// The milliseconds that are left.
@@ -41,48 +33,45 @@ pub struct OutgoingRequest {
     is_over: bool,
     fault: Option<ErrorKind>,
     ghost within: { sent ≤ vec_len request },
+    ghost fits: { room ≤ vec_len buffer },
+    ghost filled: { received ≤ room },
 }
 
 impl OutgoingRequest {
-    /// Begins to connect. Nothing is sent yet.
+    /// Begins to connect. Nothing is sent yet. The request and its reply may take `limit` milliseconds, and a second
+    /// more for each 65,536 bytes that move.
     pub fn begin<R: Net + AllocGlobal>(
         rt: &R,
-        destination: Destination,
+        addr: SocketAddr,
+        limit: u64,
         request: Vec<u8>,
     ) -> io::Result<OutgoingRequest> {
         let alloc = rt.alloc();
         let buffer = Vec::from_elem(alloc, 0, READ_BYTES)?;
-        let stream = TcpStream::connect(rt, destination.addr)?;
+        let stream = TcpStream::connect(rt, addr)?;
         Ok(OutgoingRequest {
             stream,
             request,
             sent: 0,
-            reply: Vec::new(alloc),
             buffer,
-            reply_limit: destination.reply_limit,
+            received: 0,
+            room: READ_BYTES,
             moved: 0,
-            time_left: destination.limit,
+            time_left: limit,
             is_over: false,
             fault: None,
         })
     }
 
-    /// Returns the bytes of the reply that were received and not yet discarded.
-    pub fn reply(&self) -> &[u8] {
-        &self.reply
+    /// Returns the bytes of the reply that were received and not yet taken, at most 65,536.
+    pub fn received(&self) -> &[u8] {
+        &self.buffer[..self.received]
     }
 
-    /// Discards the first bytes of the reply. The ones after them move to its front.
-    pub fn discard(&mut self, count: usize) {
-        let kept = self.reply.len().saturating_sub(count);
-        let from = self.reply.len() - kept;
-        self.reply.copy_within(from.., 0);
-        self.reply.truncate(kept);
-    }
-
-    /// Changes how many bytes of the reply are kept at a time.
-    pub fn set_reply_limit(&mut self, limit: usize) {
-        self.reply_limit = limit;
+    /// Discards these bytes, which were taken. At most `room` more are then received before the next call.
+    pub fn discard(&mut self, room: usize) {
+        self.received = 0;
+        self.room = room.min(self.buffer.len());
     }
 
     /// Returns whether the server ended the connection, or there was an error.
@@ -127,8 +116,8 @@ impl OutgoingRequest {
         }
     }
 
-    /// Sends and receives until the socket would block, the request is over, the reply has as many bytes as are kept at
-    /// a time, or its share of the turn is used. Returns whether more may be received at once.
+    /// Sends and receives until the socket would block, the request is over, or its share of the turn is used. Returns
+    /// whether more may be received at once.
     pub fn advance(&mut self) -> bool {
         for _ in 0..READS {
             if self.is_over || !self.step() {
@@ -171,14 +160,11 @@ impl OutgoingRequest {
     }
 
     fn receive(&mut self) -> io::Result<usize> {
-        let room = self.reply_limit.saturating_sub(self.reply.len());
-        if room == 0 {
+        if self.received >= self.room {
             return Ok(0);
         }
-        let most = room.min(self.buffer.len());
-        let count = (&self.stream).read(&mut self.buffer[..most])?;
-        let arrived = count.min(self.buffer.len());
-        self.reply.extend_from_slice(&self.buffer[..arrived])?;
+        let count = (&self.stream).read(&mut self.buffer[self.received..self.room])?;
+        self.received += count.min(self.room - self.received);
         if count == 0 {
             self.end(None);
         }

@@ -4,7 +4,7 @@ ghost use Rattle.feed_node_machine.specs.Promise.{IsRightAfter};
 
 use crate::descriptors::available_clients;
 use crate::local::is_local;
-use crate::outgoing::{Destination, OutgoingRequest};
+use crate::outgoing::OutgoingRequest;
 use crate::socket::Socket;
 use crate::streamed_reply::StreamedReply;
 use feed_keep::Keep;
@@ -128,14 +128,15 @@ impl Server {
         Ok(Events::with_capacity(self.alloc, EVENTS)?)
     }
 
-    /// Begins a request to another server. It replaces one that is under way.
+    /// Begins a request to another server, as `OutgoingRequest::begin` does. It replaces one that is under way.
     pub fn begin_request<R: Net + AllocGlobal>(
         &mut self,
         rt: &R,
-        destination: Destination,
+        addr: SocketAddr,
+        limit: u64,
         request: Vec<u8>,
     ) -> io::Result<()> {
-        let mut outgoing = OutgoingRequest::begin(rt, destination, request)?;
+        let mut outgoing = OutgoingRequest::begin(rt, addr, limit, request)?;
         let both = Interest::READABLE | Interest::WRITABLE;
         self.poll
             .registry()

@@ -1,7 +1,7 @@
 //! The line on standard error by which a node reports the end of a fetch.
 use crate::fetch_outcome::FetchOutcome;
+use crate::fetcher::FeedNode;
 use feed_fetch::{FetchEnd, RequestFault, Stop};
-use feed_http::Got;
 use feed_keep::Keep;
 use feed_names::ReleaseName;
 use feed_releases::Feed;
@@ -45,23 +45,10 @@ impl<'a> FetchReport<'a> {
         }
     }
 
-    /// Adds bytes of the list that have arrived.
-    pub fn add(&mut self, count: usize) {
-        self.bytes = self.bytes.saturating_add(count as u64);
-    }
-
-    /// Adds the bytes of a reply.
-    pub fn add_reply(&mut self, reply: &Result<Got, RequestFault>) {
-        match reply {
-            Ok(
-                Got::Piece {
-                    first: _,
-                    total: _,
-                    bytes,
-                },
-            ) => self.add(bytes.as_slice().len()),
-            Ok(Got::Whole { bytes }) => self.add(bytes.as_slice().len()),
-            _ => {}
+    /// Adds the bytes of the list that have arrived, before the feed gets them.
+    pub fn add<K: Keep>(&mut self, node: &FeedNode<'_, K>) {
+        if let Some(exchange) = node.exchange() {
+            self.bytes = self.bytes.saturating_add(exchange.file_bytes() as u64);
         }
     }
 

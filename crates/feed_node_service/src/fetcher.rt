@@ -3,39 +3,33 @@ ghost use Rattle.std.specs.Prelude.{◌≡◌, ◌≤◌};
 ghost use Rattle.feed_limits.specs.Limits.{piece_limit};
 ghost use Rattle.feed_node_service.specs.Runs.{IsLaterNode};
 
-use crate::exchange::{Exchange, Step, WholePart};
+use crate::exchange::{RunningExchange, Step};
 use crate::fetch_outcome::FetchOutcome;
 use crate::fetch_report::{FetchReport, reason_of};
 use crate::node_state::NodeState;
-use crate::recorded_reply::RecordedReply;
 use crate::responder::FeedResponder;
 use crate::source_addrs::SourceAddrs;
 use crate::today::unix_seconds;
 use crate::watched_file::WatchedFile;
 use feed_dial::DialFault;
 use feed_fetch::{
-    FetchEnd, FetchEvent, Next, Observe, Printer, Request, RequestFault, Stop, Unprinted,
-    is_reported, print_end, print_name_fault,
+    FetchEnd, FetchEvent, Next, Observe, Printer, RequestFault, Stop, Unprinted, is_reported,
+    print_end, print_name_fault,
 };
 use feed_file_checks::{
     FileCheck, HeldList, ListCounts, Mismatch, active_counts, gate_by, rows_before,
 };
-use feed_http::{FilePart, Got, Method, is_host, read_reply, write_head_request, write_request};
-use feed_http_heads::HttpFault;
+use feed_http::is_host;
 use feed_keep::Keep;
 use feed_limits::PIECE_LIMIT;
 use feed_model::Reply;
-use feed_node_machine::Fetching;
-use feed_node_server::{Destination, OutgoingRequest, ServedNode, Server};
+use feed_node_machine::Exchange;
+use feed_node_server::{OutgoingRequest, ServedNode, Server};
 use feed_options::{NodeOptions, Source};
-use feed_releases::Feed;
-use std::alloc::{AllocError, Global};
+use std::alloc::Global;
 use std::io;
 use std::io::{ErrorKind, Write};
 use std::time::Instant;
-
-// The most parts of a whole file that are taken in one turn, which is all that are kept at a time.
-const PARTS: usize = 4;
 
 // The most bytes of a request if the rows of a list are counted as it arrives, so that this takes about a millisecond.
 const COUNTED_PIECE: u64 = 131_072;
@@ -59,14 +53,6 @@ pub struct Fetcher<'a> {
     report: FetchReport<'a>,
     /// The lines of the fetches that ended, which are not printed yet.
     pub notes: Vec<u8>,
-}
-
-// The last request of the fetch that is under way, the place of the address in use, and the checks of the file.
-#[derive(Drop)]
-struct RunningExchange {
-    at: usize,
-    exchange: Exchange,
-    check: FileCheck,
 }
 
 // The lines of the events of a fetch, up to the one by which the feed switches to the release.
@@ -137,11 +123,8 @@ impl<'a> Fetcher<'a> {
                     return self.end_by(server, node, "Query", 2);
                 };
                 let gate = gate_by(self.rt.alloc(), source.max_shrink, expected.is_accepted);
-                let running = RunningExchange {
-                    at: 0,
-                    exchange: Exchange::new(Method::Head, piece_of(source)),
-                    check: FileCheck::new(expected, source.has_any_type, gate),
-                };
+                let check = FileCheck::new(expected, source.has_any_type, gate);
+                let running = RunningExchange::new(self.rt.alloc(), piece_of(source), check);
                 self.send_next(server, node, running);
             }
             Some(Err(fault)) => {
@@ -294,6 +277,7 @@ impl<'a> Fetcher<'a> {
     }
 
     // Sends the next request of a fetch. If there is none, the fetch is over.
+    #[tactic(auto, using(feed_node_machine::proofs::Later::later_after))]
     fn send_next<K: Keep>(
         &mut self,
         server: &mut Server,
@@ -322,35 +306,27 @@ impl<'a> Fetcher<'a> {
     fn try_send_next<K: Keep>(
         &self,
         server: &mut Server,
-        node: &FeedNode<'_, K>,
+        node: &mut FeedNode<'_, K>,
         running: &mut RunningExchange,
-    ) -> io::Result<bool> {
+    ) -> io::Result<bool>
+        ensures { IsLaterNode node.old node.new }
+    {
         let Some(source) = self.source else {
             return Ok(false);
         };
         let Some(addr) = self.addrs.get(running.at) else {
             return Err(io::Error::from(ErrorKind::AddrNotAvailable));
         };
-        let Some(fetching) = node.fetching() else {
+        let host = source.addr.as_bytes();
+        if !is_host(host) {
+            return Ok(false);
+        }
+        let front = running.check.front_range(piece_of(source));
+        let Some(next) = node.next_request(host, front)? else {
             return Ok(false);
         };
-        let Some((method, text)) = next_request(
-            self.rt,
-            node.feed(),
-            fetching,
-            &running.check,
-            source,
-        )?
-        else {
-            return Ok(false);
-        };
-        running.exchange = Exchange::new(method, fetching.fetch.piece);
-        let destination = Destination {
-            addr,
-            limit: self.limit,
-            reply_limit: running.exchange.limit(),
-        };
-        server.begin_request(self.rt, destination, text)?;
+        running.restart();
+        server.begin_request(self.rt, addr, self.limit, next.text)?;
         Ok(true)
     }
 
@@ -420,45 +396,40 @@ impl<'a> Fetcher<'a> {
         let Some(outgoing) = server.outgoing() else {
             return Step::Wait;
         };
-        for _ in 0..PARTS {
-            match self.take(node, running, outgoing, events) {
-                Step::Again => {}
-                step => return step,
-            }
-        }
-        Step::Again
+        running.receive(node, outgoing.received());
+        let step = match self.take(node, running, outgoing, events) {
+            Step::Again => self.take(node, running, outgoing, events),
+            step => step,
+        };
+        outgoing.discard(running.room(node));
+        step
     }
 
-    // Takes the next part of the reply that has arrived, or the reply.
+    // Takes the next part of a whole file that has arrived, or the reply.
+    #[tactic(auto, using(feed_node_machine::proofs::Later::later_after))]
     fn take<K: Keep>(
         &mut self,
         node: &mut FeedNode<'_, K>,
         running: &mut RunningExchange,
-        outgoing: &mut OutgoingRequest,
+        outgoing: &OutgoingRequest,
         events: &mut EventLines,
     ) -> Step
-        ensures later { IsLaterNode node.old node.new }
-        ensures refused { (mismatch : Mismatch) → result ≡ Step.Refuse mismatch → node.new ≡ node.old }
+        ensures { IsLaterNode node.old node.new }
     {
         self.report.fault = outgoing.fault();
-        match running.exchange.look(outgoing, &running.check) {
-            Step::Part(part) => {
-                self.report.add(part.to.saturating_sub(part.from));
-                take_part(self.rt, node, running, outgoing, part, events)
+        match running.look(node, outgoing) {
+            Step::Part => {
+                self.report.add(node);
+                take_part(self.rt, node, running, events)
             }
-            Step::Parse => {
-                let reply = self.parse_reply(running.exchange.method(), outgoing);
-                self.report.add_reply(&reply);
-                take_reply(self.rt, node, &mut running.check, &reply, events)
+            Step::Reply => {
+                self.report.add(node);
+                take_reply(self.rt, node, &mut running.check, events)
             }
-            Step::Fail(fault) => {
-                let reply = Err(RequestFault::Http(fault));
-                take_reply(self.rt, node, &mut running.check, &reply, events)
-            }
-            Step::End(FetchEnd::NoRanges) => {
-                let fault = RequestFault::Http(HttpFault::BodyTooLong);
-                let _ = node.take_reply(&Err(fault), events);
-                Step::End(FetchEnd::NoRanges)
+            Step::Close(end) => {
+                node.end_connection(end);
+                self.report.add(node);
+                take_reply(self.rt, node, &mut running.check, events)
             }
             step => step,
         }
@@ -478,14 +449,6 @@ impl<'a> Fetcher<'a> {
         }
         lines.into_writer()
     }
-
-    // Parses the reply to the last request.
-    fn parse_reply(&self, method: Method, outgoing: &OutgoingRequest) -> Result<Got, RequestFault> {
-        match read_reply(self.rt.alloc(), &mut RecordedReply::new(outgoing), method) {
-            Ok(got) => Ok(got),
-            Err(fault) => Err(RequestFault::Http(fault)),
-        }
-    }
 }
 
 // Takes the reply, or why there is none. A file that is not the expected one is not submitted.
@@ -493,52 +456,19 @@ fn take_reply<K: Keep>(
     rt: &HostRuntime,
     node: &mut FeedNode<'_, K>,
     check: &mut FileCheck,
-    reply: &Result<Got, RequestFault>,
     events: &mut EventLines,
 ) -> Step
     ensures later { IsLaterNode node.old node.new }
     ensures refused { (mismatch : Mismatch) → result ≡ Step.Refuse mismatch → node.new ≡ node.old }
 {
-    if let Some(mismatch) = mismatch_of(rt.alloc(), node, check, reply) {
+    if let Some(mismatch) = mismatch_of(rt.alloc(), node, check) {
         return Step::Refuse(mismatch);
     }
-    match submit(node, check, reply, events) {
+    let is_too_long = matches!(node.exchange(), Some(Exchange::TooLong));
+    match node.take_reply(check.read_size().is_some(), events) {
+        _ if is_too_long => Step::End(FetchEnd::NoRanges),
         Ok(()) => Step::Send,
         Err(stop) => Step::End(FetchEnd::Stopped(stop)),
-    }
-}
-
-// Submits the reply to the feed. If the file is read from its front on, the feed may have its bytes already.
-fn submit<K: Keep>(
-    node: &mut FeedNode<'_, K>,
-    check: &FileCheck,
-    reply: &Result<Got, RequestFault>,
-    events: &mut EventLines,
-) -> Result<(), Stop>
-    ensures { IsLaterNode node.old node.new }
-{
-    match (reply, check.read_size()) {
-        (
-            Ok(
-                Got::Piece {
-                    first,
-                    total,
-                    bytes,
-                },
-            ),
-            Some(size),
-        ) => {
-            let part = FilePart {
-                first: *first,
-                length: total.unwrap_or(size),
-                bytes: bytes.as_slice(),
-            };
-            match node.take_part(&part, events) {
-                Ok(_) => Ok(()),
-                Err(stop) => Err(stop),
-            }
-        }
-        _ => node.take_reply(reply, events),
     }
 }
 
@@ -548,9 +478,9 @@ fn mismatch_of<K: Keep>(
     alloc: Global,
     node: &FeedNode<'_, K>,
     check: &mut FileCheck,
-    reply: &Result<Got, RequestFault>,
 ) -> Option<Mismatch> {
-    let (Ok(got), Some(fetching)) = (reply, node.fetching()) else {
+    let fetching = node.fetching()?;
+    let Some(Exchange::Received(Ok(got))) = node.exchange() else {
         return None;
     };
     match check.mismatch_of(alloc, node.feed(), &fetching.name, got) {
@@ -564,10 +494,10 @@ fn part_mismatch<K: Keep>(
     alloc: Global,
     node: &FeedNode<'_, K>,
     check: &mut FileCheck,
-    part: &FilePart<'_>,
 ) -> Option<Mismatch> {
     let fetching = node.fetching()?;
-    match check.part_mismatch(alloc, node.feed(), &fetching.name, part) {
+    let part = node.part()?;
+    match check.part_mismatch(alloc, node.feed(), &fetching.name, &part) {
         None if !lacks_end(node, check) => Some(check.range_mismatch()),
         mismatch => mismatch,
     }
@@ -585,32 +515,22 @@ fn lacks_end<K: Keep>(node: &FeedNode<'_, K>, check: &FileCheck) -> bool {
     }
 }
 
-// Takes a part of a whole file, and discards its bytes. No more parts are taken once nothing is missing.
+// Takes the part of a whole file that has arrived. No more parts are taken once nothing is missing.
 fn take_part<K: Keep>(
     rt: &HostRuntime,
     node: &mut FeedNode<'_, K>,
     running: &mut RunningExchange,
-    outgoing: &mut OutgoingRequest,
-    part: WholePart,
     events: &mut EventLines,
 ) -> Step
     ensures later { IsLaterNode node.old node.new }
     ensures refused { (mismatch : Mismatch) → result ≡ Step.Refuse mismatch → node.new ≡ node.old }
 {
-    let Some(bytes) = outgoing.reply().get(part.from..part.to) else {
-        return Step::Wait;
-    };
-    let found = FilePart {
-        first: part.first,
-        length: part.length,
-        bytes,
-    };
-    if let Some(mismatch) = part_mismatch(rt.alloc(), node, &mut running.check, &found) {
+    if let Some(mismatch) = part_mismatch(rt.alloc(), node, &mut running.check) {
         return Step::Refuse(mismatch);
     }
-    match node.take_part(&found, events) {
+    match node.take_part(events) {
         Ok(is_new) => {
-            running.exchange.pass(outgoing, part, is_new);
+            running.is_new = running.is_new || is_new;
             if is_done(node) {
                 Step::Send
             } else {
@@ -666,38 +586,6 @@ fn is_done<K: Keep>(node: &FeedNode<'_, K>) -> bool {
     match node.fetching() {
         Some(fetching) => fetching.fetch.next(node.feed(), &fetching.name) == Next::Done,
         None => true,
-    }
-}
-
-// Returns the next request of a fetch with its method, or none if the fetch is over.
-fn next_request<K: Keep>(
-    rt: &HostRuntime,
-    feed: &Feed<K>,
-    fetching: &Fetching,
-    check: &FileCheck,
-    source: Source<'_>,
-) -> Result<Option<(Method, Vec<u8>)>, AllocError> {
-    let host = source.addr.as_bytes();
-    if !is_host(host) {
-        return Ok(None);
-    }
-    let mut text = Vec::new(rt.alloc());
-    let name = &fetching.name;
-    let (method, written) = match fetching.fetch.next(feed, name) {
-        Next::Ask(Request::Length) => {
-            let written = write_head_request(&mut text, host, name);
-            (Method::Head, written)
-        }
-        Next::Ask(Request::Range { first, last }) => {
-            let (first, last) = check.next_range((first, last), fetching.fetch.piece);
-            let written = write_request(&mut text, host, name, first, last);
-            (Method::Get, written)
-        }
-        Next::Done => return Ok(None),
-    };
-    match written {
-        Ok(()) => Ok(Some((method, text))),
-        Err(_) => Err(AllocError),
     }
 }
 

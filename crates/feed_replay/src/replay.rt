@@ -1,7 +1,7 @@
 //! Reads a script, replays it, and prints the transcript or the first fault.
 use crate::causes::{LONG_SCRIPT, cause_of_line};
 use crate::disk::Disk;
-use feed_command::{Console, DONE, FAILED, REFUSED, read_up_to};
+use feed_command::{Console, DONE, FAILED, REFUSED, read_front};
 use feed_core::{ReplayFault, Transcript, replay};
 use feed_keep::ListKeep;
 use feed_model::{KeepFault, Refusal};
@@ -36,7 +36,7 @@ pub fn replay_input<O: Write, F: Write + Drop>(console: &mut Console<'_, O, F>) 
 // Reads and parses the script. Otherwise it reports the fault and returns the exit status.
 fn read_input<O: Write, F: Write + Drop>(console: &mut Console<'_, O, F>) -> Result<Script, u8> {
     let rt = console.rt;
-    let bytes = match read_up_to(rt.alloc(), &mut rt.reader(), SCRIPT_LIMIT) {
+    let bytes = match read_front(rt.alloc(), &mut rt.reader(), SCRIPT_LIMIT + 1) {
         Ok(bytes) => bytes,
         Err(error) => return Err(console.faults.report_read(INPUT, error)),
     };

@@ -6,11 +6,12 @@ use crate::line::Line;
 use crate::print::print_escaped;
 use crate::shelf::CountingShelf;
 use feed_http::{
-    Bytes, Got, HttpFault, MemoryShelf, Method, ReplyScan, Shelf, is_host, read_reply, serve_one,
-    write_head_request, write_request,
+    Bytes, Got, HttpFault, MemoryShelf, Method, ReplyMachine, Shelf, StreamEnd, is_host,
+    read_reply, serve_one, write_head_request, write_request,
 };
 use feed_names::ReleaseName;
 use feed_test_output::Out;
+use std::alloc::Global;
 
 impl Driver<'_> {
     /// Runs a command on an exchange.
@@ -25,6 +26,7 @@ impl Driver<'_> {
             "get" => self.get(out, line),
             "head" => self.head(out, line),
             "reply" => self.reply(out, line),
+            "arriving" => self.arriving_reply(out, line),
             "reply-end" => self.reply_end(out, line),
             "request" => self.request(out, line),
             "serve" => self.serve(out, line),
@@ -102,10 +104,17 @@ impl Driver<'_> {
         got
     }
 
+    fn arriving_reply(&self, out: &mut Out<'_>, mut line: Line<'_>) -> Result<(), Fault> {
+        let method = line.method();
+        let text = line.text(self.rt.alloc())?;
+        print_reply(out, arrive(self.rt.alloc(), method, &text, self.step).got);
+        Ok(())
+    }
+
     fn reply_end(&self, out: &mut Out<'_>, mut line: Line<'_>) -> Result<(), Fault> {
         let method = line.method();
         let text = line.text(self.rt.alloc())?;
-        match end_of(method, &text, self.step) {
+        match arrive(self.rt.alloc(), method, &text, self.step).end {
             Some(end) => out.labelled("complete ", end as u64),
             None => out.word("unfinished"),
         }
@@ -142,17 +151,49 @@ impl Driver<'_> {
     }
 }
 
-// Returns after how many bytes of a reply it is complete, if `step` of them arrive at a time.
-fn end_of(method: Method, text: &[u8], step: usize) -> Option<usize> {
-    let mut scan = ReplyScan::new(method);
-    let mut end = 0usize;
+// A reply that arrives.
+#[derive(Drop)]
+struct ArrivedReply {
+    got: Result<Got, HttpFault>,
+    /// After how many bytes no more are needed: where the reply ends, or how many have arrived when a fault is found.
+    /// None if the end of the stream decides.
+    end: Option<usize>,
+}
+
+// Returns the reply in a text of which `step` bytes arrive at a time, until the server closes the connection.
+fn arrive(alloc: Global, method: Method, text: &[u8], step: usize) -> ArrivedReply {
+    let mut machine = ReplyMachine::new(method);
+    let mut body = Vec::new(alloc);
+    let mut passed = 0usize;
+    let mut arrived = 0usize;
     for _ in 0..=text.len() {
-        if scan.is_complete(&text[..end.min(text.len())]) {
-            return Some(end);
+        let bytes = text.get(passed..arrived).unwrap_or(b"");
+        match machine.advance(bytes, &mut body, step) {
+            Ok(taken) => {
+                passed = passed.saturating_add(taken.count);
+                if taken.is_over {
+                    return ArrivedReply {
+                        got: match machine.finish(body) {
+                            Some(got) => Ok(got),
+                            None => Err(HttpFault::Read),
+                        },
+                        end: Some(passed),
+                    };
+                }
+            }
+            Err(fault) => {
+                return ArrivedReply {
+                    got: Err(fault),
+                    end: Some(arrived),
+                };
+            }
         }
-        end = end.saturating_add(step).min(text.len());
+        arrived = arrived.saturating_add(step).min(text.len());
     }
-    None
+    ArrivedReply {
+        got: machine.end(StreamEnd::Closed, body),
+        end: None,
+    }
 }
 
 fn print_outcome(out: &mut Out<'_>, outcome: Result<u16, HttpFault>, reply: &[u8]) {

@@ -21,7 +21,8 @@
 //!     get HOST NAME FIRST LAST        the GET that a node writes; after a fault, the bytes that it wrote before
 //!     head HOST NAME                  the HEAD, in the same way
 //!     reply get|head TEXT             what a node reads from a reply
-//!     reply-end get|head TEXT         after how many bytes of a reply a node needs no more, if STEP arrive at a time
+//!     arriving get|head TEXT          the same, if STEP bytes arrive at a time
+//!     reply-end get|head TEXT         after how many of them a node needs no more
 //!     file NAME TEXT                  puts a file on the server's shelf; prints nothing
 //!     request TEXT                    the status of the server's reply to a request, or its fault, and the reply
 //!     serve TEXT                      the same, from a shelf in memory whose calls are not counted

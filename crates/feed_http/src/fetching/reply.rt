@@ -1,85 +1,85 @@
-//! Reads one reply at the client end.
-ghost use Rattle.std.specs.Prelude.{IfSome, IfErr};
-ghost use Rattle.feed_http.specs.Got.{IsBody, IsPartBody, IsGot, IsReply, IsReadingFault};
+//! Reads one reply at the client end: from bytes at hand, or from a reader.
+ghost use Rattle.std.specs.Prelude.{◌≡◌, ◌≤◌, ◌-◌, ◌++◌, ℕ, List, length, take, drop};
+ghost use Rattle.std.specs.Prelude.{IfOk, IfErr, IfSome, OnOk, Some, Err};
+ghost use Rattle.feed_http.specs.ArrivingChunks.{IsKept, IsTakingFault};
+ghost use Rattle.feed_http.specs.Got.{IsReply, IsReadingFault};
+ghost use Rattle.feed_http.specs.ArrivingReplies.{HasPassedReply, IsReplyTaken, file_length};
 
-use crate::fetching::body::{Bounds, read_sized, read_to_end};
-use crate::fetching::chunks::read_chunked;
-use crate::fetching::got::{Bytes, Got, Method};
-use crate::fetching::validation::{Announcement, Framing, Reply};
-use feed_http_heads::{FIELD_LIMIT, HEAD_LIMIT, HttpFault, read_reply_head};
+use crate::fetching::got::{Got, Method};
+use crate::fetching::reply_machine::{ReplyMachine, StreamEnd};
+use crate::fetching::step::Step;
+use feed_http_heads::{HEAD_LIMIT, HttpFault, read_some};
 use feed_limits::FILE_LIMIT;
-use httparse::spans::EMPTY_HEADER_SPAN;
-use std::alloc::Global;
+use std::alloc::{AllocError, Global};
 use std::io::Read;
 
-fn read_body<R: Read>(
-    alloc: Global,
-    reader: &mut R,
-    framing: Framing,
-    bounds: Bounds,
-) -> Result<Bytes, HttpFault>
-    ensures body { IfSome (R.remaining reader.old) (λ text. IsBody framing bounds.least bounds.most text result) }
-    ensures faults { IfErr result IsReadingFault }
-{
-    let body = match framing {
-        Framing::Chunked => read_chunked(alloc, reader, bounds)?,
-        Framing::Sized(size) => read_sized(alloc, reader, size as usize)?,
-        Framing::ToEnd => read_to_end(alloc, reader, bounds)?,
-    };
-    Ok(Bytes::new(body))
+/// How many of the bytes at hand were taken.
+#[derive(Clone, Copy, Debug)]
+pub struct Taken {
+    /// Their number. The caller keeps the others until more have arrived.
+    pub count: usize,
+    /// Whether the reply is complete.
+    pub is_over: bool,
 }
 
-fn read_part<R: Read>(
-    alloc: Global,
-    reader: &mut R,
-    framing: Framing,
-    count: u64,
-) -> Result<Bytes, HttpFault>
-    ensures body { IfSome (R.remaining reader.old) (λ text. IsPartBody framing count text result) }
-    ensures faults { IfErr result IsReadingFault }
+// Appends the bytes to the body, and takes memory for this many more.
+fn append(body: &mut Vec<u8>, bytes: &[u8], ahead: usize) -> Result<(), AllocError>
+    ensures items { OnOk result (body.new.items ≡ body.old.items ++ bytes.now) }
 {
-    let bounds = Bounds {
-        least: count as usize,
-        most: count as usize,
-    };
-    match read_body(alloc, reader, framing, bounds) {
-        Err(HttpFault::BodyTooLong) => Err(HttpFault::Length),
-        read => read,
-    }
+    body.reserve(bytes.len().saturating_add(ahead))?;
+    body.extend_from_slice(bytes)
 }
 
-fn read_got<R: Read>(
-    alloc: Global,
-    reader: &mut R,
-    announcement: Announcement,
-) -> Result<Got, HttpFault>
-    ensures got { IfSome (R.remaining reader.old) (λ text. IsGot announcement text result) }
-    ensures faults { IfErr result IsReadingFault }
-{
-    match announcement {
-        Announcement::Missing => Ok(Got::Missing),
-        Announcement::Unsatisfied { total } => Ok(Got::Unsatisfied { total }),
-        Announcement::Size(length) => Ok(Got::Size(length)),
-        Announcement::Part {
-            first,
-            total,
-            count,
-            framing,
-        } => {
-            let bytes = read_part(alloc, reader, framing, count)?;
-            Ok(Got::Piece {
-                first,
-                total,
-                bytes,
-            })
-        }
-        Announcement::Whole(framing) => {
-            let bounds = Bounds {
-                least: 0,
-                most: FILE_LIMIT,
-            };
-            let bytes = read_body(alloc, reader, framing, bounds)?;
-            Ok(Got::Whole { bytes })
+impl ReplyMachine {
+    /// Takes as many of the bytes at hand as it can, and appends those of the body. The caller may have removed earlier
+    /// ones of the body. Takes memory for at most `ahead` bytes of the body that are still to come.
+    ///
+    /// # Errors
+    ///
+    /// The fault of the reply, whatever follows; `Memory` if the body cannot be extended.
+    pub fn advance(
+        &mut self,
+        bytes: &[u8],
+        body: &mut Vec<u8>,
+        ahead: usize,
+    ) -> Result<Taken, HttpFault>
+        ensures method { self.new.method ≡ self.old.method }
+        ensures stated { IfSome (file_length self.old.place) (λ size. file_length self.new.place ≡ Some size) }
+        ensures within { IfOk result (λ taken. taken.count ≤ length bytes.now) }
+        ensures kept { IfOk result (λ taken. IsKept taken.is_over (length bytes.now - taken.count)) }
+        ensures taken { (text before : List ℕ) → HasPassedReply self.old text (before ++ body.old.items)
+            → IfOk result (λ taken. IsReplyTaken self.new (text ++ take taken.count bytes.now)
+            (before ++ body.new.items) (drop taken.count bytes.now) taken.is_over) }
+        ensures faults { (text before : List ℕ) → HasPassedReply self.old text (before ++ body.old.items)
+            → IfErr result (λ fault. (more : List ℕ)
+            → IsReply self.old.method (text ++ (bytes.now ++ more)) (Err fault)) }
+        ensures shown { IfErr result IsTakingFault }
+    {
+        let mut count = 0usize;
+        'steps: loop {
+            match self.step(&bytes[count..]) {
+                Step::Wait => {
+                    return Ok(Taken {
+                        count,
+                        is_over: false,
+                    });
+                }
+                Step::Skip(passed) => count += passed,
+                Step::Body(passed) => {
+                    let ahead = self.missing().min(ahead);
+                    let Ok(()) = append(body, &bytes[count..count + passed], ahead) else {
+                        return Err(HttpFault::Memory);
+                    };
+                    count += passed;
+                }
+                Step::Done => {
+                    return Ok(Taken {
+                        count,
+                        is_over: true,
+                    });
+                }
+                Step::Fault(fault) => return Err(fault),
+            }
         }
     }
 }
@@ -101,15 +101,25 @@ pub fn read_reply<R: Read>(alloc: Global, reader: &mut R, method: Method) -> Res
     ensures reply { IfSome (R.remaining reader.old) (λ text. IsReply method text result) }
     ensures faults { IfErr result IsReadingFault }
 {
+    let mut machine = ReplyMachine::new(method);
+    let mut body = Vec::new(alloc);
     let mut buffer = [0u8; HEAD_LIMIT];
-    let mut headers = [EMPTY_HEADER_SPAN; FIELD_LIMIT];
-    let read = read_reply_head(reader, &mut buffer, &mut headers)?;
-    let reply = Reply {
-        buffer: &buffer[read.start..read.filled],
-        headers: &headers,
-        spans: read.spans,
-    };
-    let announcement = reply.validate(method)?;
-    let mut body = buffer[read.start + read.spans.len..read.filled].chain(reader);
-    read_got(alloc, &mut body, announcement)
+    let mut filled = 0usize;
+    'reads: for _ in 0..u64::MAX {
+        let taken = machine.advance(&buffer[..filled], &mut body, FILE_LIMIT)?;
+        if taken.is_over {
+            match machine.finish(body) {
+                Some(got) => return Ok(got),
+                None => return Err(HttpFault::Read),
+            }
+        }
+        buffer.copy_within(taken.count..filled, 0);
+        filled -= taken.count;
+        match read_some(reader, &mut buffer[filled..]) {
+            Ok(count) => filled += count,
+            Err(HttpFault::Short) => return machine.end(StreamEnd::Closed, body),
+            Err(_) => return machine.end(StreamEnd::Failed, body),
+        }
+    }
+    Err(HttpFault::Read)
 }

@@ -1,34 +1,55 @@
-use Rattle.std.proofs.Common.{arith}
-use Rattle.feed_http.proofs.ReplyValidation.{head_read, head_refused, head_faults, body_given, no_head, no_head_reads}
+use Rattle.std.proofs.Common.{[], ◌≡◌, ◌≤◌, ◌++◌, length, Bool, take, drop, arith, subst, ◌∙◌}
+use Rattle.std.specs.Prelude.{◌-◌}
+use Rattle.std.proofs.lemmas.List.{length-take-le}
+use borrow.Rule.Slice.PartMut.{same_len_mid}
+use Rattle.feed_http_heads.proofs.BufferFilling.{put_mid_fits}
+use Rattle.feed_http.specs.ArrivingReplies.{IsReplyTaken}
+use Rattle.feed_http.proofs.ReplyReading.{failed_read, done_read, ended_read, read_behind}
 use Rattle.feed_http.proofs.fetching.reply.read_reply.Goals as goal
 
-pub returns-in_err-announcement-clause-reply : goal.returns-in_err-announcement-clause-reply
-returns-in_err-announcement-clause-reply g c = let h = c.in_ok-read.ensures in
-    head_refused c.args.method (g.R.Read.remaining c.args.reader.now) (g.R.Read.remaining c.read_reply_head.new.reader) c.read_reply_head.new.buffer c.read_reply_head.new.headers
-    c.in_ok-read.read.start c.in_ok-read.read.filled c.in_ok-read.read.spans c.from_residual-in_err-announcement.result c.in_err-announcement.field-0.0
-    (head_read _ _ _ _ _ h.filled (let kept = c.read_reply_head.auto.buffer in omega (arith, kept)) (let kept = c.read_reply_head.auto.headers in omega (arith, kept)) h.within h.head)
-    h.taken c.in_err-announcement.ensures.value c.from_residual-in_err-announcement.ensures.1
+pub returns-in_err-taken-clause-reply : goal.returns-in_err-taken-clause-reply
+returns-in_err-taken-clause-reply g c = let i = c.reads.invariant in
+    failed_read c.args.method (g.R.Read.remaining c.args.reader.now) (g.R.Read.remaining c.reads.reader) i.3.0 (take c.reads.filled c.reads.buffer) c.in_err-taken.field-0.0
+    c.from_residual.result i.3.2 (rw i.2 at (c.in_err-taken.ensures.faults i.3.0 [] i.3.1)) c.from_residual.ensures.1
 
-pub returns-clause-reply : goal.returns-clause-reply
-returns-clause-reply g c = let h = c.in_ok-read.ensures in
-    body_given c.args.method (g.R.Read.remaining c.args.reader.now) (g.R.Read.remaining c.read_reply_head.new.reader) _ c.read_reply_head.new.buffer c.read_reply_head.new.headers
-    c.in_ok-read.read.start c.in_ok-read.read.filled c.in_ok-read.read.spans c.in_ok-announcement.announcement c.read_got.result
-    (head_read _ _ _ _ _ h.filled (let kept = c.read_reply_head.auto.buffer in omega (arith, kept)) (let kept = c.read_reply_head.auto.headers in omega (arith, kept)) h.within h.head)
-    h.taken c.in_ok-announcement.ensures.value c.chain-body.ensures.bytes c.read_got.ensures.got
+pub returns-in-Some-clause-reply : goal.returns-in-Some-clause-reply
+returns-in-Some-clause-reply g c = let i = c.reads.invariant in
+    let bytes = take c.reads.filled c.reads.buffer in
+    let count = c.in_ok-taken.taken.count in
+    let taken = subst (λ (b : Bool). IsReplyTaken c.advance.new.self (i.3.0 ++ take count bytes) c.advance.new.body.items (drop count bytes) b) c.if-taken.true
+    (c.in_ok-taken.ensures.taken i.3.0 [] i.3.1) in
+    done_read c.args.method c.advance.new.self.method (g.R.Read.remaining c.args.reader.now) (g.R.Read.remaining c.reads.reader) i.3.0 bytes count c.in-Some.got
+    (c.advance.ensures.method ∙ i.2) i.3.2 (taken.2 c.in-Some.got c.in-Some.ensures.some)
 
-pub returns-in_err-announcement-clause-faults : goal.returns-in_err-announcement-clause-faults
-returns-in_err-announcement-clause-faults g c = let h = c.in_ok-read.ensures in
-    head_faults c.args.method c.read_reply_head.new.buffer c.read_reply_head.new.headers
-    c.in_ok-read.read.start c.in_ok-read.read.filled c.in_ok-read.read.spans c.from_residual-in_err-announcement.result c.in_err-announcement.field-0.0
-    (head_read _ _ _ _ _ h.filled (let kept = c.read_reply_head.auto.buffer in omega (arith, kept)) (let kept = c.read_reply_head.auto.headers in omega (arith, kept)) h.within h.head)
-    c.in_err-announcement.ensures.value c.from_residual-in_err-announcement.ensures.1
+pub returns-in-Err-Short-clause-reply : goal.returns-in-Err-Short-clause-reply
+returns-in-Err-Short-clause-reply g c = let i = c.reads.invariant in
+    let bytes = take c.reads.filled c.reads.buffer in
+    let count = c.in_ok-taken.taken.count in
+    let taken = subst (λ (b : Bool). IsReplyTaken c.advance.new.self (i.3.0 ++ take count bytes) c.advance.new.body.items (drop count bytes) b) c.if-taken.false
+    (c.in_ok-taken.ensures.taken i.3.0 [] i.3.1) in
+    ended_read c.args.method c.advance.new.self.method (g.R.Read.remaining c.args.reader.now) (g.R.Read.remaining c.reads.reader) i.3.0 bytes count c.end.result
+    (c.advance.ensures.method ∙ i.2) i.3.2 (rw c.in-Err-Short.field-0-is at c.in-Err-Short.ensures.faults) (taken.1 c.end.result c.end.ensures)
 
-pub returns-in_err-read-clause-reply : goal.returns-in_err-read-clause-reply
-returns-in_err-read-clause-reply g c =
-    no_head c.args.method (g.R.Read.remaining c.args.reader.now) _ _ c.from_residual.result c.in_err-read.field-0.0 (omega arith) (omega arith) c.in_err-read.ensures.why c.from_residual.ensures.1
-
-pub returns-in_err-read-clause-faults : goal.returns-in_err-read-clause-faults
-returns-in_err-read-clause-faults g c = no_head_reads c.from_residual.result c.in_err-read.field-0.0 c.in_err-read.ensures.faults c.from_residual.ensures.1
-
-pub returns-clause-faults : goal.returns-clause-faults
-returns-clause-faults g c = c.read_got.ensures.faults
+pub reads-preserved : goal.reads-preserved
+reads-preserved g c = let i = c.reads.invariant in
+    let bytes = take c.reads.filled c.reads.buffer in
+    let count = c.in_ok-taken.taken.count in
+    let kept = c.reads.filled - count in
+    let taken = subst (λ (b : Bool). IsReplyTaken c.advance.new.self (i.3.0 ++ take count bytes) c.advance.new.body.items (drop count bytes) b) c.if-taken.false
+    (c.in_ok-taken.ensures.taken i.3.0 [] i.3.1) in
+    let copied = c.copy_within.new.self in
+    let space = c.read_some.new.space in
+    let some = c.in-Ok.ensures.some in
+    let long : length copied ≡ 8192 = c.copy_within.ensures.len ∙ i.1 in
+    let room : kept ≤ length copied = omega (arith, long, i.0, i.1) in (
+      put_mid_fits kept _ c.in-Ok.count copied space room some.1,
+      same_len_mid kept _ copied space c.read_some.auto.space ∙ long,
+      c.advance.ensures.method ∙ i.2,
+      (
+        i.3.0 ++ take count bytes,
+        taken.0,
+        read_behind (g.R.Read.remaining c.args.reader.now) (g.R.Read.remaining c.reads.reader) (g.R.Read.remaining c.read_some.new.reader) i.3.0 c.reads.buffer copied space count
+            c.reads.filled _ c.in-Ok.count (let w = c.in_ok-taken.ensures.within in let l = length-take-le c.reads.filled c.reads.buffer i.0 in omega (arith, w, l))
+            i.0 room some.1 c.copy_within.ensures.after i.3.2 c.in-Ok.ensures.taken,
+      ),
+    )

@@ -1,11 +1,23 @@
-use Rattle.std.proofs.Common.{rules, ◌≡◌, Some}
+use Rattle.std.proofs.Common.{rules, ◌≡◌, None, Some, refl}
+use Rattle.std.specs.Prelude.{IfErr}
+use Rattle.feed_fetch.specs.Answers.{IsStoppedAt}
+use Rattle.feed_node_machine.specs.declared.fetching.Fetching.{Fetching}
+use Rattle.feed_node_machine.proofs.Exchanged.{taken_as, took_reply}
 use Rattle.feed_node_machine.proofs.Later.{later_taken}
 use Rattle.feed_node_machine.proofs.machine.NodeMachine.take_reply.Goals as goal
 
-pub returns-clause-taken : goal.returns-clause-taken
-returns-clause-taken g c = search rules
+pub returns-in-Ok-clause-taken : goal.returns-in-Ok-clause-taken
+returns-in-Ok-clause-taken g c history has =
+    let wanted = g.S.FeedRespond.wanted in
+    let replies = g.S.FeedRespond.replies in
+    let was = c.in-Some.fetching in
+    let is : c.args.self.now.fetching ≡ Some was = search rules in
+    let next : Fetching = record { name = was.name; fetch = c.submit-outcome.new.fetch; exchange = None } in
+    taken_as wanted replies c.args.self.now _ history was c.in-Ok.reply is c.in-Ok.ensures.ended
+    (took_reply wanted replies c.args.self.now c.submit-outcome.new.feed was next c.in-Ok.reply
+    (λ k. IfErr c.submit-outcome.result (λ stop. IsStoppedAt was.name stop k)) history is refl refl c.in-Ok.ensures.ended c.submit-outcome.ensures has)
 
-pub returns-clause-later : goal.returns-clause-later
-returns-clause-later g c =
+pub returns-in-Ok-clause-later : goal.returns-in-Ok-clause-later
+returns-in-Ok-clause-later g c =
     let is : c.args.self.now.fetching ≡ Some c.in-Some.fetching = search rules in
-    later_taken g.S.FeedRespond.wanted g.S.FeedRespond.replies c.args.reply.now c.in-Some.fetching _ _ is (returns-clause-taken g c)
+    later_taken g.S.FeedRespond.wanted g.S.FeedRespond.replies c.in-Some.fetching c.in-Ok.reply _ _ is c.in-Ok.ensures.ended (returns-in-Ok-clause-taken g c)
