@@ -11,5 +11,5 @@ mod stack;
 pub use arguments::{parse_name, parse_query};
 pub use console::Console;
 pub use faults::{DONE, FAILED, Faults, MISUSED, REFUSED};
-pub use input::{Watched, open_file, open_plain, open_plain_file, read_up_to};
+pub use input::{Watched, open_file, open_plain, open_plain_file, read_front};
 pub use stack::take_stack;

@@ -1,13 +1,12 @@
 //! Hints on a bad list: what the file probably is, and where its text is not UTF-8.
 ghost use Rattle.std.specs.Prelude.{◌≤◌, length};
 
-use feed_command::Console;
+use feed_command::{Console, open_plain};
 use feed_kbart::BadFile;
 use feed_limits::FILE_LIMIT;
 use std::alloc::Global;
-use std::fs::File;
+use std::io;
 use std::io::{Read, Write};
-use std::{fmt, fs, io};
 
 // A file is read in blocks of at most this many bytes. The header is looked for in the first block.
 const BLOCK: usize = 65_536;
@@ -40,16 +39,6 @@ impl Place {
     }
 }
 
-impl fmt::Display for Place {
-    ghost use Rattle.std.specs.Prelude.{None};
-
-    ghost output = { λ _. None };
-
-    fn fmt<W: fmt::Write>(&self, f: &mut fmt::Formatter<W>) -> fmt::Result {
-        write!(f, "byte {}, on line {}, is not UTF-8", self.byte, self.line)
-    }
-}
-
 /// Notes what is known of a bad list at a path, which it reads again. It does not read anything but a plain file again,
 /// since that may wait, as it does for a pipe.
 pub fn note_bad_file<O: Write, F: Write + Drop>(
@@ -58,11 +47,7 @@ pub fn note_bad_file<O: Write, F: Write + Drop>(
     why: BadFile,
     console: &mut Console<'_, O, F>,
 ) {
-    match fs::metadata(console.rt, path) {
-        Ok(metadata) if metadata.is_file() => {}
-        _ => return,
-    }
-    if let Ok(file) = File::open(console.rt, path) {
+    if let Ok(Some(file)) = open_plain(console.rt, path) {
         note_bad_list(file, about, why, console);
     }
 }
@@ -82,8 +67,10 @@ pub fn note_bad_list<R: Read + Drop, O: Write, F: Write + Drop>(
     match (hint_of(&front, why), why) {
         (Some(hint), _) => console.faults.note(about, hint),
         (None, BadFile::NotUtf8) => {
-            if let Ok(Some(place)) = first_bad(console.rt.alloc(), front, &mut list) {
-                console.faults.note(about, place);
+            let place = first_bad(console.rt.alloc(), front, &mut list);
+            if let Ok(Some(Place { byte, line, .. })) = place {
+                let hint = format_args!("byte {byte}, on line {line}, is not UTF-8");
+                console.faults.note(about, hint);
             }
         }
         _ => {}

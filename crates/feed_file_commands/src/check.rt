@@ -1,7 +1,7 @@
 //! `kbfeed check`: what files hold, or why they are bad.
 use crate::bad_list::{note_bad_file, note_bad_list};
 use crate::hints::{Advice, parse_meant_name};
-use feed_command::{Console, DONE, FAILED, MISUSED, REFUSED, Watched, open_file, read_up_to};
+use feed_command::{Console, DONE, FAILED, MISUSED, REFUSED, Watched, open_file, read_front};
 use feed_kbart::{BadFile, FileCount, KbartFault, count_file};
 use feed_limits::FILE_LIMIT;
 use feed_options::CheckOptions;
@@ -134,7 +134,7 @@ fn read_kept<R: Read>(
     file: &mut R,
     kept: &mut Vec<u8>,
 ) -> Result<FileCount, KbartFault> {
-    match read_up_to(alloc, file, FILE_LIMIT) {
+    match read_front(alloc, file, FILE_LIMIT + 1) {
         Ok(text) => *kept = text,
         Err(error) if error.kind() == ErrorKind::OutOfMemory => return Err(KbartFault::Memory),
         Err(_) => return Err(KbartFault::Read),

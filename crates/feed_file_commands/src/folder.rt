@@ -1,7 +1,9 @@
 //! The releases of a folder, as a shelf that the HTTP server reads from.
-ghost use Rattle.std.specs.Prelude.{◌≡◌, IfOk, length};
+ghost use Rattle.std.specs.Prelude.{◌≡◌, ℕ, List, IfOk, drop, length, take};
+ghost use Rattle.feed_file_commands.specs.PlacedFiles.{HasBytes};
 ghost use Rattle.feed_http.specs.Shelves.{IsCounted};
 
+use feed_command::open_plain;
 use feed_http::{Shelf, ShelfFault};
 use feed_names::ReleaseName;
 use std::alloc::Global;
@@ -20,12 +22,35 @@ pub struct Folder<'a> {
     open_file: Option<OpenFile>,
 }
 
-// An open file, and the place from which the system reads next.
 #[derive(Drop)]
 struct OpenFile {
     name: ReleaseName,
     file: File,
-    next: u64,
+}
+
+// Returns the size of a file.
+fn size_of<R: Read + Seek>(file: &mut R) -> io::Result<u64>
+    ensures { (all : List ℕ) → HasBytes R.Read.remaining R.Seek.stream_position R.Seek.stream_bytes all file.old
+        → IfOk result (λ size. size ≡ length all) }
+{
+    file.seek(SeekFrom::End(0))
+}
+
+// Reads exactly `len` bytes of a file, from a place on.
+fn read_at<R: Read + Seek>(
+    alloc: Global,
+    file: &mut R,
+    first: u64,
+    len: usize,
+) -> io::Result<Vec<u8>>
+    ensures len { IfOk result (λ bytes. length bytes.items ≡ len) }
+    ensures bytes { (all : List ℕ) → HasBytes R.Read.remaining R.Seek.stream_position R.Seek.stream_bytes all file.old
+        → IfOk result (λ bytes. bytes.items ≡ take len (drop first all)) }
+{
+    let mut bytes = vec![in alloc; 0u8; len]?;
+    file.seek(SeekFrom::Start(first))?;
+    file.read_exact(bytes.as_mut_slice())?;
+    Ok(bytes)
 }
 
 impl<'a> Folder<'a> {
@@ -46,8 +71,7 @@ impl<'a> Folder<'a> {
         }
     }
 
-    // Opens the plain file of a name and returns its size, or `None` if the file is of another kind. It does not open
-    // such a file, since that may wait, as it does for a pipe.
+    // Opens the plain file of a name and returns its size, or `None` if the file is of another kind.
     fn open(&mut self, name: &ReleaseName) -> io::Result<Option<u64>>
         ensures { self.new.failures ≡ self.old.failures }
     {
@@ -55,23 +79,18 @@ impl<'a> Folder<'a> {
         let alloc = self.rt.alloc();
         let text = str::from_utf8(name.text()).unwrap_or("");
         let path = format!(in alloc; "{}/{text}", self.path)?;
-        if !fs::metadata(self.rt, path.as_str())?.is_file() {
+        let Some(mut file) = open_plain(self.rt, path.as_str())? else {
             return Ok(None);
-        }
-        let file = File::open(self.rt, path.as_str())?;
-        let metadata = file.metadata()?;
-        if !metadata.is_file() {
-            return Ok(None);
-        }
+        };
+        let size = size_of(&mut file)?;
         self.open_file = Some(OpenFile {
             name: name.try_clone()?,
             file,
-            next: 0,
         });
-        Ok(Some(metadata.len()))
+        Ok(Some(size))
     }
 
-    // Reads exactly `len` bytes of the open file, from a place on. The next place is unknown after a failed read.
+    // Reads exactly `len` bytes of the open file, from a place on.
     fn read_bytes(
         &mut self,
         alloc: Global,
@@ -82,20 +101,10 @@ impl<'a> Folder<'a> {
         ensures len { IfOk result (λ bytes. length bytes.items ≡ len) }
         ensures kept { self.new.failures ≡ self.old.failures }
     {
-        let Some(open) = &mut self.open_file else {
-            return Err(io::Error::from(ErrorKind::NotFound));
-        };
-        if open.name != *name {
-            return Err(io::Error::from(ErrorKind::NotFound));
+        match &mut self.open_file {
+            Some(open) if open.name == *name => read_at(alloc, &mut open.file, first, len),
+            _ => Err(io::Error::from(ErrorKind::NotFound)),
         }
-        if open.next != first {
-            open.file.seek(SeekFrom::Start(first))?;
-        }
-        let mut bytes = vec![in alloc; 0u8; len]?;
-        open.next = u64::MAX;
-        open.file.read_exact(bytes.as_mut_slice())?;
-        open.next = first.saturating_add(len as u64);
-        Ok(bytes)
     }
 
     // Returns the fault of an error of the system, and counts it if it is one of the device.

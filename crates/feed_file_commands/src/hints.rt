@@ -2,7 +2,6 @@
 use feed_command::{Console, parse_name};
 use feed_names::ReleaseName;
 use std::alloc::{AllocError, Global};
-use std::fmt;
 use std::io::Write;
 
 // How many digits the date of a name without hyphens has.
@@ -15,42 +14,6 @@ pub enum Advice {
     Rename,
     /// Give the name as the argument.
     Give,
-}
-
-// A name that was probably meant.
-#[derive(Drop)]
-struct MeantName<'a> {
-    advice: Advice,
-    name: &'a str,
-}
-
-impl fmt::Display for MeantName<'_> {
-    ghost use Rattle.std.specs.Prelude.{None};
-
-    ghost output = { λ _. None };
-
-    fn fmt<W: fmt::Write>(&self, f: &mut fmt::Formatter<W>) -> fmt::Result {
-        match self.advice {
-            Advice::Rename => write!(f, "rename it to {}", self.name),
-            Advice::Give => write!(f, "did you mean {}?", self.name),
-        }
-    }
-}
-
-// An address that lacks a port.
-#[derive(Drop)]
-struct LackingPort<'a> {
-    addr: &'a str,
-}
-
-impl fmt::Display for LackingPort<'_> {
-    ghost use Rattle.std.specs.Prelude.{None};
-
-    ghost output = { λ _. None };
-
-    fn fmt<W: fmt::Write>(&self, f: &mut fmt::Formatter<W>) -> fmt::Result {
-        write!(f, "add a port, as {}:8080", self.addr)
-    }
 }
 
 /// Parses the name of a release, as `parse_name` does. Below the fault of an invalid one, notes the name that was
@@ -73,7 +36,8 @@ pub fn parse_meant_name<O: Write, F: Write + Drop>(
 /// Notes that an address has no port, if it has none.
 pub fn note_port<O: Write, F: Write + Drop>(addr: &str, console: &mut Console<'_, O, F>) {
     if lacks_port(addr) {
-        console.faults.note(addr, LackingPort { addr });
+        let hint = format_args!("add a port, as {addr}:8080");
+        console.faults.note(addr, hint);
     }
 }
 
@@ -97,7 +61,14 @@ fn note_meant_name<O: Write, F: Write + Drop>(
 ) {
     if let Ok(Some(name)) = meant_name(console.rt.alloc(), text.as_bytes()) {
         let name = str::from_utf8(name.text()).unwrap_or("");
-        console.faults.note(text, MeantName { advice, name });
+        match advice {
+            Advice::Rename => console
+                .faults
+                .note(text, format_args!("rename it to {name}")),
+            Advice::Give => console
+                .faults
+                .note(text, format_args!("did you mean {name}?")),
+        }
     }
 }
 

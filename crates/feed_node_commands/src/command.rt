@@ -13,7 +13,9 @@ pub fn run_command<D: Database, O: Write, F: Write + Drop>(
     console: &mut Console<'_, O, F>,
 ) -> u8 {
     match command {
-        NodeCommand::Run(options) => run_node(database, options, console),
+        NodeCommand::Run(options) => match run_node(database, options, console) {
+            Ok(status) | Err(status) => status,
+        },
         NodeCommand::Database(command) => run_database_command(database, command, console),
     }
 }

@@ -1,6 +1,8 @@
 //! `kbfeed node`: a link resolver that answers readers over HTTP from the database of a node, and fetches releases.
+ghost use Rattle.std.specs.Prelude.{◌≡◌, option_copied};
+
 use crate::site::{note_open_prefix, read_site};
-use crate::token::read_token;
+use crate::token::Token;
 use crate::wanted::{note_missing, read_wanted};
 use feed_command::{Console, DONE, FAILED, MISUSED, REFUSED, open_plain_file};
 use feed_database_commands::{Database, begin_feed, close_keeper, open_feed, report_keeper};
@@ -15,6 +17,7 @@ use feed_node_service::{
 use feed_options::NodeOptions;
 use feed_range::read_number;
 use feed_releases::{Feed, Opening};
+use feed_resolver_tag::Site;
 use std::io;
 use std::io::Write;
 use std::net::ToSocketAddrs;
@@ -35,22 +38,23 @@ const MIN_CLIENTS: usize = 16;
 ///
 /// A check answers no reader, and prints `ok` if all is well. It also reports a prefix of a proxy behind which a list
 /// can add parameters (`Prefix`), which is not a fault.
+///
+/// # Errors
+///
+/// The exit status of a fault before the node runs.
 pub fn run_node<D: Database, O: Write, F: Write + Drop>(
     database: &D,
     options: NodeOptions<'_>,
     console: &mut Console<'_, O, F>,
-) -> u8 {
+) -> Result<u8, u8> {
     let mut addrs = SourceAddrs::new(console.rt);
     let Some(source) = options.source else {
         return run_server(database, options, None, addrs, console);
     };
     if !is_host(source.addr.as_bytes()) || !has_port(source.addr.as_bytes()) {
-        return report_source(source.addr, console);
+        return Err(report_source(source.addr, console));
     }
-    let token = match token_of(source.token_file, console) {
-        Ok(token) => token,
-        Err(status) => return status,
-    };
+    let token = token_of(source.token_file, console)?;
     if let Err(error) = addrs.resolve(console.rt, source.addr) {
         let _ = console
             .faults
@@ -75,22 +79,19 @@ fn report_source<O: Write, F: Write + Drop>(addr: &str, console: &mut Console<'_
 
 // Returns whether a host ends with a colon and a port from 1 to 65,535.
 fn has_port(host: &[u8]) -> bool {
-    match host.iter().rposition(|byte| *byte == b':') {
-        Some(place) => match read_number(&host[place.saturating_add(1)..]) {
-            Some(port) => 0 < port && port <= 65_535,
-            None => false,
-        },
-        None => false,
-    }
+    let Some(place) = host.iter().rposition(|byte| *byte == b':') else {
+        return false;
+    };
+    read_number(&host[place.saturating_add(1)..]).is_some_and(|port| 0 < port && port <= 65_535)
 }
 
 // Reads the token of a file, or reports the fault and returns the exit status.
 fn token_of<O: Write, F: Write + Drop>(
     path: &str,
     console: &mut Console<'_, O, F>,
-) -> Result<Vec<u8>, u8> {
+) -> Result<Token, u8> {
     let mut file = open_plain_file(path, console)?;
-    match read_token(console.rt.alloc(), &mut file) {
+    match Token::read(console.rt.alloc(), &mut file) {
         Ok(Some(token)) => Ok(token),
         Ok(None) => Err(
             console.faults.report_with(
@@ -108,39 +109,45 @@ fn token_of<O: Write, F: Write + Drop>(
 fn run_server<D: Database, O: Write, F: Write + Drop>(
     database: &D,
     options: NodeOptions<'_>,
-    token: Option<&[u8]>,
+    token: Option<&Token>,
     addrs: SourceAddrs,
     console: &mut Console<'_, O, F>,
-) -> u8 {
-    let site = match read_site(options, console) {
-        Ok(site) => site,
-        Err(status) => return status,
-    };
-    let wanted = match read_wanted(options.wanted, console) {
-        Ok(wanted) => wanted,
-        Err(status) => return status,
-    };
+) -> Result<u8, u8> {
+    let site = read_site(options, console)?;
+    let wanted = read_wanted(options.wanted, console)?;
     if options.is_check {
         note_open_prefix(&site, console);
         return check_server(database, options, &wanted, console);
     }
     let Ok(state) = NodeState::new(console.rt.alloc()) else {
-        return report_end(End::Memory, database.name(), console);
+        return Err(report_end(End::Memory, database.name(), console));
     };
-    match begin(database, options, console) {
-        Ok((opening, server, file)) => {
-            let setup = NodeSetup {
-                options,
-                token,
-                addrs,
-                site,
-                wanted: &wanted,
-                state: &state,
-                file,
-            };
-            serve(database, opening, server, setup, console)
-        }
-        Err(status) => status,
+    let (opening, server, file) = begin(database, options, console)?;
+    let setup = setup_of(options, token, site, addrs, &wanted, &state, file);
+    Ok(serve(database, opening, server, setup, console))
+}
+
+// Returns the setup of a node that has this token and this site.
+fn setup_of<'a>(
+    options: NodeOptions<'a>,
+    token: Option<&'a Token>,
+    site: Site,
+    addrs: SourceAddrs,
+    wanted: &'a [WantedPackage],
+    state: &'a NodeState,
+    file: WatchedFile<'a>,
+) -> NodeSetup<'a>
+    ensures token { option_copied result.token ≡ option_copied token.entry }
+    ensures site { result.site ≡ site }
+{
+    NodeSetup {
+        options,
+        token: token.map(|token| token.text()),
+        addrs,
+        site,
+        wanted,
+        state,
+        file,
     }
 }
 
@@ -150,21 +157,14 @@ fn check_server<D: Database, O: Write, F: Write + Drop>(
     options: NodeOptions<'_>,
     wanted: &[WantedPackage],
     console: &mut Console<'_, O, F>,
-) -> u8 {
-    let feed = match open_feed(database, console) {
-        Ok(feed) => feed,
-        Err(status) => return status,
-    };
+) -> Result<u8, u8> {
+    let feed = open_feed(database, console)?;
     note_missing(&feed, wanted, console);
     let listening = listen(options, console);
     close_keeper(database, feed.restart(), console);
-    match listening {
-        Ok(_server) => {
-            let printed = print_ok(&mut console.out);
-            console.faults.check_print(printed, DONE)
-        }
-        Err(status) => status,
-    }
+    let _server = listening?;
+    let printed = print_ok(&mut console.out);
+    Ok(console.faults.check_print(printed, DONE))
 }
 
 // Loads the records of a database, listens at the address, and watches the file of the database.

@@ -1,10 +1,14 @@
 //! The site file of a library.
-use feed_command::{Console, DONE, FAILED, REFUSED, open_plain_file, read_up_to};
+ghost use Rattle.std.specs.Prelude.{IfOk, IfSome};
+ghost use Rattle.feed_node_commands.specs.Sites.{IsSiteRead};
+
+use feed_command::{Console, DONE, FAILED, REFUSED, open_plain_file, read_front};
 use feed_options::NodeOptions;
 use feed_resolver_tag::Site;
 use feed_site::{SITE_LIMIT, SiteFault};
-use std::fmt;
-use std::io::Write;
+use std::alloc::Global;
+use std::io;
+use std::io::{Read, Write};
 
 /// Returns what the replies of a node with these options depend on beside its releases and the day, with the site file,
 /// if there is one. Otherwise reports the fault and returns the exit status.
@@ -12,27 +16,34 @@ pub fn read_site<O: Write, F: Write + Drop>(
     options: NodeOptions<'_>,
     console: &mut Console<'_, O, F>,
 ) -> Result<Site, u8> {
-    let bytes = read_bytes(options.site, console)?;
-    let version = options.version.as_bytes();
-    match Site::read(console.rt.alloc(), version, options.max_age, bytes) {
-        Ok(site) => Ok(site),
-        Err(fault) => Err(report_site(options.site, fault, console)),
+    let alloc = console.rt.alloc();
+    let read = match options.site {
+        Some(path) => site_in(alloc, options, &mut open_plain_file(path, console)?),
+        None => site_in(alloc, options, &mut io::empty()),
+    };
+    match read {
+        Ok(Ok(site)) => Ok(site),
+        Ok(Err(fault)) => Err(report_site(options.site, fault, console)),
+        Err(error) => Err(
+            console
+                .faults
+                .report_read(options.site.unwrap_or(""), error),
+        ),
     }
 }
 
-// Returns the bytes of the file at a path, if they are not too many, or none without a path.
-fn read_bytes<O: Write, F: Write + Drop>(
-    path: Option<&str>,
-    console: &mut Console<'_, O, F>,
-) -> Result<Vec<u8>, u8> {
-    let Some(path) = path else {
-        return Ok(Vec::new(console.rt.alloc()));
-    };
-    let mut file = open_plain_file(path, console)?;
-    match read_up_to(console.rt.alloc(), &mut file, SITE_LIMIT) {
-        Ok(bytes) => Ok(bytes),
-        Err(error) => Err(console.faults.report_read(path, error)),
-    }
+// Returns the same with a site file that is read from here.
+fn site_in<R: Read>(
+    alloc: Global,
+    options: NodeOptions<'_>,
+    file: &mut R,
+) -> io::Result<Result<Site, SiteFault>>
+    ensures { IfSome (R.remaining file.old) (λ given.
+        IfOk result (IsSiteRead options.entry.version.now options.entry.max_age given)) }
+{
+    let bytes = read_front(alloc, file, SITE_LIMIT + 1)?;
+    let version = options.version.as_bytes();
+    Ok(Site::read(alloc, version, options.max_age, bytes))
 }
 
 // The end of a prefix that a proxy takes the address behind as all of the rest: EZproxy's.
@@ -68,20 +79,10 @@ fn report_site<O: Write, F: Write + Drop>(
         SiteFault::Memory => console.faults.report("Memory", FAILED),
         fault => {
             let words = fault.words();
+            let line = format_args!("Site {fault}");
             console
                 .faults
-                .report_with(SiteLine(fault), path.unwrap_or(""), words, REFUSED)
+                .report_with(line, path.unwrap_or(""), words, REFUSED)
         }
-    }
-}
-
-/// The line that reports a fault of a site file.
-#[derive(Debug, Drop)]
-struct SiteLine(SiteFault);
-
-impl fmt::Display for SiteLine {
-    fn fmt<W: fmt::Write>(&self, f: &mut fmt::Formatter<W>) -> fmt::Result {
-        let fault = &self.0;
-        write!(f, "Site {fault}")
     }
 }

@@ -1,11 +1,10 @@
 //! The file with the packages that readers of a node wait for.
-use feed_command::{Console, DONE, FAILED, MISUSED, open_plain_file, read_up_to};
+use feed_command::{Console, DONE, FAILED, MISUSED, open_plain_file, read_front};
 use feed_keep::Keep;
 use feed_names::{NameFault, ReleaseName};
 use feed_node_service::WantedPackage;
 use feed_releases::Feed;
 use std::alloc::Global;
-use std::fmt;
 use std::io::Write;
 
 // The most bytes of the file, and the most packages: as many as a feed records releases.
@@ -48,7 +47,7 @@ pub fn read_wanted<O: Write, F: Write + Drop>(
         return Ok(wanted);
     };
     let mut file = open_plain_file(path, console)?;
-    let bytes = match read_up_to(alloc, &mut file, BYTE_LIMIT) {
+    let bytes = match read_front(alloc, &mut file, BYTE_LIMIT + 1) {
         Ok(bytes) => bytes,
         Err(error) => return Err(console.faults.report_read(path, error)),
     };
@@ -112,21 +111,16 @@ fn report_line<O: Write, F: Write + Drop>(
     fault: LineFault,
     console: &mut Console<'_, O, F>,
 ) -> u8 {
-    let line = WantedLine(place.saturating_add(1));
-    match fault {
-        LineFault::Memory => console.faults.report("Memory", FAILED),
-        LineFault::NoName => console.faults.report_with(
-            line,
-            path,
+    let why = match fault {
+        LineFault::Memory => return console.faults.report("Memory", FAILED),
+        LineFault::NoName =>
             "it is neither a package, as Acme_Global_All, nor the name of a release",
-            MISUSED,
-        ),
-        LineFault::TooMany => {
-            console
-                .faults
-                .report_with(line, path, "there are more than 256 packages", MISUSED)
-        }
-    }
+        LineFault::TooMany => "there are more than 256 packages",
+    };
+    let line = place.saturating_add(1);
+    console
+        .faults
+        .report_with(format_args!("Wanted line {line}"), path, why, MISUSED)
 }
 
 /// Reports each wanted package without an active release.
@@ -139,33 +133,11 @@ pub fn note_missing<K: Keep, O: Write, F: Write + Drop>(
         let text = str::from_utf8(package.text()).unwrap_or("");
         if feed.report(package.text()).is_none() {
             let _ = console.faults.report_with(
-                MissingLine(text),
+                format_args!("NoRelease {text}"),
                 text,
                 "it is wanted and has no active release, so readers get 503",
                 DONE,
             );
         }
-    }
-}
-
-/// The line that reports a line of the file that names no package.
-#[derive(Debug, Drop)]
-struct WantedLine(usize);
-
-impl fmt::Display for WantedLine {
-    fn fmt<W: fmt::Write>(&self, f: &mut fmt::Formatter<W>) -> fmt::Result {
-        let line = self.0;
-        write!(f, "Wanted line {line}")
-    }
-}
-
-/// The line that reports a wanted package without an active release.
-#[derive(Clone, Copy, Debug)]
-struct MissingLine<'a>(&'a str);
-
-impl<'a> fmt::Display for MissingLine<'a> {
-    fn fmt<W: fmt::Write>(&self, f: &mut fmt::Formatter<W>) -> fmt::Result {
-        let package = self.0;
-        write!(f, "NoRelease {package}")
     }
 }
