@@ -1,4 +1,4 @@
--- What was found in the bytes held, for more of them or fewer.
+-- The head that was found in the bytes held, for more of them or fewer.
 use Rattle.std.proofs.Common.{◌≡◌, ◌≢◌, ◌≤◌, ◌+◌, ◌-◌, ℕ, Bool, true, false, List, [], ◌++◌, length, take, drop, nat_le, cond}
 use Rattle.std.proofs.Common.{refl, sym, ap, ◌∙◌, subst, arith, append_assoc, take-append-drop, length-append}
 use Rattle.std.specs.Prelude.{vec_len, Option, Some, None, MatchOption}

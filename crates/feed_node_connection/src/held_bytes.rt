@@ -13,13 +13,13 @@ use feed_resolver_request::{ParsedRequest, ReceivedRequest, Route};
 use httparse::spans::{EMPTY_HEADER_SPAN, HeaderSpan};
 use std::alloc::{AllocError, Global};
 
-/// The bytes held, and what was found at their front.
+/// The bytes held, with the head at their front if it was found.
 #[derive(Drop)]
 pub(crate) struct HeldBytes {
     pub(crate) bytes: Vec<u8>,
     /// The number of bytes that were parsed.
     seen: usize,
-    /// What they begin with.
+    /// The head at their front, or why there is none.
     found: HeadFound,
     /// The places of the fields of the head.
     headers: [HeaderSpan; FIELD_LIMIT],

@@ -1,4 +1,4 @@
--- Each row at the places of a query's identifiers has one of these identifiers.
+-- The rows at the places of a query's identifiers, each with one of these identifiers.
 use Rattle.std.proofs.Common.{◌≡◌, ◌+◌, ℕ, suc, Bool, true, false, List, [], ◌∷◌, ◌++◌, Option, Some, None, refl, sym, ap, ◌∙◌, subst, append_assoc, arith, length, take}
 use Rattle.std.specs.Prelude.{if◌then◌else◌, option_map, slice_get}
 use Rattle.std.specs.List.{All, AllPass, cons_option, enumerate_from, filter_map}

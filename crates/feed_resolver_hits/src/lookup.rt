@@ -53,7 +53,7 @@ fn is_book_first(alloc: Global, pairs: &[Pair<'_>], query: &Query) -> Result<boo
 impl Lookup {
     ghost use Rattle.feed_resolver_hits.specs.declared.search.Scope.TheVariants as scope;
 
-    /// Returns what is looked up for a query that is understood of these pairs.
+    /// Returns the lookup for a query that these pairs give.
     pub(crate) fn of(alloc: Global, pairs: &[Pair<'_>], query: Query) -> Result<Lookup, AllocError>
         ensures { IfOk result (λ lookup. lookup
             ≡ record { query = query; scope = scope.Hits; is_book_first = is_book_first pairs.now query }) }

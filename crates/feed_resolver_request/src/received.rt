@@ -56,7 +56,7 @@ fn found_in<'b>(
 }
 
 impl<'b> ReceivedRequest<'b> {
-    /// Returns bytes, of which this was parsed.
+    /// Returns the bytes with the head that was parsed of them.
     pub fn new(bytes: &'b [u8], parsed: Option<ParsedRequest<'b>>) -> ReceivedRequest<'b>
         requires { MatchOption parsed (HasNoHead bytes.now) (λ one. IsFoundIn bytes.now one.request) }
         ensures { result.bytes.now ≡ bytes.now }

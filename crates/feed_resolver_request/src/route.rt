@@ -8,7 +8,7 @@ ghost use Rattle.feed_resolver_request.specs.Routes.{names_fetch, route_at, rout
 use feed_http_heads::{Request, origin_form};
 use feed_range::{split_once, strip_prefix};
 
-/// What the target of a request names.
+/// The page, the data or the fetch that the target of a request names.
 #[derive(Clone, Copy, Debug, PartialEq, Eq)]
 pub enum Route {
     /// `/`: the page with the forms and the packages.
