@@ -1,9 +1,8 @@
 -- The history of a feed that receives the events of a fetch.
-use Rattle.std.proofs.Common.{◌≡◌, ◌≤◌, ◌+◌, ◌⊎◌, ℕ, Bool, true, false, List, [], ◌∷◌, ◌++◌, length, Option, Some, None, Result, Ok, Err, inl, inr, refl, sym}
+use Rattle.std.proofs.Common.{◌≡◌, ◌≤◌, ◌+◌, ◌⊎◌, ℕ, Bool, true, false, List, [], ◌∷◌, ◌++◌, Option, Some, None, Result, Ok, Err, inl, inr, refl, sym}
 use Rattle.std.proofs.Common.{◌∙◌, ◌-◌, ◌||◌, min, IsTrue, ap, subst, append_assoc, get_or, arith}
-use Rattle.std.specs.Prelude.{slice_range, IfErr, MatchResult}
+use Rattle.std.specs.Prelude.{IfErr, MatchResult}
 use Rattle.std.proofs.lemmas.List.Elements.{All-append, All-cons, All-nil}
-use Rattle.httparse.proofs.RunLemmas.{length-slice_range}
 use Rattle.feed_names.specs.ReleaseName.{Name}
 use Rattle.feed_http.specs.declared.fetching.got.Got.{Got}
 use Rattle.feed_http.specs.declared.fetching.got.Got.TheVariants.{Whole}
@@ -19,8 +18,6 @@ use Rattle.feed_model.proofs.Goods.{IsStill, goods_still, passed_same}
 use Rattle.feed_dial.specs.declared.DialFault.{DialFault}
 use Rattle.feed_http_heads.specs.declared.http_fault.HttpFault.{HttpFault}
 use Rattle.feed_http_heads.specs.declared.http_fault.HttpFault.TheVariants as http
-use Rattle.feed_fetch.specs.declared.machine.Phase.TheVariants as phases
-use Rattle.feed_fetch.specs.Steps.{IsReplyEvent, without_news}
 use Rattle.feed_fetch.specs.declared.stop.RequestFault.{RequestFault}
 use Rattle.feed_fetch.specs.declared.stop.RequestFault.TheVariants.{Dial, Http}
 use Rattle.feed_fetch.specs.declared.stop.Stop.{Stop}
@@ -79,12 +76,12 @@ stands h n e (Ok replies.Older) older = older refl
 stands h n e (Ok replies.Nothing) older = tt
 stands h n e (Err r) older = (e, (h, refl))
 
-stands_told : (h : History) (n : Name) (e : Event) (a : Answer) (result : Result Reply Stop) → (a ≡ Ok replies.Older → IsPassed ((e, a) ∷ h) n)
+pub stands_told : (h : History) (n : Name) (e : Event) (a : Answer) (result : Result Reply Stop) → (a ≡ Ok replies.Older → IsPassed ((e, a) ∷ h) n)
     → (result ≡ reply_or_stop a) ⊎ (result ≡ Err stops.Print) → IfErr result (λ stop. IsStoppedAt n stop ((e, a) ∷ h))
 stands_told h n e a result older (inl same) = subst (λ (r : Result Reply Stop). IfErr r (λ stop. IsStoppedAt n stop ((e, a) ∷ h))) (sym same) (stands h n e a older)
 stands_told h n e a result older (inr same) = subst (λ (r : Result Reply Stop). IfErr r (λ stop. IsStoppedAt n stop ((e, a) ∷ h))) (sym same) tt
 
-stands_news : (h : History) (n : Name) (e : Event) (a : Answer) (result : Result Bool Stop) → (a ≡ Ok replies.Older → IsPassed ((e, a) ∷ h) n)
+pub stands_news : (h : History) (n : Name) (e : Event) (a : Answer) (result : Result Bool Stop) → (a ≡ Ok replies.Older → IsPassed ((e, a) ∷ h) n)
     → (result ≡ piece_result (reply_or_stop a)) ⊎ (result ≡ Err stops.Print) → IfErr result (λ stop. IsStoppedAt n stop ((e, a) ∷ h))
 stands_news h n e a result older (inl same) = subst (λ (r : Result Bool Stop). IfErr r (λ stop. IsStoppedAt n stop ((e, a) ∷ h))) (sym same) (by (reply_or_stop a) (stands h n e a older))
   where
@@ -93,7 +90,7 @@ stands_news h n e a result older (inl same) = subst (λ (r : Result Bool Stop). 
     by (Err stop) so = so
 stands_news h n e a result older (inr same) = subst (λ (r : Result Bool Stop). IfErr r (λ stop. IsStoppedAt n stop ((e, a) ∷ h))) (sym same) tt
 
-stands_done : (h : History) (n : Name) (e : Event) (a : Answer) (result : Result (Unit {0}) Stop) → (a ≡ Ok replies.Older → IsPassed ((e, a) ∷ h) n)
+pub stands_done : (h : History) (n : Name) (e : Event) (a : Answer) (result : Result (Unit {0}) Stop) → (a ≡ Ok replies.Older → IsPassed ((e, a) ∷ h) n)
     → (result ≡ offer_result (reply_or_stop a)) ⊎ (result ≡ Err stops.Print) → IfErr result (λ stop. IsStoppedAt n stop ((e, a) ∷ h))
 stands_done h n e a result older (inl same) = subst (λ (r : Result (Unit {0}) Stop). IfErr r (λ stop. IsStoppedAt n stop ((e, a) ∷ h))) (sym same) (by (reply_or_stop a) (stands h n e a older))
   where
@@ -102,11 +99,11 @@ stands_done h n e a result older (inl same) = subst (λ (r : Result (Unit {0}) S
     by (Err stop) so = so
 stands_done h n e a result older (inr same) = subst (λ (r : Result (Unit {0}) Stop). IfErr r (λ stop. IsStoppedAt n stop ((e, a) ∷ h))) (sym same) tt
 
-older_piece : (h : History) (n : Name) (f : ℕ) (t : Option ℕ) (b : List ℕ) (a : Answer) → IsRight h (Piece n f t b) a → a ≡ Ok replies.Older → IsPassed ((Piece n f t b, a) ∷ h) n
+pub older_piece : (h : History) (n : Name) (f : ℕ) (t : Option ℕ) (b : List ℕ) (a : Answer) → IsRight h (Piece n f t b) a → a ≡ Ok replies.Older → IsPassed ((Piece n f t b, a) ∷ h) n
 older_piece h n f t b a right e =
     subst (λ (x : Answer). IsPassed ((Piece n f t b, x) ∷ h) n) (sym e) (passed_after h (Piece n f t b) n (passed_piece h n f t b (subst (λ (x : Answer). IsRight h (Piece n f t b) x) e right)))
 
-older_offer : (h : History) (n : Name) (s : ℕ) (a : Answer) → IsRight h (Offered n s) a → a ≡ Ok replies.Older → IsPassed ((Offered n s, a) ∷ h) n
+pub older_offer : (h : History) (n : Name) (s : ℕ) (a : Answer) → IsRight h (Offered n s) a → a ≡ Ok replies.Older → IsPassed ((Offered n s, a) ∷ h) n
 older_offer h n s a right e =
     subst (λ (x : Answer). IsPassed ((Offered n s, x) ∷ h) n) (sym e) (passed_after h (Offered n s) n (passed_offer h n s (subst (λ (x : Answer). IsRight h (Offered n s) x) e right)))
 
@@ -126,41 +123,13 @@ taken_piece c c' n given first total bytes result of answered h is =
       t.3,
     )
 
--- one of the pieces of a whole file
-pub taken_part : (c c' : Content) (n : Name) (given : Got) (first : ℕ) (total : Option ℕ) (bytes : List ℕ) (result : Result Reply Stop)
-    → IsPieceOf given first total bytes
-    → HasRightAnswer (λ answer. (result ≡ reply_or_stop answer) ⊎ (result ≡ Err stops.Print)) c (Piece n first total bytes) c'
-    → IsExtension (IsTakenFrom n given) (λ k. IfErr result (λ stop. IsStoppedAt n stop k)) c c'
-taken_part c c' n given first total bytes result of answered h is =
-    let t = answered h is in (
-      one_event (Piece n first total bytes) t.0,
-      All-cons (λ event. IsTakenFrom n given event.0) (Piece n first total bytes, t.0) [] (refl, of) (All-nil (λ event. IsTakenFrom n given event.0)),
-      stands_told h n (Piece n first total bytes) t.0 result (older_piece h n first total bytes t.0 t.1) t.2,
-      t.3,
-    )
-
--- the offer
-pub offered : (c c' : Content) (n : Name) (size : ℕ) (A : Event → Type 0) (result : Result (Unit {0}) Stop)
-    → A (Offered n size)
-    → HasRightAnswer (λ answer. (result ≡ offer_result (reply_or_stop answer)) ⊎ (result ≡ Err stops.Print)) c (Offered n size) c'
-    → IsExtension A (λ k. IfErr result (λ stop. IsStoppedAt n stop k)) c c'
-offered c c' n size A result of answered h is =
-    let t = answered h is in (
-      one_event (Offered n size) t.0,
-      All-cons (λ event. A event.0) (Offered n size, t.0) [] of (All-nil (λ event. A event.0)),
-      stands_done h n (Offered n size) t.0 result (older_offer h n size t.0 t.1)
-          t.2,
-      t.3,
-    )
-
 -- a loss is reported to the feed, and the request is the reason for the stop, or the output failed
 pub lost_stops : (c c' : Content) (n : Name) (why : RequestFault) (fault : HttpFault) (result : Result Reply Stop) (stop : Stop) → why ≡ Http fault
     → MatchResult result (λ reply. stop ≡ stops.Request why) (λ unprinted. stop ≡ unprinted)
     → HasRightAnswer (λ answer. (result ≡ reply_or_stop answer) ⊎ (result ≡ Err stops.Print)) c (Lost n) c'
-    → IsExtension (λ e. e ≡ Lost n) (λ k. ((stop ≡ stops.Request why) ⊎ (stop ≡ stops.Print)) × IsStoppedAt n stop k) c c'
-lost_stops c c' n why fault result stop is_http so answered h is =
-    let t = answered h is in
-    (one_event (Lost n) t.0, All-cons (λ event. event.0 ≡ Lost n) (Lost n, t.0) [] refl (All-nil (λ event. event.0 ≡ Lost n)), by t.0 result t.1 t.2 so, t.3)
+    → (h : History) → IsContent c h
+    → (answer : Answer) × (((stop ≡ stops.Request why) ⊎ (stop ≡ stops.Print)) × IsStoppedAt n stop ((Lost n, answer) ∷ h)) × IsContent c' ((Lost n, answer) ∷ h)
+lost_stops c c' n why fault result stop is_http so answered h is = let t = answered h is in (t.0, by t.0 result t.1 t.2 so, t.3)
   where
     at : (a : Answer) (s : Stop) → a ≡ Ok replies.Nothing → s ≡ stops.Request why → IsStoppedAt n s ((Lost n, a) ∷ h)
     at a s nothing e =
@@ -181,9 +150,6 @@ extends_more A P Q c d e first second h is =
     let same : (y.0 ++ x.0) ++ h ≡ y.0 ++ (x.0 ++ h) = append_assoc y.0 x.0 h in
     (y.0 ++ x.0, All-append (λ event. A event.0) y.0 x.0 y.1 x.1, subst Q (sym same) y.2, subst (IsContent e) (sym same) y.3)
 
-pub extends_first : (A : Event → Type 0) (P : Type 0) (Q : History → Type 0) (c d : Content) → IsExtension A (λ k. P × Q k) c d → IsExtension A (λ k. P) c d
-extends_first A P Q c d extends h is = let x = extends h is in (x.0, x.1, x.2.0, x.3)
-
 pub extends_none : (A : Event → Type 0) (P : History → Type 0) (c : Content) → ((h : History) → P h) → IsExtension A P c c
 extends_none A P c all h is = ([], All-nil (λ event. A event.0), all h, is)
 
@@ -193,66 +159,9 @@ extends_so A B P Q c d more so extends h is = let x = extends h is in (x.0, λ i
 pub extends_any : (A : Event → Type 0) (P : History → Type 0) (c d : Content) → IsExtension A P c d → IsExtension A (λ k. Unit {0}) c d
 extends_any A P c d extends h is = let x = extends h is in (x.0, x.1, tt, x.3)
 
--- the next piece of a whole file
-pub whole_more : (b c d : Content) (n : Name) (all : List ℕ) (first count : ℕ) (result : Result Reply Stop) → first + count ≤ length all
-    → IsExtension (IsTakenFrom n (Whole all)) (λ k. Unit {0}) b c
-    → HasRightAnswer (λ answer. (result ≡ reply_or_stop answer) ⊎ (result ≡ Err stops.Print)) c (Piece n first (Some (length all)) (slice_range all first (first + count))) d
-    → IsExtension (IsTakenFrom n (Whole all)) (λ k. IfErr result (λ stop. IsStoppedAt n stop k)) b d
-whole_more b c d n all first count result within before answered =
-    let len : length (slice_range all first (first + count)) ≡ count = (let l = length-slice_range all first (first + count) (omega arith) within in omega (arith, l)) in
-    extends_more (IsTakenFrom n (Whole all)) (λ k. Unit {0}) (λ k. IfErr result (λ stop. IsStoppedAt n stop k)) b c d before
-    (taken_part c d n (Whole all) first (Some (length all)) (slice_range all first (first + count)) result
-    (refl, omega (arith, len), ap (λ (m : ℕ). slice_range all first (first + m)) (sym len)) answered)
-
--- the same, without a statement about the feed's history
-pub whole_step : (b c d : Content) (n : Name) (all : List ℕ) (first count : ℕ) (result : Result Reply Stop) → first + count ≤ length all
-    → IsExtension (IsTakenFrom n (Whole all)) (λ k. Unit {0}) b c
-    → HasRightAnswer (λ answer. (result ≡ reply_or_stop answer) ⊎ (result ≡ Err stops.Print)) c (Piece n first (Some (length all)) (slice_range all first (first + count))) d
-    → IsExtension (IsTakenFrom n (Whole all)) (λ k. Unit {0}) b d
-whole_step b c d n all first count result within before answered =
-    extends_any (IsTakenFrom n (Whole all)) (λ k. IfErr result (λ stop. IsStoppedAt n stop k)) b d (whole_more b c d n all first count result within before answered)
-
 -- a part of at most what is left is within the file
 pub part_within : (first total count most : ℕ) → first ≤ total → count ≡ min (total - first) most → first + count ≤ total
 part_within first total count most le is = omega (arith, is, le)
-
--- the result of a reply that the feed accepted was passed to it
-pub taken_extends : (A : Event → Type 0) (n : Name) (given : Got) (c d : Content) (taken : Result Bool Stop)
-    → ((e : Event) → IsTakenFrom n given e → A e)
-    → IsExtension (IsTakenFrom n given) (λ k. IfErr taken (λ stop. IsStoppedAt n stop k)) c d
-    → IsExtension A (λ k. IfErr (round_result taken) (λ stop. IsStoppedAt n stop k)) c d
-taken_extends A n given c d taken so extends =
-    extends_so (IsTakenFrom n given) A (λ k. IfErr taken (λ stop. IsStoppedAt n stop k)) (λ k. IfErr (round_result taken) (λ stop. IsStoppedAt n stop k)) c d so (λ k p. by k taken p) extends
-  where
-    by : (k : History) (r : Result Bool Stop) → IfErr r (λ stop. IsStoppedAt n stop k) → IfErr (round_result r) (λ stop. IsStoppedAt n stop k)
-    by k (Ok true) p = tt
-    by k (Ok false) p = tt
-    by k (Err stop) p = p
-
--- the same of a reply that may have nothing new
-pub taken_again : (n : Name) (given : Got) (c d : Content) (taken : Result Bool Stop)
-    → IsExtension (IsTakenFrom n given) (λ k. IfErr taken (λ stop. IsStoppedAt n stop k)) c d
-    → IsExtension (IsReplyEvent n phases.Offered (Ok given)) (λ k. IfErr (without_news taken) (λ stop. IsStoppedAt n stop k)) c d
-taken_again n given c d taken extends =
-    extends_so (IsTakenFrom n given) (IsReplyEvent n phases.Offered (Ok given)) (λ k. IfErr taken (λ stop. IsStoppedAt n stop k))
-    (λ k. IfErr (without_news taken) (λ stop. IsStoppedAt n stop k)) c d event (λ k p. by k taken p) extends
-  where
-    event : (e : Event) → IsTakenFrom n given e → IsReplyEvent n phases.Offered (Ok given) e
-    event (Offered m size) is = absurd is
-    event (Piece m first total bytes) is = is
-    event (Lost m) is = absurd is
-
-    by : (k : History) (r : Result Bool Stop) → IfErr r (λ stop. IsStoppedAt n stop k) → IfErr (without_news r) (λ stop. IsStoppedAt n stop k)
-    by k (Ok is_new) p = tt
-    by k (Err stop) p = p
-
--- a request that got no answer stops the fetch
-pub lost_extends : (A : Event → Type 0) (n : Name) (c d : Content) (stop : Stop) (why : RequestFault)
-    → A (Lost n)
-    → IsExtension (λ e. e ≡ Lost n) (λ k. ((stop ≡ stops.Request why) ⊎ (stop ≡ stops.Print)) × IsStoppedAt n stop k) c d
-    → IsExtension A (IsStoppedAt n stop) c d
-lost_extends A n c d stop why of extends =
-    extends_so (λ e. e ≡ Lost n) A (λ k. ((stop ≡ stops.Request why) ⊎ (stop ≡ stops.Print)) × IsStoppedAt n stop k) (IsStoppedAt n stop) c d (λ e is. subst A (sym is) of) (λ k p. p.1) extends
 
 -- a piece is passed to the feed as the reply gave it
 pub piece_as_given : (c d : Content) (n : Name) (f g : ℕ) (t u : Option ℕ) (bytes read slice : List ℕ) (r : Result Bool Stop) → got.Piece f t bytes ≡ got.Piece g u read → slice ≡ bytes
@@ -359,7 +268,7 @@ failed_second : (a b : Bool) → IsTrue b → IsTrue (a || b)
 failed_second true b is = refl
 failed_second false b is = is
 
-caused_more : (u v : Bool) (refused : Option DialFault) (stop : Stop) → (IsTrue u → IsTrue v) → HasCause u refused stop → HasCause v refused stop
+pub caused_more : (u v : Bool) (refused : Option DialFault) (stop : Stop) → (IsTrue u → IsTrue v) → HasCause u refused stop → HasCause v refused stop
 caused_more u v refused stops.Print more is = more is
 caused_more u v refused (stops.Request (Dial f)) more is = is
 caused_more u v refused (stops.Request (Http f)) more is = tt

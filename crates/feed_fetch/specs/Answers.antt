@@ -1,7 +1,7 @@
 -- How a fetch reacts to a feed's answers.
 use Rattle.feed_kbart.specs.declared.fault.BadFile.{BadFile}
 use Rattle.feed_names.specs.ReleaseName.{Name}
-use Rattle.std.specs.Prelude.{Bool, true, false, IsTrue, ◌∷◌, Option, Some, Result, Ok, Err, ⊤, ◌≡◌, ℕ}
+use Rattle.std.specs.Prelude.{Bool, true, false, ◌||◌, IsTrue, ◌∷◌, Option, Some, Result, Ok, Err, ⊤, ◌≡◌, ℕ}
 use Rattle.feed_dial.specs.declared.DialFault.{DialFault}
 use Rattle.feed_http_heads.specs.declared.http_fault.HttpFault.TheVariants as http
 use Rattle.feed_model.specs.declared.reply.Reply.{Reply}
@@ -31,6 +31,17 @@ has_new_bytes _ = false
 abbrev pub piece_result : Result Reply Stop → Result Bool Stop
 piece_result (Ok reply) = Ok (has_new_bytes reply)
 piece_result (Err stop) = Err stop
+
+-- the news of a piece behind those of the pieces before it; the first stop stays
+abbrev pub add_news : Result Bool Stop → Result Reply Stop → Result Bool Stop
+add_news (Err stop) reply = Err stop
+add_news (Ok was) (Err stop) = Err stop
+add_news (Ok was) (Ok reply) = Ok (was || has_new_bytes reply)
+
+-- the first stop of two parts
+abbrev pub first_stop : Result (Unit {0}) Stop → Result (Unit {0}) Stop → Result (Unit {0}) Stop
+first_stop (Err stop) second = Err stop
+first_stop (Ok done) second = second
 
 -- whether the event was accepted
 abbrev pub offer_result : Result Reply Stop → Result (Unit {0}) Stop

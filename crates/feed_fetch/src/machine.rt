@@ -7,7 +7,8 @@ ghost use Rattle.feed_limits.specs.Limits.{piece_limit};
 ghost use Rattle.feed_fetch.specs.Answers.{HasCause, HasRightAnswer, IsStoppedAt, piece_result, reply_or_stop};
 ghost use Rattle.feed_fetch.specs.Effects.{IsExtension, IsTakenFrom};
 ghost use Rattle.feed_fetch.specs.Exchanges.{Opens, Fills};
-ghost use Rattle.feed_fetch.specs.Steps.{IsNextStep, IsReplyEvent, IsArrivedPart};
+ghost use Rattle.feed_fetch.specs.Owed.{IsSubmitted};
+ghost use Rattle.feed_fetch.specs.Steps.{IsNextStep, IsArrivedPart};
 ghost use Rattle.feed_fetch.specs.Steps.{phase_after, phase_after_part, without_news};
 
 use crate::observe::Observe;
@@ -125,7 +126,7 @@ impl Fetch {
         reply: &Result<Got, RequestFault>,
         out: &mut O,
     ) -> Result<(), Stop>
-        ensures extends { IsExtension (IsReplyEvent name.now self.phase reply.now)
+        ensures owed { IsSubmitted name.now self.phase reply.now
             (λ k. IfErr result (λ stop. IsStoppedAt name.now stop k)) (recorded feed.old) (recorded feed.new) }
         ensures opens { Opens name.now self.phase reply.now result (recorded feed.old) (recorded feed.new) }
         ensures fills { Fills name.now self.phase reply.now result (recorded feed.old) (recorded feed.new) }
@@ -149,7 +150,7 @@ impl Fetch {
         reply: &Result<Got, RequestFault>,
         out: &mut O,
     ) -> Result<(), Stop>
-        ensures extends { IsExtension (IsReplyEvent name.now self.old.phase reply.now)
+        ensures owed { IsSubmitted name.now self.old.phase reply.now
             (λ k. IfErr result (λ stop. IsStoppedAt name.now stop k)) (recorded feed.old) (recorded feed.new) }
         ensures opens { Opens name.now self.old.phase reply.now result (recorded feed.old) (recorded feed.new) }
         ensures fills { Fills name.now self.old.phase reply.now result (recorded feed.old) (recorded feed.new) }
@@ -173,7 +174,7 @@ impl Fetch {
         reply: &Result<Got, RequestFault>,
         out: &mut O,
     ) -> Result<(), Stop>
-        ensures extends { IsExtension (IsReplyEvent name.now self.old.phase reply.now)
+        ensures owed { IsSubmitted name.now self.old.phase reply.now
             (λ k. IfErr result (λ stop. IsStoppedAt name.now stop k)) (recorded feed.old) (recorded feed.new) }
         ensures phase { self.new.phase ≡ phase_after result }
         ensures piece { self.new.piece ≡ self.old.piece }

@@ -1,14 +1,15 @@
 //! Passes replies to the feed as events, and its answers to an observer.
-ghost use Rattle.std.specs.Prelude.{ℕ, List, Option, Some, None, ◌≡◌, ◌⊎◌, Ok, Err, IfOk, IfErr};
-ghost use Rattle.feed_model.specs.History.{Lost, Offered, Piece};
+ghost use Rattle.std.specs.Prelude.{ℕ, List, Option, Some, None, ◌≡◌, ◌≢◌, ◌⊎◌, Ok, Err, IfOk, IfErr, IsTrue};
+ghost use Rattle.feed_model.specs.History.{Offered, Piece};
 ghost use Rattle.feed_releases.specs.Feeds.{recorded};
 ghost use Rattle.feed_releases.specs.Events.{event_of};
-ghost use Rattle.feed_fetch.specs.Answers.{HasCause, HasRightAnswer, IsStoppedAt, has_new_bytes, offer_result};
-ghost use Rattle.feed_fetch.specs.Answers.{piece_result, reply_or_stop, round_result};
+ghost use Rattle.feed_fetch.specs.Answers.{HasCause, HasRightAnswer, IsStoppedAt, add_news, first_stop};
+ghost use Rattle.feed_fetch.specs.Answers.{has_new_bytes, offer_result, piece_result, reply_or_stop, round_result};
 ghost use Rattle.feed_fetch.specs.Lines.{event_text, HasLine, IsPrintedAs};
 ghost use Rattle.feed_fetch.specs.declared.events.FetchEvent.TheVariants.{Size};
-ghost use Rattle.feed_fetch.specs.Steps.{IsReplyEvent, HasLength, HasRange};
-ghost use Rattle.feed_fetch.specs.Effects.{IsExtension, IsTakenFrom, IsFetchable, IsOpened, IsFilled};
+ghost use Rattle.feed_fetch.specs.Steps.{HasLength, HasRange};
+ghost use Rattle.feed_fetch.specs.Effects.{IsFetchable, IsOpened, IsFilled};
+ghost use Rattle.feed_fetch.specs.Owed.{IsSubmitted, is_followed};
 
 use crate::events::FetchEvent;
 use crate::machine::Phase;
@@ -19,9 +20,30 @@ use feed_dial::DialFault;
 use feed_http::Got;
 use feed_keep::Keep;
 use feed_limits::PIECE_LIMIT;
-use feed_model::Reply;
+use feed_model::{Refusal, Reply};
 use feed_names::ReleaseName;
 use feed_releases::{Event, Feed};
+
+// Passes the feed's answer to the observer, and returns whether the fetch continues after it.
+fn report_answer<O: Observe>(answer: Result<Reply, Refusal>, out: &mut O) -> Result<Reply, Stop>
+    ensures line { IsPrintedAs (O.lines out.old) (O.lines out.new) answer result }
+    ensures caused { IfErr result (λ stop. HasCause (O.has_failed out.new) None stop) }
+    ensures kept { IsTrue (O.has_failed out.old) → IsTrue (O.has_failed out.new) }
+{
+    let event = match answer {
+        Ok(reply) => FetchEvent::Accepted(reply),
+        Err(refusal) => FetchEvent::Refused(refusal),
+    };
+    let Ok(()) = out.observe(event) else {
+        return Err(Stop::Print);
+    };
+    match answer {
+        Ok(Reply::Older) => Err(Stop::Older),
+        Ok(Reply::Broken(_)) => Err(Stop::Broken),
+        Ok(reply) => Ok(reply),
+        Err(refusal) => Err(Stop::Refused(refusal)),
+    }
+}
 
 /// Passes an event to the feed, and its answer to the observer.
 pub fn handle_event<K: Keep, O: Observe>(
@@ -34,25 +56,10 @@ pub fn handle_event<K: Keep, O: Observe>(
     ensures line { HasRightAnswer (λ answer. IsPrintedAs (O.lines out.old) (O.lines out.new) answer result)
         (recorded feed.old) (event_of event.now) (recorded feed.new) }
     ensures caused { IfErr result (λ stop. HasCause (O.has_failed out.new) None stop) }
+    ensures kept { IsTrue (O.has_failed out.old) → IsTrue (O.has_failed out.new) }
 {
-    match feed.handle(event) {
-        Ok(reply) => {
-            let Ok(()) = out.observe(FetchEvent::Accepted(reply)) else {
-                return Err(Stop::Print);
-            };
-            match reply {
-                Reply::Older => Err(Stop::Older),
-                Reply::Broken(_) => Err(Stop::Broken),
-                _ => Ok(reply),
-            }
-        }
-        Err(refusal) => {
-            let Ok(()) = out.observe(FetchEvent::Refused(refusal)) else {
-                return Err(Stop::Print);
-            };
-            Err(Stop::Refused(refusal))
-        }
-    }
+    let answer = feed.handle(event);
+    report_answer(answer, out)
 }
 
 // Returns whether the feed reports new bytes.
@@ -89,21 +96,34 @@ pub fn handle_piece<K: Keep, O: Observe>(
     Ok(has_new_bytes(reply))
 }
 
-// Passes the whole file to the feed in pieces, in order, up to the first answer that is neither `stored` nor
-// `repeated`.
+// Returns whether the next piece of a whole file follows this answer.
+fn is_followed(answer: Result<Reply, Refusal>) -> bool
+    ensures { result ≡ is_followed answer }
+{
+    matches!(answer, Ok(Reply::Stored { missing: _ } | Reply::Repeated))
+}
+
+// Adds the news of a piece to those of the pieces before it. The first stop stays.
+fn add_news(taken: Result<bool, Stop>, reply: Result<Reply, Stop>) -> Result<bool, Stop>
+    ensures { result ≡ add_news taken reply }
+{
+    Ok(taken? | has_new_bytes(reply?))
+}
+
+// Passes the whole file to the feed in pieces, in order, up to the first answer that no piece follows.
 fn handle_whole<K: Keep, O: Observe>(
     feed: &mut Feed<K>,
     name: &ReleaseName,
     bytes: &[u8],
     out: &mut O,
 ) -> Result<bool, Stop>
-    ensures extends { IsExtension (IsTakenFrom name.now (Got.Whole bytes.now))
+    ensures owed { IsSubmitted name.now Phase.Offered (Ok (Got.Whole bytes.now))
         (λ k. IfErr result (λ stop. IsStoppedAt name.now stop k)) (recorded feed.old) (recorded feed.new) }
     ensures caused { IfErr result (λ stop. HasCause (O.has_failed out.new) None stop) }
 {
     let total = bytes.len();
     let mut first = 0;
-    let mut is_new = false;
+    let mut taken = Ok(false);
     'pieces: while first < total {
         let end = first + (total - first).min(PIECE_LIMIT);
         let event = Event::Piece {
@@ -112,15 +132,14 @@ fn handle_whole<K: Keep, O: Observe>(
             total: Some(total as u64),
             bytes: &bytes[first..end],
         };
-        match handle_event(feed, &event, out) {
-            Ok(Reply::Stored { missing: _ }) => is_new = true,
-            Ok(Reply::Repeated) => {}
-            Ok(reply) => return Ok(is_new || has_new_bytes(reply)),
-            Err(stop) => return Err(stop),
+        let answer = feed.handle(&event);
+        taken = add_news(taken, report_answer(answer, out));
+        if !is_followed(answer) {
+            return taken;
         }
         first = end;
     }
-    Ok(is_new)
+    taken
 }
 
 /// Passes the result of a GET to the feed, and returns whether it had new bytes.
@@ -130,7 +149,7 @@ pub fn handle_reply<K: Keep, O: Observe>(
     got: &Got,
     out: &mut O,
 ) -> Result<bool, Stop>
-    ensures extends { IsExtension (IsTakenFrom name.now got.now)
+    ensures owed { IsSubmitted name.now Phase.Offered (Ok got.now)
         (λ k. IfErr result (λ stop. IsStoppedAt name.now stop k)) (recorded feed.old) (recorded feed.new) }
     ensures piece { (first : ℕ) (total : Option ℕ) (bytes : List ℕ) → got.now ≡ Got.Piece first total bytes
         → HasRightAnswer (λ answer. (result ≡ piece_result (reply_or_stop answer)) ⊎ (result ≡ Err Stop.Print))
@@ -163,7 +182,7 @@ fn report_loss<K: Keep, O: Observe>(
     why: RequestFault,
     out: &mut O,
 ) -> Stop
-    ensures lost { IsExtension (λ e. e ≡ Lost name.now)
+    ensures owed { (phase : Phase) → phase ≢ Phase.Stopped → IsSubmitted name.now phase (Err why)
         (λ k. ((result ≡ Stop.Request why) ⊎ (result ≡ Stop.Print)) × IsStoppedAt name.now result k)
         (recorded feed.old) (recorded feed.new) }
     ensures kept { (fault : DialFault) → why ≡ RequestFault.Dial fault → recorded feed.new ≡ recorded feed.old }
@@ -191,9 +210,18 @@ fn offer_size<K: Keep, O: Observe>(
         (λ answer. (result ≡ offer_result (reply_or_stop answer)) ⊎ (result ≡ Err Stop.Print))
         (recorded feed.old) (Offered name.now size) (recorded feed.new) }
     ensures caused { IfErr result (λ stop. HasCause (O.has_failed out.new) None stop) }
+    ensures kept { IsTrue (O.has_failed out.old) → IsTrue (O.has_failed out.new) }
 {
     let _reply = handle_event(feed, &Event::Offered { name, size }, out)?;
     Ok(())
+}
+
+// Returns why the first of two parts stopped, or else the result of the second.
+fn first_stop(first: Result<(), Stop>, second: Result<(), Stop>) -> Result<(), Stop>
+    ensures { result ≡ first_stop first second }
+{
+    first?;
+    second
 }
 
 // A round without new bytes stops the fetch.
@@ -207,26 +235,23 @@ fn require_progress(taken: Result<bool, Stop>) -> Result<(), Stop>
     }
 }
 
-// Passes the length that the reply to a HEAD stated to the observer.
-fn report_size<O: Observe>(got: &Got, out: &mut O) -> Result<u64, Stop>
-    ensures printed { (size : ℕ) → got.now ≡ Got.Size size
-        → (result ≡ Ok size) ⊎ (result ≡ Err Stop.Print) }
-    ensures given { IfOk result (λ size. got.now ≡ Got.Size size) }
-    ensures line { IfOk result (λ size. HasLine (O.lines out.old) (O.lines out.new) (event_text (Size size))) }
-    ensures stops { IfErr result (λ stop.
-        (stop ≡ Stop.Missing) ⊎ ((stop ≡ Stop.NoProgress) ⊎ (stop ≡ Stop.Print))) }
+// Passes the length that the reply to a HEAD stated to the observer, or why there is none.
+fn report_size<O: Observe>(got: &Got, out: &mut O) -> Result<(), Stop>
+    ensures line { (size : ℕ) → got.now ≡ Got.Size size
+        → IfOk result (λ done. HasLine (O.lines out.old) (O.lines out.new) (event_text (Size size))) }
+    ensures given { IfOk result (λ done. (size : ℕ) × (got.now ≡ Got.Size size)) }
+    ensures stops { IfErr result (λ stop. (stop ≡ Stop.Print)
+        ⊎ (((size : ℕ) → got.now ≢ Got.Size size) × ((stop ≡ Stop.Missing) ⊎ (stop ≡ Stop.NoProgress)))) }
     ensures caused { IfErr result (λ stop. HasCause (O.has_failed out.new) None stop) }
 {
-    match got {
-        Got::Size(size) => match out.observe(FetchEvent::Size(*size)) {
-            Ok(()) => Ok(*size),
-            Err(Unprinted) => Err(Stop::Print),
-        },
-        Got::Missing => match out.observe(FetchEvent::Missing) {
-            Ok(()) => Err(Stop::Missing),
-            Err(Unprinted) => Err(Stop::Print),
-        },
-        _ => Err(Stop::NoProgress),
+    let (event, outcome) = match got {
+        Got::Size(size) => (FetchEvent::Size(*size), Ok(())),
+        Got::Missing => (FetchEvent::Missing, Err(Stop::Missing)),
+        _ => return Err(Stop::NoProgress),
+    };
+    match out.observe(event) {
+        Ok(()) => outcome,
+        Err(Unprinted) => Err(Stop::Print),
     }
 }
 
@@ -237,7 +262,7 @@ pub fn take_length<K: Keep, O: Observe>(
     reply: &Result<Got, RequestFault>,
     out: &mut O,
 ) -> Result<(), Stop>
-    ensures extends { IsExtension (IsReplyEvent name.now Phase.New reply.now)
+    ensures owed { IsSubmitted name.now Phase.New reply.now
         (λ k. IfErr result (λ stop. IsStoppedAt name.now stop k)) (recorded feed.old) (recorded feed.new) }
     ensures opens { (file : List ℕ) → HasLength file reply.now → IsFetchable file
         → IsOpened name.now file result (recorded feed.old) (recorded feed.new) }
@@ -246,10 +271,14 @@ pub fn take_length<K: Keep, O: Observe>(
         → IfErr result (λ stop. HasCause (O.has_failed out.new) refused stop) }
 {
     match reply {
-        Ok(got) => match report_size(got, out) {
-            Ok(size) => offer_size(feed, name, size, out),
-            Err(stop) => Err(stop),
-        },
+        Ok(got) => {
+            let reported = report_size(got, out);
+            let Got::Size(size) = got else {
+                return reported;
+            };
+            let offered = offer_size(feed, name, *size, out);
+            first_stop(reported, offered)
+        }
         Err(why) => Err(report_loss(feed, name, *why, out)),
     }
 }
@@ -261,7 +290,7 @@ pub fn take_range<K: Keep, O: Observe>(
     reply: &Result<Got, RequestFault>,
     out: &mut O,
 ) -> Result<(), Stop>
-    ensures extends { IsExtension (IsReplyEvent name.now Phase.Offered reply.now)
+    ensures owed { IsSubmitted name.now Phase.Offered reply.now
         (λ k. IfErr result (λ stop. IsStoppedAt name.now stop k)) (recorded feed.old) (recorded feed.new) }
     ensures fills { (file : List ℕ) (piece first last : ℕ) → HasRange file first last reply.now → IsFetchable file
         → IsFilled name.now file piece first last result (recorded feed.old) (recorded feed.new) }

@@ -8,8 +8,7 @@ use Rattle.feed_releases.specs.Feeds.{recorded}
 use Rattle.feed_releases.specs.declared.feed.Feed.{Feed}
 use Rattle.feed_http.specs.declared.fetching.got.Got.{Got}
 use Rattle.feed_fetch.specs.Answers.{HasRightAnswer}
-use Rattle.feed_fetch.specs.Effects.{IsExtension}
-use Rattle.feed_fetch.specs.Steps.{IsReplyEvent}
+use Rattle.feed_fetch.specs.Owed.{IsSubmitted}
 use Rattle.feed_fetch.specs.declared.stop.RequestFault.{RequestFault}
 use Rattle.feed_fetch.specs.declared.stop.RequestFault.TheVariants.{Http}
 use Rattle.feed_http_heads.specs.declared.http_fault.HttpFault.TheVariants.{BodyTooLong}
@@ -56,7 +55,7 @@ module _ {T K S : Type 0} {k : Ghosts K} (wanted : S → RequestHead → ℕ)
   -- with a reply that the feed took
   pub took_reply : (old : NodeMachine T K S k) (feed : Feed K k) (was next : Fetching) (reply : Result Got RequestFault) (Stands : History → Type 0) (history : List NodeEvent)
       → old.fetching ≡ Some was → next.name ≡ was.name → next.exchange ≡ None → reply_of was.exchange ≡ Some reply
-      → IsExtension (IsReplyEvent was.name was.fetch.phase reply) Stands (recorded old.feed) (recorded feed) → HasHistory wanted replies old history
+      → IsSubmitted was.name was.fetch.phase reply Stands (recorded old.feed) (recorded feed) → HasHistory wanted replies old history
       → (steps : History) × HasHistory wanted replies (record old { feed = feed; fetching = Some next }) (Took was.name was.fetch.phase reply steps ∷ history)
   took_reply old feed was next reply Stands history is same none of extends has =
       let more = extends (feed_history history) has.feed in

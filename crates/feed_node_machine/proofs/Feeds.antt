@@ -15,6 +15,7 @@ use Rattle.feed_fetch.specs.declared.machine.Phase.{Phase}
 use Rattle.feed_fetch.specs.declared.machine.Phase.TheVariants as phases
 use Rattle.feed_fetch.specs.declared.stop.RequestFault.{RequestFault}
 use Rattle.feed_fetch.specs.Steps.{IsReplyEvent}
+use Rattle.feed_fetch.proofs.Owed.{steps_given}
 use Rattle.feed_fetch.proofs.Filling.{slice_at}
 use Rattle.feed_http.specs.Got.{IsReply}
 use Rattle.feed_http.specs.ReplyLaws.{HasPart}
@@ -211,7 +212,8 @@ over_history file (DayBegan today ∷ earlier) given of = over_history file earl
 over_history file (Asked key bytes name ∷ earlier) given of = over_history file earlier given of
 over_history file (Took name phase reply steps ∷ earlier) given of =
     over_steps file steps (feed_history earlier)
-    (true_steps file name phase reply steps (of_reply (file name) (exchange_in earlier) reply of.0 given.2) (recursion_from_All _ steps given.0)) (over_history file earlier given.3 of.1)
+    (true_steps file name phase reply steps (of_reply (file name) (exchange_in earlier) reply of.0 given.2)
+    (recursion_from_All _ steps (steps_given name phase reply steps given.0.0))) (over_history file earlier given.3 of.1)
 over_history file (TookPart name first size bytes answer ∷ earlier) given of =
     over_more file (feed_history earlier) (Piece name first (Some size) bytes) answer (over_history file earlier given.2 of.1)
     (of_part (file name) (exchange_in earlier) size first bytes of.0 given.1)

@@ -1,10 +1,10 @@
 -- The events that a node may have.
-use Rattle.std.specs.Prelude.{◌≡◌, ℕ, Bool, false, List, [], ◌∷◌, ◌++◌, Option, Some, IfSome, Ok, All}
+use Rattle.std.specs.Prelude.{◌≡◌, ℕ, Bool, false, List, [], ◌∷◌, ◌++◌, Option, Some, IfSome, Ok}
 use Rattle.httparse.specs.Grammar.{RequestHead}
 use Rattle.feed_embargo.specs.Today.{TodayValue}
 use Rattle.feed_names.specs.ReleaseName.{Name}
 use Rattle.feed_model.specs.History.{History}
-use Rattle.feed_fetch.specs.Steps.{IsReplyEvent}
+use Rattle.feed_fetch.specs.Owed.{AreOwed}
 use Rattle.feed_resolver_request.specs.FetchRequests.{FetchPolicyValue, IsFetchBy}
 use Rattle.feed_node_connection.specs.declared.connection.Connection.{Connection}
 use Rattle.feed_node_connection.specs.Events.{Event, received_bytes, requests_in}
@@ -79,8 +79,8 @@ IsOwedAfter (Requested name piece phase front request) h = IsOwed name piece pha
 IsOwedAfter event h = Unit {0}
 
 -- in this run and the earlier ones, the node requested what the fetch needed next; each reply that it took is the one to its
--- last request, which was for this release, by the bytes received on that connection, and the feed handled no events but those that the reply gives; and
--- each part that it took is one of the file that was arriving
+-- last request, which was for this release, by the bytes received on that connection, and the feed handled exactly the
+-- events that the fetch owes for it; and each part that it took is one of the file that was arriving
 abbrev pub AreGiven : List NodeEvent → Type 0
 AreGiven [] = Unit {0}
 AreGiven (Accepted key ∷ earlier) = AreGiven earlier
@@ -89,7 +89,7 @@ AreGiven (Passed millis ∷ earlier) = AreGiven earlier
 AreGiven (DayBegan today ∷ earlier) = AreGiven earlier
 AreGiven (Asked key bytes name ∷ earlier) = AreGiven earlier
 AreGiven (Took name phase reply steps ∷ earlier) =
-    All (λ step. IsReplyEvent name phase reply step.0) steps × (name_of (exchange_in earlier) ≡ Some name) × HasReply (exchange_in earlier) reply
+    AreOwed name phase reply steps × (name_of (exchange_in earlier) ≡ Some name) × HasReply (exchange_in earlier) reply
     × AreGiven earlier
 AreGiven (TookPart name first size bytes answer ∷ earlier) =
     (name_of (exchange_in earlier) ≡ Some name) × HasArrivedPart (exchange_in earlier) size first bytes × AreGiven earlier

@@ -8,8 +8,8 @@ ghost use Rattle.feed_model.specs.History.{History, Piece};
 ghost use Rattle.feed_releases.specs.Feeds.{recorded};
 ghost use Rattle.feed_http.specs.RequestTexts.{is_host};
 ghost use Rattle.feed_fetch.specs.Answers.{HasRightAnswer, IsStoppedAt, piece_result, reply_or_stop};
-ghost use Rattle.feed_fetch.specs.Effects.{IsExtension};
-ghost use Rattle.feed_fetch.specs.Steps.{IsNextStep, IsReplyEvent, request_text};
+ghost use Rattle.feed_fetch.specs.Owed.{IsSubmitted};
+ghost use Rattle.feed_fetch.specs.Steps.{IsNextStep, request_text};
 ghost use Rattle.feed_node_machine.specs.Exchanges.{ExchangeEvent, Received, Ended, IsExchangeOf};
 ghost use Rattle.feed_node_machine.specs.Exchanges.{HasArrived, HasArrivedPart};
 ghost use Rattle.feed_node_machine.specs.Exchanges.{is_arriving, method_of, part_of, reply_of, request_for};
@@ -101,7 +101,7 @@ fn submit<K: Keep, O: Observe>(
     reply: &Result<Got, RequestFault>,
     out: &mut O,
 ) -> Result<(), Stop>
-    ensures { IsExtension (IsReplyEvent name.now fetch.old.phase reply.now)
+    ensures { IsSubmitted name.now fetch.old.phase reply.now
         (λ k. IfErr result (λ stop. IsStoppedAt name.now stop k)) (recorded feed.old) (recorded feed.new) }
 {
     if is_read_again {

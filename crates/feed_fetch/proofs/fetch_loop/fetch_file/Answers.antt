@@ -6,6 +6,7 @@ use Rattle.feed_fetch.specs.declared.stop.Stop.TheVariants.{NoProgress}
 use Rattle.feed_fetch.specs.Answers.{IsStoppedAt}
 use Rattle.feed_fetch.specs.Effects.{IsFetchEvent}
 use Rattle.feed_fetch.proofs.Extensions.{extends_more, extends_any, extends_none}
+use Rattle.feed_fetch.proofs.Owed.{submitted_extends}
 use Rattle.feed_fetch.proofs.Runs.{IsRun, taken_of, run_start, run_more, run_stops, run_ends, run_counts, run_extends, done_fetched}
 use Rattle.feed_fetch.proofs.fetch_loop.fetch_file.Goals as goal
 
@@ -33,7 +34,9 @@ returns-in-Err-clause-extends g c =
     (content_of c.take.new.feed.releases.items)
     c.rounds.invariant.extends
     (run_extends g.D.Dial.replies c.args.host.now c.args.name.now c.rounds.fetch.piece c.rounds.fetch.phase c.in-Ask.request c.send-reply.result (IsStoppedAt c.args.name.now c.in-Err.stop)
-    (content_of c.rounds.feed.releases.items) (content_of c.take.new.feed.releases.items) c.in-Ask.ensures c.send-reply.ensures.reply c.in-Err.ensures.extends)
+    (content_of c.rounds.feed.releases.items) (content_of c.take.new.feed.releases.items) c.in-Ask.ensures c.send-reply.ensures.reply
+    (submitted_extends (IsStoppedAt c.args.name.now c.in-Err.stop) c.args.name.now c.rounds.fetch.phase c.send-reply.result (content_of c.rounds.feed.releases.items)
+    (content_of c.take.new.feed.releases.items) c.in-Err.ensures.owed))
 
 pub returns-in-Err-clause-gets : goal.returns-in-Err-clause-gets
 returns-in-Err-clause-gets g c file serves fit =
@@ -61,7 +64,9 @@ rounds-preserved g c = record {
       (content_of c.rounds.feed.releases.items) (content_of c.take.new.feed.releases.items) c.rounds.invariant.extends
       (run_extends g.D.Dial.replies c.args.host.now c.args.name.now c.rounds.fetch.piece c.rounds.fetch.phase c.in-Ask.request c.send-reply.result (λ k. IfErr c.take.result
       (λ stop. IsStoppedAt c.args.name.now stop k))
-      (content_of c.rounds.feed.releases.items) (content_of c.take.new.feed.releases.items) c.in-Ask.ensures c.send-reply.ensures.reply c.take.ensures.extends));
+      (content_of c.rounds.feed.releases.items) (content_of c.take.new.feed.releases.items) c.in-Ask.ensures c.send-reply.ensures.reply
+      (submitted_extends (λ k. IfErr c.take.result (λ stop. IsStoppedAt c.args.name.now stop k)) c.args.name.now c.rounds.fetch.phase c.send-reply.result (content_of c.rounds.feed.releases.items)
+      (content_of c.take.new.feed.releases.items) c.take.ensures.owed)));
   fills = λ file serves fit.
       subst (λ (p : Phase). IsRun c.args.name.now file c.take.new.self.piece p (c.rounds.counter + 1) (content_of c.args.feed.now.releases.items) (content_of c.take.new.feed.releases.items))
       (sym c.in_default-take.ensures.phase)
