@@ -1,6 +1,6 @@
 -- A request that makes a node fetch.
-use Rattle.std.proofs.Common.{◌≡◌, ◌∙◌, ℕ, Bool, true, false, List, [], ◌∷◌, take, Option, Some, None, Result, Ok, Err, inl, inr, refl, sym, subst}
-use Rattle.std.specs.Prelude.{IsSomeAnd, option_copied}
+use Rattle.std.proofs.Common.{◌≡◌, ◌∙◌, ℕ, Bool, true, false, List, [], ◌∷◌, take, Option, Some, None, Result, inl, inr, refl, sym, subst}
+use Rattle.std.specs.Prelude.{◌||◌, IsSomeAnd, is_some, option_copied}
 use Rattle.httparse.specs.Grammar.{RequestHead}
 use Rattle.feed_names.specs.ReleaseName.{Name}
 use Rattle.feed_names.specs.declared.name_fault.NameFault.{NameFault}
@@ -18,7 +18,7 @@ use Rattle.feed_node_machine.specs.declared.machine.NodeMachine.{NodeMachine}
 use Rattle.feed_node_machine.specs.NodeEvents.{NodeEvent, events_of}
 use Rattle.feed_node_machine.specs.Rules.{Terms}
 use Rattle.feed_node_machine.specs.Nodes.{HasHistory, HasAsked}
-use Rattle.feed_node_machine.proofs.Shares.{asks_by}
+use Rattle.feed_node_machine.proofs.Busy.{busy_is}
 
 none_taken : (xs : List ℕ) → take 0 xs ≡ []
 none_taken [] = refl
@@ -31,48 +31,51 @@ asks_nothing false None asked is = absurd (cc)
 asks_nothing false (Some token) asked (inl (head, begins, is)) = absurd (reading.nothing_yet.not_whole head begins.rest begins.reads)
 asks_nothing false (Some token) asked (inr (none, is)) = absurd (cc)
 
+-- a request that makes the node fetch has the token, and no fetch is under way
+idle_by : (is_busy : Bool) (token : Option (List ℕ)) (bytes : List ℕ) (asked : Result Name NameFault) → IsFetchBy is_busy token bytes (Some asked)
+    → (is_busy ≡ false) × IsFetchBy false token bytes (Some asked)
+idle_by true token bytes asked is = absurd (cc)
+idle_by false token bytes asked is = (refl, is)
+
 module _ {T K S : Type 0} {k : Ghosts K} (wanted : S → RequestHead → ℕ)
     (replies : S → Terms → History → List ℕ → List ℕ → Bool → List ℕ → Type 0) where
   -- the release that a request asks for is the next one to fetch
   pub asked_moves : (key : ℕ) (bytes : List ℕ) (is_busy : Bool) (token : Option (List ℕ)) (old : NodeMachine T K S k) (asked : Result Name NameFault) (history : List NodeEvent)
       → HasHistory wanted replies old history → IsSomeAnd (peer_at old.table key) (λ peer. bytes ≡ request_of peer.connection) → token ≡ option_copied old.token
+      → is_busy ≡ (is_some old.fetching || is_some old.requested)
       → IsFetchBy is_busy token bytes (Some asked) → HasAsked wanted replies key (record old { requested = Some asked }) history
-  asked_moves key bytes is_busy token old (Err fault) history has request same asks = inl (record {
-    connections = has.connections;
-    feed = has.feed;
-    fetching = has.fetching;
-    requested = λ name e. absurd (cc);
-    today = has.today;
-    allowed = has.allowed;
-    given = has.given;
-  })
-  asked_moves key bytes is_busy token old (Ok name) history has request same asks = by (peer_at old.table key) refl request
+  asked_moves key bytes is_busy token old asked history has request same busy asks = by (peer_at old.table key) refl request
     where
       last_asked : (peer : Peer T) → KnowsRequest peer.connection (events_of key history) → bytes ≡ request_of peer.connection → IsLastOf (requests_in (events_of key history)) bytes
       last_asked peer (inl none) same =
           let empty : bytes ≡ [] = same ∙ rw none (none_taken peer.connection.received.bytes.items) in
-          asks_nothing is_busy token (Ok name) (subst (λ t. IsFetchBy is_busy token t (Some (Ok name))) empty asks)
+          asks_nothing is_busy token asked (subst (λ t. IsFetchBy is_busy token t (Some asked)) empty asks)
       last_asked peer (inr last) same = subst (IsLastOf (requests_in (events_of key history))) (sym same) last
 
+      idle : (is_busy ≡ false) × IsFetchBy false token bytes (Some asked)
+      idle = idle_by is_busy token bytes asked asks
+
       by : (slot : Option (Peer T)) → peer_at old.table key ≡ slot → IsSomeAnd slot (λ peer. bytes ≡ request_of peer.connection)
-          → HasAsked wanted replies key (record old { requested = Some (Ok name) }) history
+          → HasAsked wanted replies key (record old { requested = Some asked }) history
       by None is there = absurd there
       by (Some peer) is there = inr (
         bytes,
-        name,
+        asked,
         record {
           connections = has.connections;
           feed = has.feed;
-          fetching = λ fetching e. (inr (has.fetching fetching e).0, (has.fetching fetching e).1);
-          requested = λ n e. inl (cc);
+          fetching = has.fetching;
+          idle = has.idle;
+          requested = refl;
           today = has.today;
           allowed = (
             record {
               rest = (first_in peer.connection.phase peer.connection (events_of key history) (has.connections key peer is).0).0;
               in_order = (first_in peer.connection.phase peer.connection (events_of key history) (has.connections key peer is).0).1;
               last = last_asked peer (has.connections key peer is).2 there;
-              asks = subst (λ (t : Option (List ℕ)). IsFetchBy false t bytes (Some (Ok name))) same (asks_by is_busy token bytes name asks);
+              asks = subst (λ (t : Option (List ℕ)). IsFetchBy false t bytes (Some asked)) same idle.1;
             },
+            busy_is wanted replies old history has ∙ sym busy ∙ idle.0,
             has.allowed,
           );
           given = has.given;

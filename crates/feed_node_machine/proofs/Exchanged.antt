@@ -17,7 +17,7 @@ use Rattle.feed_node_machine.specs.declared.exchange.Exchange.TheVariants as exc
 use Rattle.feed_node_machine.specs.declared.fetching.Fetching.{Fetching}
 use Rattle.feed_node_machine.specs.declared.machine.NodeMachine.{NodeMachine}
 use Rattle.feed_node_machine.specs.Exchanges.{ExchangeEvent, IsExchangeOf, HasReply, HasArrivedPart, exchange_with, is_arriving, name_of, part_of, reply_of}
-use Rattle.feed_node_machine.specs.NodeEvents.{NodeEvent, Took, TookPart, Exchanged, WasAsked, exchange_in, feed_history, given_after, given_in}
+use Rattle.feed_node_machine.specs.NodeEvents.{NodeEvent, Took, TookPart, Exchanged, exchange_in, feed_history, fetching_in, given_after, given_in}
 use Rattle.feed_node_machine.specs.Rules.{Terms, MayExchange, IsOwedAfter}
 use Rattle.feed_node_machine.specs.Nodes.{HasHistory, HasExchanged, HasTaken, HasTakenPart, IsFetching, IsLater, exchange_of}
 use Rattle.feed_node_machine.proofs.Later.{later_exchanged, later_same, later_taken_part}
@@ -45,7 +45,8 @@ module _ {T K S : Type 0} {k : Ghosts K} (wanted : S → RequestHead → ℕ)
   exchanged_on event old was next history is same exchange may owed has = record {
     connections = has.connections;
     feed = has.feed;
-    fetching = fetching_on next (Exchanged event ∷ history) (subst (λ n. WasAsked n history) (sym same) (has.fetching was is).0, exchange);
+    fetching = fetching_on next (Exchanged event ∷ history) (subst (λ n. fetching_in history ≡ Some n) (sym same) (has.fetching was is).0, exchange);
+    idle = λ e. absurd (cc);
     requested = has.requested;
     today = has.today;
     allowed = (may, has.allowed);
@@ -66,7 +67,8 @@ module _ {T K S : Type 0} {k : Ghosts K} (wanted : S → RequestHead → ℕ)
           connections = has.connections;
           feed = more.3;
           fetching = fetching_on next (Took was.name was.fetch.phase reply more.0 ∷ history)
-              (subst (λ n. WasAsked n history) (sym same) asked, subst (λ x. IsExchangeOf x next.name (exchange_in history) (given_in history)) (sym none) tt);
+              (subst (λ n. fetching_in history ≡ Some n) (sym same) asked, subst (λ x. IsExchangeOf x next.name (exchange_in history) (given_in history)) (sym none) tt);
+          idle = λ e. absurd (cc);
           requested = has.requested;
           today = has.today;
           allowed = (asked, has.allowed);
@@ -90,9 +92,10 @@ module _ {T K S : Type 0} {k : Ghosts K} (wanted : S → RequestHead → ℕ)
           connections = has.connections;
           feed = answered.3;
           fetching = fetching_on next (TookPart was.name first size bytes answered.0 ∷ history) (
-            subst (λ n. WasAsked n history) (sym same) asked,
+            subst (λ n. fetching_in history ≡ Some n) (sym same) asked,
             subst (λ n. IsExchangeOf next.exchange n (exchange_in history) (given_in history ++ bytes)) (sym same) part.1,
           );
+          idle = λ e. absurd (cc);
           requested = has.requested;
           today = has.today;
           allowed = (asked, has.allowed);

@@ -22,7 +22,8 @@ use Rattle.feed_http.specs.ReplyLaws.{HasPart}
 use Rattle.feed_http.proofs.ReplyLaw.{part_of_file}
 use Rattle.feed_fetch.specs.declared.machine.Request.{Request}
 use Rattle.feed_node_machine.specs.Exchanges.{ExchangeEvent, HasReply, HasArrivedPart, Reads, method_of, received_of, request_of}
-use Rattle.feed_node_machine.specs.NodeEvents.{NodeEvent, Accepted, Served, Passed, DayBegan, Asked, Took, TookPart, Exchanged, Reopened, feed_history, exchange_in}
+use Rattle.feed_node_machine.specs.NodeEvents.{NodeEvent, Accepted, Served, Passed, DayBegan, Asked, Began, Finished, Took, TookPart, Exchanged, Reopened}
+use Rattle.feed_node_machine.specs.NodeEvents.{feed_history, exchange_in}
 use Rattle.feed_node_machine.specs.Rules.{AreGiven}
 use Rattle.feed_node_machine.specs.Promise.{AgreeWith, IsOfFile, IsServedFrom, AreOfFiles, FilesArePublished, NeverOlder}
 
@@ -71,7 +72,9 @@ keeps_moment (Accepted key ∷ later) moment legal = keeps_moment later moment l
 keeps_moment (Served key share ∷ later) moment legal = keeps_moment later moment legal
 keeps_moment (Passed millis ∷ later) moment legal = keeps_moment later moment legal
 keeps_moment (DayBegan today ∷ later) moment legal = keeps_moment later moment legal
-keeps_moment (Asked key bytes name ∷ later) moment legal = keeps_moment later moment legal
+keeps_moment (Asked key bytes asked ∷ later) moment legal = keeps_moment later moment legal
+keeps_moment (Began asked ∷ later) moment legal = keeps_moment later moment legal
+keeps_moment (Finished ∷ later) moment legal = keeps_moment later moment legal
 keeps_moment (Took name phase reply steps ∷ later) moment legal =
     let h = feed_history (later ++ moment) in
     keeps_on (feed_history moment) h (steps ++ h) (keeps_moment later moment (legal_before steps h legal)) (keeps_steps steps h legal)
@@ -209,7 +212,9 @@ over_history file (Accepted key ∷ earlier) given of = over_history file earlie
 over_history file (Served key share ∷ earlier) given of = over_history file earlier given of
 over_history file (Passed millis ∷ earlier) given of = over_history file earlier given of
 over_history file (DayBegan today ∷ earlier) given of = over_history file earlier given of
-over_history file (Asked key bytes name ∷ earlier) given of = over_history file earlier given of
+over_history file (Asked key bytes asked ∷ earlier) given of = over_history file earlier given of
+over_history file (Began asked ∷ earlier) given of = over_history file earlier given of
+over_history file (Finished ∷ earlier) given of = over_history file earlier given of
 over_history file (Took name phase reply steps ∷ earlier) given of =
     over_steps file steps (feed_history earlier)
     (true_steps file name phase reply steps (of_reply (file name) (exchange_in earlier) reply of.0 given.2)

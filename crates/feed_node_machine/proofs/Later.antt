@@ -3,16 +3,18 @@ use Rattle.std.proofs.Common.{◌≡◌, ℕ, Bool, List, [], ◌∷◌, ◌++�
 use Rattle.httparse.specs.Grammar.{RequestHead}
 use Rattle.feed_keep.specs.declared.keep.Keep.{Ghosts}
 use Rattle.feed_model.specs.History.{History}
+use Rattle.feed_names.specs.ReleaseName.{Name}
+use Rattle.feed_names.specs.declared.name_fault.NameFault.{NameFault}
 use Rattle.feed_http.specs.declared.fetching.got.Got.{Got}
 use Rattle.std.specs.Prelude.{Result}
 use Rattle.feed_fetch.specs.declared.stop.RequestFault.{RequestFault}
 use Rattle.feed_node_machine.specs.declared.fetching.Fetching.{Fetching}
 use Rattle.feed_node_machine.specs.declared.machine.NodeMachine.{NodeMachine}
 use Rattle.feed_node_machine.specs.Exchanges.{ExchangeEvent, reply_of, part_of}
-use Rattle.feed_node_machine.specs.NodeEvents.{NodeEvent, Accepted, Served, Asked, Took, TookPart, Exchanged, accepted_in}
+use Rattle.feed_node_machine.specs.NodeEvents.{NodeEvent, Accepted, Served, Asked, Began, Finished, Took, TookPart, Exchanged, accepted_in}
 use Rattle.feed_node_machine.specs.Rules.{Terms}
 use Rattle.feed_node_machine.specs.Promise.{NodeIsRight, IsRightAfter}
-use Rattle.feed_node_machine.specs.Nodes.{HasHistory, HasServed, HasAdvanced, HasExchanged, HasTaken, HasTakenPart, IsLater, KeepsHistory}
+use Rattle.feed_node_machine.specs.Nodes.{HasHistory, HasServed, HasAdvanced, HasBegun, HasFinished, HasExchanged, HasTaken, HasTakenPart, IsLater, KeepsHistory}
 
 module _ {T K S : Type 0} {k : Ghosts K} (wanted : S → RequestHead → ℕ)
     (replies : S → Terms → History → List ℕ → List ℕ → Bool → List ℕ → Type 0) where
@@ -44,9 +46,9 @@ module _ {T K S : Type 0} {k : Ghosts K} (wanted : S → RequestHead → ℕ)
     where
       by : (history : List NodeEvent) → HasAdvanced wanted replies key new history → (later : List NodeEvent) × HasHistory wanted replies new (later ++ history)
       by history (inl (inl same)) = ([], same)
-      by history (inl (inr (bytes, name, is))) = (Asked key bytes name ∷ [], is)
+      by history (inl (inr (bytes, asked, is))) = (Asked key bytes asked ∷ [], is)
       by history (inr (share, inl is)) = (Served key share ∷ [], is)
-      by history (inr (share, inr (bytes, name, is))) = (Asked key bytes name ∷ Served key share ∷ [], is)
+      by history (inr (share, inr (bytes, asked, is))) = (Asked key bytes asked ∷ Served key share ∷ [], is)
 
   pub later_taken : (fetching : Fetching) (reply : Result Got RequestFault) (old new : NodeMachine T K S k) → old.fetching ≡ Some fetching → reply_of fetching.exchange ≡ Some reply
       → ((history : List NodeEvent) → HasHistory wanted replies old history → HasTaken wanted replies old new history) → IsLater wanted replies old new
@@ -64,6 +66,12 @@ module _ {T K S : Type 0} {k : Ghosts K} (wanted : S → RequestHead → ℕ)
         (let now = has history was fetching first size bytes is of in (TookPart fetching.name first size bytes now.0 ∷ [], now.1));
   }
 
+  pub later_begun : (asked : Result Name NameFault) (old new : NodeMachine T K S k) → old.requested ≡ Some asked → HasBegun wanted replies old new → IsLater wanted replies old new
+  later_begun asked old new is has = record { history = λ history was. (Began asked ∷ [], has asked history is was) }
+
+  pub later_finished : (fetching : Fetching) (old new : NodeMachine T K S k) → old.fetching ≡ Some fetching → HasFinished wanted replies old new → IsLater wanted replies old new
+  later_finished fetching old new is has = record { history = λ history was. (Finished ∷ [], has fetching history is was) }
+
   pub later_exchanged : (event : ExchangeEvent) (old new : NodeMachine T K S k) → HasExchanged wanted replies event old new → IsLater wanted replies old new
   later_exchanged event old new has = record { history = λ history was. (Exchanged event ∷ [], has history was) }
 
@@ -72,6 +80,9 @@ module _ {T K S : Type 0} {k : Ghosts K} {wanted : S → RequestHead → ℕ}
   -- a node that does not change
   pub later_same : (node : NodeMachine T K S k) → IsLater wanted replies node node
   later_same node = record { history = λ history has. ([], has) }
+
+  pub later_as : (old new : NodeMachine T K S k) → new ≡ old → IsLater wanted replies old new
+  later_as old new same = subst (λ node. IsLater wanted replies old node) (sym same) (later_same old)
 
   -- a node that changes twice
   pub later_after : (first second third : NodeMachine T K S k) → IsLater wanted replies first second → IsLater wanted replies second third

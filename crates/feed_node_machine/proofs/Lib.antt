@@ -4,6 +4,7 @@ pub mod Exchanging
 pub mod Feeds
 pub mod Moments
 pub mod Shares
+pub mod Busy
 pub mod Asked
 pub mod Later
 pub mod Exchanged

@@ -8,7 +8,7 @@ use Rattle.feed_node_connection.specs.Replies.{Replies, Exchange, IsReplyOf, Has
 use Rattle.feed_node_connection.specs.States.{HasState}
 use Rattle.feed_node_connection.specs.Streams.{AreReplies}
 use Rattle.feed_node_connection.proofs.States.{all_served}
-use Rattle.feed_node_machine.specs.NodeEvents.{NodeEvent, Accepted, Served, Passed, DayBegan, Asked, Took, TookPart, Exchanged, Reopened, events_of, IsMoment}
+use Rattle.feed_node_machine.specs.NodeEvents.{NodeEvent, Accepted, Served, Passed, DayBegan, Asked, Began, Finished, Took, TookPart, Exchanged, Reopened, events_of, IsMoment}
 use Rattle.feed_node_machine.specs.Rules.{Rules, IsShare, AreAllowed}
 use Rattle.feed_node_machine.specs.Promise.{IsMadeFor, replies_in}
 
@@ -76,7 +76,6 @@ module _ (rules : Rules) (token : Option (List ℕ)) (key : ℕ) where
     share = is.share;
     earlier = is.earlier;
     moment = moment_more event (Served key is.share ∷ is.earlier) history is.moment;
-    is_busy = is.is_busy;
     is_local = is.is_local;
     today = is.today;
     day = is.day;
@@ -97,7 +96,7 @@ module _ (rules : Rules) (token : Option (List ℕ)) (key : ℕ) where
   of_share share earlier is =
       are_more rules.0 _ (IsMadeFor rules token key (Served key share ∷ earlier))
       (λ head body keeps reply made.
-      record { share = share; earlier = earlier; moment = ([], refl); is_busy = is.is_busy; is_local = is.is_local; today = is.today; day = is.day; made = made })
+      record { share = share; earlier = earlier; moment = ([], refl); is_local = is.is_local; today = is.today; day = is.day; made = made })
       share is.replied
 
   -- what holds of the events under this key, by whether the share was its own
@@ -123,7 +122,9 @@ module _ (rules : Rules) (token : Option (List ℕ)) (key : ℕ) where
       rest
   all_made (Passed millis ∷ earlier) allowed = more_in (Passed millis) earlier (events_of key earlier) (all_made earlier allowed)
   all_made (DayBegan today ∷ earlier) allowed = more_in (DayBegan today) earlier (events_of key earlier) (all_made earlier allowed)
-  all_made (Asked other bytes name ∷ earlier) allowed = more_in (Asked other bytes name) earlier (events_of key earlier) (all_made earlier allowed.1)
+  all_made (Asked other bytes asked ∷ earlier) allowed = more_in (Asked other bytes asked) earlier (events_of key earlier) (all_made earlier allowed.2)
+  all_made (Began asked ∷ earlier) allowed = more_in (Began asked) earlier (events_of key earlier) (all_made earlier allowed.2)
+  all_made (Finished ∷ earlier) allowed = more_in Finished earlier (events_of key earlier) (all_made earlier allowed.1)
   all_made (Took name phase reply steps ∷ earlier) allowed = more_in (Took name phase reply steps) earlier (events_of key earlier) (all_made earlier allowed.1)
   all_made (TookPart name first size bytes answer ∷ earlier) allowed =
       more_in (TookPart name first size bytes answer) earlier (events_of key earlier) (all_made earlier allowed.1)
@@ -156,7 +157,9 @@ module _ (rules : Rules) (token : Option (List ℕ)) (key : ℕ) where
           (more_in (Served other share) earlier (events_of key earlier) (all_made earlier allowed.1))
   all_served_in (Passed millis ∷ earlier) allowed = served_in (Passed millis) earlier _ _ (all_served_in earlier allowed)
   all_served_in (DayBegan today ∷ earlier) allowed = served_in (DayBegan today) earlier _ _ (all_served_in earlier allowed)
-  all_served_in (Asked other bytes name ∷ earlier) allowed = served_in (Asked other bytes name) earlier _ _ (all_served_in earlier allowed.1)
+  all_served_in (Asked other bytes asked ∷ earlier) allowed = served_in (Asked other bytes asked) earlier _ _ (all_served_in earlier allowed.2)
+  all_served_in (Began asked ∷ earlier) allowed = served_in (Began asked) earlier _ _ (all_served_in earlier allowed.2)
+  all_served_in (Finished ∷ earlier) allowed = served_in Finished earlier _ _ (all_served_in earlier allowed.1)
   all_served_in (Took name phase reply steps ∷ earlier) allowed = served_in (Took name phase reply steps) earlier _ _ (all_served_in earlier allowed.1)
   all_served_in (TookPart name first size bytes answer ∷ earlier) allowed =
       served_in (TookPart name first size bytes answer) earlier _ _ (all_served_in earlier allowed.1)

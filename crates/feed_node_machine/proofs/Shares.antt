@@ -1,13 +1,11 @@
 -- A share of a turn, and what follows it.
-use Rattle.std.proofs.Common.{◌≡◌, ℕ, Bool, true, false, List, [], ◌∷◌, ◌++◌, Option, Some, None, Ok, ◌⊎◌, inl, inr, refl, subst}
+use Rattle.std.proofs.Common.{◌≡◌, ℕ, Bool, false, List, [], ◌∷◌, ◌++◌, Option, Some, None, ◌⊎◌, inl, inr, refl, subst}
 use Rattle.std.specs.Prelude.{IfSome, ◌==◌, length}
 use Rattle.feed_embargo.specs.Today.{TodayValue}
-use Rattle.feed_names.specs.ReleaseName.{Name}
 use Rattle.feed_keep.specs.declared.keep.Keep.{Ghosts}
 use Rattle.feed_model.specs.History.{History}
 use Rattle.feed_model.specs.Content.{IsContent}
 use Rattle.feed_releases.specs.Feeds.{recorded}
-use Rattle.feed_resolver_request.specs.FetchRequests.{IsFetchBy}
 use Rattle.feed_node_connection.specs.declared.streams.Progress.{Progress}
 use Rattle.feed_node_connection.specs.declared.streams.Share.{Share}
 use Rattle.feed_node_connection.specs.Events.{Event, Resumed}
@@ -20,7 +18,7 @@ use Rattle.feed_node_table.specs.Logs.{Entry}
 use Rattle.feed_node_table.specs.Tables.{peer_at, IsServed, IsFollowedAt, KeepsOthers}
 use Rattle.feed_node_table.proofs.Firsts.{same_peer}
 use Rattle.feed_node_machine.specs.declared.occasion.Occasion.{Occasion}
-use Rattle.feed_node_machine.specs.NodeEvents.{NodeEvent, Served, events_of, feed_history, today_in}
+use Rattle.feed_node_machine.specs.NodeEvents.{NodeEvent, Served, busy_in, events_of, feed_history, today_in}
 use Rattle.feed_node_machine.specs.Occasions.{IsReplyOn}
 use Rattle.feed_node_machine.specs.Rules.{Rules, Terms, terms_with, IsShare}
 use Rattle.feed_node_machine.specs.Nodes.{AreAt}
@@ -29,12 +27,14 @@ use Rattle.feed_node_machine.proofs.Replies.{are_more}
 
 -- a reply on an occasion is one to each history that the feed has
 pub reply_to : {K : Type 0} {k : Ghosts K} (replies : Terms → History → List ℕ → List ℕ → Bool → List ℕ → Type 0) (occasion : Occasion K k) (token : Option (List ℕ))
-    (h : History) → occasion.policy.token ≡ token → IsContent (recorded occasion.feed.now) h → (head body : List ℕ) (keeps : Bool) (reply : Option (List ℕ))
+    (is_busy : Bool) (h : History) → occasion.policy.token ≡ token → occasion.policy.is_busy ≡ is_busy → IsContent (recorded occasion.feed.now) h
+    → (head body : List ℕ) (keeps : Bool) (reply : Option (List ℕ))
     → IsReplyOn replies occasion head body keeps reply
-    → IfSome reply (replies (terms_with token occasion.policy.is_busy occasion.is_local occasion.today) h head body keeps)
-reply_to replies occasion token h same content head body keeps None is = tt
-reply_to replies occasion token h same content head body keeps (Some text) is =
-    subst (λ (t : Option (List ℕ)). replies (terms_with t occasion.policy.is_busy occasion.is_local occasion.today) h head body keeps text) same (is h content)
+    → IfSome reply (replies (terms_with token is_busy occasion.is_local occasion.today) h head body keeps)
+reply_to replies occasion token is_busy h same busy content head body keeps None is = tt
+reply_to replies occasion token is_busy h same busy content head body keeps (Some text) is =
+    subst (λ (b : Bool). replies (terms_with token b occasion.is_local occasion.today) h head body keeps text) busy
+    (subst (λ (t : Option (List ℕ)). replies (terms_with t occasion.policy.is_busy occasion.is_local occasion.today) h head body keeps text) same (is h content))
 
 module _ {T : Type 0} where
   -- the table has this history, with one more share of this connection if it is there
@@ -42,13 +42,13 @@ module _ {T : Type 0} where
   MovesBy rules token key table history =
       AreAt table history ⊎ ((share : List Event) × AreAt table (Served key share ∷ history) × IsShare rules token key share history)
 
-  pub serve_moves : (rules : Rules) (some : List ℕ → List ℕ → Bool → Option (List ℕ) → Type 0) (token : Option (List ℕ)) (is_busy is_local : Bool) (today : TodayValue)
+  pub serve_moves : (rules : Rules) (some : List ℕ → List ℕ → Bool → Option (List ℕ) → Type 0) (token : Option (List ℕ)) (is_local : Bool) (today : TodayValue)
       (key : ℕ) (progress : Progress) (share left : Share) (old new : Table T) (history : List NodeEvent)
       → ((head body : List ℕ) (keeps : Bool) (reply : Option (List ℕ)) → some head body keeps reply
-      → IfSome reply (rules.1 (terms_with token is_busy is_local today) (feed_history history) head body keeps))
+      → IfSome reply (rules.1 (terms_with token (busy_in history) is_local today) (feed_history history) head body keeps))
       → IsServed (rules.0, some) key progress share left old new → KeepsOthers key old new → (peer_at old key ≡ None → peer_at new key ≡ None)
       → AreAt old history → today_in history ≡ Some today → MovesBy rules token key new history
-  serve_moves rules some token is_busy is_local today key progress share left old new history text served others absent at day = by (peer_at old key) refl
+  serve_moves rules some token is_local today key progress share left old new history text served others absent at day = by (peer_at old key) refl
     where
       by : (slot : Option (Peer T)) → peer_at old key ≡ slot → MovesBy rules token key new history
       by None is = inl (at_kept old new history (keeps_others key old new others (absent is)) at)
@@ -62,12 +62,11 @@ module _ {T : Type 0} where
             record {
               connection = next.0.connection;
               state = moved.state;
-              is_busy = is_busy;
               is_local = is_local;
               today = today;
               day = day;
               replied =
-                  are_more rules.0 some (λ head body keeps reply. IfSome reply (rules.1 (terms_with token is_busy is_local today) (feed_history history) head body keeps)) text
+                  are_more rules.0 some (λ head body keeps reply. IfSome reply (rules.1 (terms_with token (busy_in history) is_local today) (feed_history history) head body keeps)) text
                   moved.more moved.replies_made;
             },
           )
@@ -94,14 +93,9 @@ module _ {T : Type 0} where
               at_served key (Resumed (length (rest_of peer.connection) == 0) ∷ []) old new history others
                   (λ other here. subst (λ (p : Peer T). HasState p.connection (Resumed (length (rest_of peer.connection) == 0) ∷ events_of key history))
                   (same_peer other it (peer_at new key) here there) state) at,
-              record { connection = it.connection; state = state; is_busy = false; is_local = false; today = today; day = day; replied = tt },
+              record { connection = it.connection; state = state; is_local = false; today = today; day = day; replied = tt },
             )
 
         by : (slot : Option (Peer T)) → peer_at old key ≡ slot → MovesBy rules token key new history
         by None is = inl (at_kept old new history (keeps_others key old new others (absent is)) at)
         by (Some peer) is = next peer is what (followed peer is)
-
--- a request that makes the node fetch has the token, whatever else the node does
-pub asks_by : (is_busy : Bool) (token : Option (List ℕ)) (bytes : List ℕ) (name : Name) → IsFetchBy is_busy token bytes (Some (Ok name)) → IsFetchBy false token bytes (Some (Ok name))
-asks_by true token bytes name is = absurd (cc)
-asks_by false token bytes name is = is

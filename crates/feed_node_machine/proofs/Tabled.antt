@@ -34,6 +34,7 @@ module _ {T K S : Type 0} {k : Ghosts K} (wanted : S → RequestHead → ℕ)
     connections = at;
     feed = has.feed;
     fetching = has.fetching;
+    idle = has.idle;
     requested = has.requested;
     today = has.today;
     allowed = has.allowed;
@@ -54,6 +55,7 @@ module _ {T K S : Type 0} {k : Ghosts K} (wanted : S → RequestHead → ℕ)
       connections = at;
       feed = has.feed;
       fetching = has.fetching;
+      idle = has.idle;
       requested = has.requested;
       today = has.today;
       allowed = (is, has.allowed);

@@ -1,7 +1,8 @@
 -- The events of a node, the newest first.
-use Rattle.std.specs.Prelude.{◌≡◌, ◌==◌, if◌then◌else◌, ◌⊎◌, ℕ, List, [], ◌∷◌, ◌++◌, Option, Some, None, Result}
+use Rattle.std.specs.Prelude.{◌≡◌, ◌==◌, ◌||◌, if◌then◌else◌, ℕ, Bool, List, [], ◌∷◌, ◌++◌, Option, Some, None, is_some, Result, Ok, Err}
 use Rattle.feed_embargo.specs.Today.{TodayValue}
 use Rattle.feed_names.specs.ReleaseName.{Name}
+use Rattle.feed_names.specs.declared.name_fault.NameFault.{NameFault}
 use Rattle.feed_model.specs.History.{History, Answer, Piece}
 use Rattle.feed_http.specs.declared.fetching.got.Got.{Got}
 use Rattle.feed_fetch.specs.declared.machine.Phase.{Phase}
@@ -11,15 +12,18 @@ use Rattle.feed_node_machine.specs.Exchanges.{ExchangeEvent, Requested, exchange
 
 -- a connection was accepted under a key; the connection with this key had these events, the newest first; time passed, of
 -- which the clock of each connection counted so many milliseconds; a day began; the request with these bytes, on the
--- connection with this key, asked for this release; the fetch of a release took the reply of the knowledge base to its
--- request, and the feed handled these events, the newest first; it took a part of a whole file, which the feed answered; on the
--- connection to the knowledge base there was this event; or the process ended, and the node was opened again
+-- connection with this key, asked for this release, or has an invalid name; the fetch of this release began, or was refused for
+-- its name; the fetch ended; the fetch of a release took the reply of the knowledge base to its request, and the feed handled
+-- these events, the newest first; it took a part of a whole file, which the feed answered; on the connection to the knowledge
+-- base there was this event; or the process ended, and the node was opened again
 pub data NodeEvent : Type 0 where
   Accepted : (key : ℕ) → NodeEvent
   Served : (key : ℕ) → (share : List Event) → NodeEvent
   Passed : (millis : ℕ → ℕ) → NodeEvent
   DayBegan : (today : TodayValue) → NodeEvent
-  Asked : (key : ℕ) → (bytes : List ℕ) → (name : Name) → NodeEvent
+  Asked : (key : ℕ) → (bytes : List ℕ) → (asked : Result Name NameFault) → NodeEvent
+  Began : (asked : Result Name NameFault) → NodeEvent
+  Finished : NodeEvent
   Took : (name : Name) → (phase : Phase) → (reply : Result Got RequestFault) → (steps : History) → NodeEvent
   TookPart : (name : Name) → (first size : ℕ) → (bytes : List ℕ) → (answer : Answer) → NodeEvent
   Exchanged : (event : ExchangeEvent) → NodeEvent
@@ -32,7 +36,9 @@ events_of key (Accepted other ∷ earlier) = if other == key then [] else events
 events_of key (Served other share ∷ earlier) = if other == key then share ++ events_of key earlier else events_of key earlier
 events_of key (Passed millis ∷ earlier) = Elapsed (millis key) ∷ events_of key earlier
 events_of key (DayBegan today ∷ earlier) = events_of key earlier
-events_of key (Asked other bytes name ∷ earlier) = events_of key earlier
+events_of key (Asked other bytes asked ∷ earlier) = events_of key earlier
+events_of key (Began asked ∷ earlier) = events_of key earlier
+events_of key (Finished ∷ earlier) = events_of key earlier
 events_of key (Took name phase reply steps ∷ earlier) = events_of key earlier
 events_of key (TookPart name first size bytes answer ∷ earlier) = events_of key earlier
 events_of key (Exchanged event ∷ earlier) = events_of key earlier
@@ -45,24 +51,52 @@ feed_history (Accepted key ∷ earlier) = feed_history earlier
 feed_history (Served key share ∷ earlier) = feed_history earlier
 feed_history (Passed millis ∷ earlier) = feed_history earlier
 feed_history (DayBegan today ∷ earlier) = feed_history earlier
-feed_history (Asked key bytes name ∷ earlier) = feed_history earlier
+feed_history (Asked key bytes asked ∷ earlier) = feed_history earlier
+feed_history (Began asked ∷ earlier) = feed_history earlier
+feed_history (Finished ∷ earlier) = feed_history earlier
 feed_history (Took name phase reply steps ∷ earlier) = steps ++ feed_history earlier
 feed_history (TookPart name first size bytes answer ∷ earlier) = (Piece name first (Some size) bytes, answer) ∷ feed_history earlier
 feed_history (Exchanged event ∷ earlier) = feed_history earlier
 feed_history (Reopened ∷ earlier) = feed_history earlier
 
--- a request asked for the release since the node was opened
-abbrev pub WasAsked : Name → List NodeEvent → Type 0
-WasAsked n [] = ⊥
-WasAsked n (Accepted key ∷ earlier) = WasAsked n earlier
-WasAsked n (Served key share ∷ earlier) = WasAsked n earlier
-WasAsked n (Passed millis ∷ earlier) = WasAsked n earlier
-WasAsked n (DayBegan today ∷ earlier) = WasAsked n earlier
-WasAsked n (Asked key bytes name ∷ earlier) = (name ≡ n) ⊎ WasAsked n earlier
-WasAsked n (Took name phase reply steps ∷ earlier) = WasAsked n earlier
-WasAsked n (TookPart name first size bytes answer ∷ earlier) = WasAsked n earlier
-WasAsked n (Exchanged event ∷ earlier) = WasAsked n earlier
-WasAsked n (Reopened ∷ earlier) = ⊥
+-- what the last request asked for, if its fetch did not begin since
+abbrev pub requested_in : List NodeEvent → Option (Result Name NameFault)
+requested_in [] = None
+requested_in (Accepted key ∷ earlier) = requested_in earlier
+requested_in (Served key share ∷ earlier) = requested_in earlier
+requested_in (Passed millis ∷ earlier) = requested_in earlier
+requested_in (DayBegan today ∷ earlier) = requested_in earlier
+requested_in (Asked key bytes asked ∷ earlier) = Some asked
+requested_in (Began asked ∷ earlier) = None
+requested_in (Finished ∷ earlier) = requested_in earlier
+requested_in (Took name phase reply steps ∷ earlier) = requested_in earlier
+requested_in (TookPart name first size bytes answer ∷ earlier) = requested_in earlier
+requested_in (Exchanged event ∷ earlier) = requested_in earlier
+requested_in (Reopened ∷ earlier) = None
+
+-- the release, unless the name is invalid
+abbrev pub name_in : Result Name NameFault → Option Name
+name_in (Ok name) = Some name
+name_in (Err fault) = None
+
+-- the release that is fetched
+abbrev pub fetching_in : List NodeEvent → Option Name
+fetching_in [] = None
+fetching_in (Accepted key ∷ earlier) = fetching_in earlier
+fetching_in (Served key share ∷ earlier) = fetching_in earlier
+fetching_in (Passed millis ∷ earlier) = fetching_in earlier
+fetching_in (DayBegan today ∷ earlier) = fetching_in earlier
+fetching_in (Asked key bytes asked ∷ earlier) = fetching_in earlier
+fetching_in (Began asked ∷ earlier) = name_in asked
+fetching_in (Finished ∷ earlier) = None
+fetching_in (Took name phase reply steps ∷ earlier) = fetching_in earlier
+fetching_in (TookPart name first size bytes answer ∷ earlier) = fetching_in earlier
+fetching_in (Exchanged event ∷ earlier) = fetching_in earlier
+fetching_in (Reopened ∷ earlier) = None
+
+-- a fetch is under way, or was requested
+abbrev pub busy_in : List NodeEvent → Bool
+busy_in history = is_some (fetching_in history) || is_some (requested_in history)
 
 -- the history was this one at some moment
 abbrev pub IsMoment : List NodeEvent → List NodeEvent → Type 0
@@ -80,7 +114,9 @@ today_in (Accepted key ∷ earlier) = today_in earlier
 today_in (Served key share ∷ earlier) = today_in earlier
 today_in (Passed millis ∷ earlier) = today_in earlier
 today_in (DayBegan today ∷ earlier) = Some today
-today_in (Asked key bytes name ∷ earlier) = today_in earlier
+today_in (Asked key bytes asked ∷ earlier) = today_in earlier
+today_in (Began asked ∷ earlier) = today_in earlier
+today_in (Finished ∷ earlier) = today_in earlier
 today_in (Took name phase reply steps ∷ earlier) = today_in earlier
 today_in (TookPart name first size bytes answer ∷ earlier) = today_in earlier
 today_in (Exchanged event ∷ earlier) = today_in earlier
@@ -93,7 +129,9 @@ exchange_in (Accepted key ∷ earlier) = exchange_in earlier
 exchange_in (Served key share ∷ earlier) = exchange_in earlier
 exchange_in (Passed millis ∷ earlier) = exchange_in earlier
 exchange_in (DayBegan today ∷ earlier) = exchange_in earlier
-exchange_in (Asked key bytes name ∷ earlier) = exchange_in earlier
+exchange_in (Asked key bytes asked ∷ earlier) = exchange_in earlier
+exchange_in (Began asked ∷ earlier) = exchange_in earlier
+exchange_in (Finished ∷ earlier) = exchange_in earlier
 exchange_in (Took name phase reply steps ∷ earlier) = exchange_in earlier
 exchange_in (TookPart name first size bytes answer ∷ earlier) = exchange_in earlier
 exchange_in (Exchanged event ∷ earlier) = exchange_with event (exchange_in earlier)
@@ -110,7 +148,9 @@ given_in (Accepted key ∷ earlier) = given_in earlier
 given_in (Served key share ∷ earlier) = given_in earlier
 given_in (Passed millis ∷ earlier) = given_in earlier
 given_in (DayBegan today ∷ earlier) = given_in earlier
-given_in (Asked key bytes name ∷ earlier) = given_in earlier
+given_in (Asked key bytes asked ∷ earlier) = given_in earlier
+given_in (Began asked ∷ earlier) = given_in earlier
+given_in (Finished ∷ earlier) = given_in earlier
 given_in (Took name phase reply steps ∷ earlier) = given_in earlier
 given_in (TookPart name first size bytes answer ∷ earlier) = given_in earlier ++ bytes
 given_in (Exchanged event ∷ earlier) = given_after event (given_in earlier)

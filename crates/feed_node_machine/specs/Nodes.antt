@@ -1,7 +1,8 @@
 -- The node after a history.
-use Rattle.std.specs.Prelude.{◌≡◌, ◌⊎◌, ◌∷◌, ◌++◌, ℕ, Bool, List, Option, None, Some, Ok, Result, option_copied}
+use Rattle.std.specs.Prelude.{◌≡◌, ◌⊎◌, ◌∷◌, ◌++◌, ℕ, Bool, List, Option, None, Some, Result, option_copied}
 use Rattle.httparse.specs.Grammar.{RequestHead}
 use Rattle.feed_names.specs.ReleaseName.{Name}
+use Rattle.feed_names.specs.declared.name_fault.NameFault.{NameFault}
 use Rattle.feed_keep.specs.declared.keep.Keep.{Ghosts}
 use Rattle.feed_model.specs.History.{History, Answer}
 use Rattle.feed_model.specs.Content.{IsContent}
@@ -18,16 +19,22 @@ use Rattle.feed_node_machine.specs.declared.machine.NodeMachine.{NodeMachine}
 use Rattle.feed_fetch.specs.declared.machine.Request.{Request}
 use Rattle.feed_node_machine.specs.declared.exchange.Exchange.{Exchange}
 use Rattle.feed_node_machine.specs.Exchanges.{ExchangeEvent, Requested, IsExchangeOf, reply_of, part_of}
-use Rattle.feed_node_machine.specs.NodeEvents.{NodeEvent, Served, Asked, Took, TookPart, Exchanged, events_of, feed_history, today_in, exchange_in, given_in, WasAsked}
+use Rattle.feed_node_machine.specs.NodeEvents.{NodeEvent, Served, Asked, Began, Finished, Took, TookPart, Exchanged}
+use Rattle.feed_node_machine.specs.NodeEvents.{events_of, feed_history, today_in, exchange_in, given_in, requested_in, fetching_in}
 use Rattle.feed_node_machine.specs.Rules.{Rules, Terms, AreAllowed, AreGiven}
 
 -- each connection of the table has the state that the events under its key determine
 abbrev pub AreAt : {T : Type 0} → Table T → List NodeEvent → Type 0
 AreAt {T} table history = (key : ℕ) (peer : Peer T) → peer_at table key ≡ Some peer → HasState peer.connection (events_of key history)
 
--- a request asked for the release that is fetched, and the exchange has these events
+-- the fetch of this release began last, and the exchange has these events
 abbrev pub IsFetching : Fetching → List NodeEvent → Type 0
-IsFetching fetching history = WasAsked fetching.name history × IsExchangeOf fetching.exchange fetching.name (exchange_in history) (given_in history)
+IsFetching fetching history = (fetching_in history ≡ Some fetching.name) × IsExchangeOf fetching.exchange fetching.name (exchange_in history) (given_in history)
+
+-- the release of the fetch that is under way
+abbrev pub release_of : Option Fetching → Option Name
+release_of None = None
+release_of (Some fetching) = Some fetching.name
 
 -- the exchange of the fetch that is under way
 abbrev pub exchange_of : Option Fetching → Option Exchange
@@ -55,13 +62,15 @@ module _ {T K S : Type 0} {k : Ghosts K} (wanted : S → RequestHead → ℕ)
   rules_of node = (wanted node.responder, replies node.responder)
 
   -- the node has this history: each connection has the state that its events determine, the feed holds what its events gave
-  -- it, a request asked for the release that it fetches or is to fetch, its exchange with the knowledge base has the events
-  -- of the last one, the day is the one that began last, and each event was allowed
+  -- it, it fetches the release whose fetch began last and did not end, or none, and is to fetch the one that was requested
+  -- since, its exchange with the knowledge base has the events of the last one, the day is the one that began last, and each
+  -- event was allowed
   pub record HasHistory (node : NodeMachine T K S k) (history : List NodeEvent) : Type 0 where
     pub connections : AreAt node.table history
     pub feed : IsContent (recorded node.feed) (feed_history history)
     pub fetching : (fetching : Fetching) → node.fetching ≡ Some fetching → IsFetching fetching history
-    pub requested : (name : Name) → node.requested ≡ Some (Ok name) → WasAsked name history
+    pub idle : node.fetching ≡ None → fetching_in history ≡ None
+    pub requested : requested_in history ≡ node.requested
     pub today : today_in history ≡ Some node.today
     pub allowed : AreAllowed (rules_of node) (option_copied node.token) history
     pub given : AreGiven history
@@ -72,7 +81,7 @@ module _ {T K S : Type 0} {k : Ghosts K} (wanted : S → RequestHead → ℕ)
 
   -- the node has this history, and the request of the connection with this key may have asked for a release
   abbrev pub HasAsked : ℕ → NodeMachine T K S k → List NodeEvent → Type 0
-  HasAsked key node history = HasHistory node history ⊎ ((bytes : List ℕ) × (name : Name) × HasHistory node (Asked key bytes name ∷ history))
+  HasAsked key node history = HasHistory node history ⊎ ((bytes : List ℕ) × (asked : Result Name NameFault) × HasHistory node (Asked key bytes asked ∷ history))
 
   -- both, in this order
   abbrev pub HasAdvanced : ℕ → NodeMachine T K S k → List NodeEvent → Type 0
@@ -90,6 +99,14 @@ module _ {T K S : Type 0} {k : Ghosts K} (wanted : S → RequestHead → ℕ)
   HasTakenPart old new history =
       (fetching : Fetching) (first size : ℕ) (bytes : List ℕ) → old.fetching ≡ Some fetching → part_of fetching.exchange ≡ Some (first, size, bytes)
       → (answer : Answer) × HasHistory new (TookPart fetching.name first size bytes answer ∷ history)
+
+  -- the fetch that was requested began, or was refused for its name
+  abbrev pub HasBegun : NodeMachine T K S k → NodeMachine T K S k → Type 0
+  HasBegun old new = (asked : Result Name NameFault) (history : List NodeEvent) → old.requested ≡ Some asked → HasHistory old history → HasHistory new (Began asked ∷ history)
+
+  -- the fetch that was under way ended
+  abbrev pub HasFinished : NodeMachine T K S k → NodeMachine T K S k → Type 0
+  HasFinished old new = (fetching : Fetching) (history : List NodeEvent) → old.fetching ≡ Some fetching → HasHistory old history → HasHistory new (Finished ∷ history)
 
   -- there was this event on the connection to the knowledge base
   abbrev pub HasExchanged : ExchangeEvent → NodeMachine T K S k → NodeMachine T K S k → Type 0

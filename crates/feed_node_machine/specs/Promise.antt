@@ -1,8 +1,9 @@
 -- The promise of a node that runs.
-use Rattle.std.specs.Prelude.{◌≡◌, ◌≤ℤ◌, ℕ, Bool, List, [], ◌∷◌, ◌++◌, length, slice_get, Option, Some, IfSome, Result, Ok, option_copied}
+use Rattle.std.specs.Prelude.{◌≡◌, ◌≤ℤ◌, ℕ, Bool, false, List, [], ◌∷◌, ◌++◌, length, slice_get, Option, Some, None, IfSome, IsSome, Result, Ok, option_copied}
 use Rattle.httparse.specs.Grammar.{RequestHead}
 use Rattle.feed_embargo.specs.Today.{TodayValue}
 use Rattle.feed_names.specs.ReleaseName.{Name}
+use Rattle.feed_names.specs.declared.name_fault.NameFault.{NameFault}
 use Rattle.feed_keep.specs.declared.keep.Keep.{Ghosts}
 use Rattle.feed_model.specs.History.{History, Answer, IsFile, Reports, byte_at}
 use Rattle.feed_model.specs.Reply.{IsLegal}
@@ -15,34 +16,34 @@ use Rattle.feed_node_connection.specs.Replies.{Replies, IsServed}
 use Rattle.feed_node_connection.specs.Streams.{AreReplies}
 use Rattle.feed_node_machine.specs.declared.machine.NodeMachine.{NodeMachine}
 use Rattle.feed_node_machine.specs.Exchanges.{ExchangeEvent, HasReply, HasArrivedPart, Reads}
-use Rattle.feed_node_machine.specs.NodeEvents.{NodeEvent, Accepted, Served, Passed, DayBegan, Asked, Took, TookPart, Exchanged, Reopened}
-use Rattle.feed_node_machine.specs.NodeEvents.{events_of, feed_history, today_in, exchange_in, IsMoment}
+use Rattle.feed_node_machine.specs.NodeEvents.{NodeEvent, Accepted, Served, Passed, DayBegan, Asked, Began, Finished, Took, TookPart, Exchanged, Reopened}
+use Rattle.feed_node_machine.specs.NodeEvents.{events_of, feed_history, today_in, exchange_in, requested_in, fetching_in, busy_in, IsMoment}
 use Rattle.feed_node_machine.specs.Rules.{Rules, Terms, replies_at, terms_with, IsAskedBy, AreGiven}
 use Rattle.feed_node_machine.specs.Nodes.{HasHistory, rules_of}
 
 -- in a share of a turn that the connection with this key had, the responder had this reply to the feed as it was then, on that
--- day
+-- day, and for a busy node exactly if a fetch was under way or requested
 pub record IsMadeFor (rules : Rules) (token : Option (List ℕ)) (key : ℕ) (history : List NodeEvent) (head body : List ℕ) (keeps : Bool)
     (reply : Option (List ℕ)) : Type 0 where
   pub share : List Event
   pub earlier : List NodeEvent
   pub moment : IsMoment (Served key share ∷ earlier) history
-  pub is_busy : Bool
   pub is_local : Bool
   pub today : TodayValue
   pub day : today_in earlier ≡ Some today
-  pub made : IfSome reply (rules.1 (terms_with token is_busy is_local today) (feed_history earlier) head body keeps)
+  pub made : IfSome reply (rules.1 (terms_with token (busy_in earlier) is_local today) (feed_history earlier) head body keeps)
 
 -- the replies of all these shares
 abbrev pub replies_in : Rules → Option (List ℕ) → ℕ → List NodeEvent → Replies
 replies_in rules token key history = (rules.0, IsMadeFor rules token key history)
 
--- each reply in the last share of a turn is one of the responder to the feed as it was then, on that day
+-- each reply in the last share of a turn is one of the responder to the feed as it was then, on that day, and for a busy node
+-- exactly if a fetch was under way or requested
 abbrev pub AreOfTheMoment : Rules → Option (List ℕ) → List NodeEvent → Type 0
 AreOfTheMoment rules token history =
     (key : ℕ) (share : List Event) (earlier : List NodeEvent) → history ≡ Served key share ∷ earlier
-    → (is_busy : Bool) × (is_local : Bool) × (today : TodayValue) × (today_in earlier ≡ Some today)
-    × AreReplies (replies_at rules (terms_with token is_busy is_local today) (feed_history earlier)) share
+    → (is_local : Bool) × (today : TodayValue) × (today_in earlier ≡ Some today)
+    × AreReplies (replies_at rules (terms_with token (busy_in earlier) is_local today) (feed_history earlier)) share
 
 -- a report of a package names no older release than one at an earlier moment, in this run or before
 abbrev pub NeverOlder : List NodeEvent → Type 0
@@ -56,20 +57,29 @@ pub record IsAuthorized (token : Option (List ℕ)) (name : Name) (history : Lis
   pub key : ℕ
   pub bytes : List ℕ
   pub earlier : List NodeEvent
-  pub moment : IsMoment (Asked key bytes name ∷ earlier) history
-  pub asked : IsAskedBy token (events_of key earlier) bytes name
+  pub moment : IsMoment (Asked key bytes (Ok name) ∷ earlier) history
+  pub asked : IsAskedBy token (events_of key earlier) bytes (Ok name)
 
--- the feed changes only as a release is fetched that such a request asked for
+-- the feed changes only by the fetch of a release that is under way, and that such a request asked for
 pub record ChangesByToken (token : Option (List ℕ)) (history : List NodeEvent) : Type 0 where
   pub reply : (name : Name) (phase : Phase) (reply : Result Got RequestFault) (steps : History) (earlier : List NodeEvent)
-      → history ≡ Took name phase reply steps ∷ earlier → IsAuthorized token name earlier
+      → history ≡ Took name phase reply steps ∷ earlier → (fetching_in earlier ≡ Some name) × IsAuthorized token name earlier
   pub part : (name : Name) (first size : ℕ) (bytes : List ℕ) (answer : Answer) (earlier : List NodeEvent)
-      → history ≡ TookPart name first size bytes answer ∷ earlier → IsAuthorized token name earlier
+      → history ≡ TookPart name first size bytes answer ∷ earlier → (fetching_in earlier ≡ Some name) × IsAuthorized token name earlier
+
+-- fetches are one at a time: a request is noted only if no fetch is under way or requested; a fetch begins only if it was
+-- requested and none is under way; and it ends only if it is under way
+pub record FetchesInTurn (history : List NodeEvent) : Type 0 where
+  pub asked : (key : ℕ) (bytes : List ℕ) (asked : Result Name NameFault) (earlier : List NodeEvent) → history ≡ Asked key bytes asked ∷ earlier → busy_in earlier ≡ false
+  pub began : (asked : Result Name NameFault) (earlier : List NodeEvent)
+      → history ≡ Began asked ∷ earlier → (requested_in earlier ≡ Some asked) × (fetching_in earlier ≡ None)
+  pub finished : (earlier : List NodeEvent) → history ≡ Finished ∷ earlier → IsSome (fetching_in earlier)
 
 -- the promise, of a node whose responder has these rules and that has this token: on each connection the bytes sent are the
 -- beginning of the replies, in order, to the requests in the bytes received; each reply is one of the responder to the feed
--- as it was when the reply was made, on that day; the feed has a legal history, of nothing but what the replies of the knowledge
--- base gave; it reports no older release than before; and only requests that have the token change it
+-- as it was when the reply was made, on that day, and for a busy node exactly if a fetch was under way or requested; the feed has
+-- a legal history, of exactly the events that a fetch owes for the replies of the knowledge base; it reports no older release
+-- than before; only requests that have the token change it; and fetches are one at a time
 pub record IsRightNode (rules : Rules) (token : Option (List ℕ)) (history : List NodeEvent) : Type 0 where
   pub served : (key : ℕ) → IsServed (replies_in rules token key history) (received_bytes (events_of key history)) (sent_bytes (events_of key history))
   pub moment : AreOfTheMoment rules token history
@@ -77,6 +87,7 @@ pub record IsRightNode (rules : Rules) (token : Option (List ℕ)) (history : Li
   pub given : AreGiven history
   pub later : NeverOlder history
   pub authorized : ChangesByToken token history
+  pub in_turn : FetchesInTurn history
 
 module _ {T K S : Type 0} {k : Ghosts K} (wanted : S → RequestHead → ℕ)
     (replies : S → Terms → History → List ℕ → List ℕ → Bool → List ℕ → Type 0) where
@@ -115,7 +126,9 @@ AreOfFiles file (Accepted key ∷ earlier) = AreOfFiles file earlier
 AreOfFiles file (Served key share ∷ earlier) = AreOfFiles file earlier
 AreOfFiles file (Passed millis ∷ earlier) = AreOfFiles file earlier
 AreOfFiles file (DayBegan today ∷ earlier) = AreOfFiles file earlier
-AreOfFiles file (Asked key bytes name ∷ earlier) = AreOfFiles file earlier
+AreOfFiles file (Asked key bytes asked ∷ earlier) = AreOfFiles file earlier
+AreOfFiles file (Began asked ∷ earlier) = AreOfFiles file earlier
+AreOfFiles file (Finished ∷ earlier) = AreOfFiles file earlier
 AreOfFiles file (Took name phase reply steps ∷ earlier) = IsServedFrom (file name) (exchange_in earlier) × AreOfFiles file earlier
 AreOfFiles file (TookPart name first size bytes answer ∷ earlier) = IsServedFrom (file name) (exchange_in earlier) × AreOfFiles file earlier
 AreOfFiles file (Exchanged event ∷ earlier) = AreOfFiles file earlier

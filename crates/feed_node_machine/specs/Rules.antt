@@ -1,8 +1,9 @@
 -- The events that a node may have.
-use Rattle.std.specs.Prelude.{◌≡◌, ℕ, Bool, false, List, [], ◌∷◌, ◌++◌, Option, Some, IfSome, Ok}
+use Rattle.std.specs.Prelude.{◌≡◌, ℕ, Bool, false, List, [], ◌∷◌, ◌++◌, Option, Some, None, IfSome, IsSome, Result}
 use Rattle.httparse.specs.Grammar.{RequestHead}
 use Rattle.feed_embargo.specs.Today.{TodayValue}
 use Rattle.feed_names.specs.ReleaseName.{Name}
+use Rattle.feed_names.specs.declared.name_fault.NameFault.{NameFault}
 use Rattle.feed_model.specs.History.{History}
 use Rattle.feed_fetch.specs.Owed.{AreOwed}
 use Rattle.feed_resolver_request.specs.FetchRequests.{FetchPolicyValue, IsFetchBy}
@@ -13,8 +14,8 @@ use Rattle.feed_node_connection.specs.Replies.{Replies}
 use Rattle.feed_node_connection.specs.States.{HasState}
 use Rattle.feed_node_connection.specs.Streams.{AreReplies}
 use Rattle.feed_node_machine.specs.Exchanges.{ExchangeEvent, Requested, IsOwed, HasReply, HasArrivedPart, name_of}
-use Rattle.feed_node_machine.specs.NodeEvents.{NodeEvent, Accepted, Served, Passed, DayBegan, Asked, Took, TookPart, Exchanged, Reopened}
-use Rattle.feed_node_machine.specs.NodeEvents.{events_of, feed_history, today_in, exchange_in, WasAsked}
+use Rattle.feed_node_machine.specs.NodeEvents.{NodeEvent, Accepted, Served, Passed, DayBegan, Asked, Began, Finished, Took, TookPart, Exchanged, Reopened}
+use Rattle.feed_node_machine.specs.NodeEvents.{events_of, feed_history, today_in, exchange_in, requested_in, fetching_in, busy_in}
 
 -- the circumstances of a reply beside the feed: who may make the node fetch, whether the client is on the same machine, and
 -- the day
@@ -37,39 +38,43 @@ abbrev pub terms_with : Option (List ℕ) → Bool → Bool → TodayValue → T
 terms_with token is_busy is_local today = record { policy = record { token = token; is_busy = is_busy }; is_local = is_local; today = today }
 
 -- a share of a turn is right for the connection with this key: with it, its events are those of some connection; and each
--- reply that was made in it is one to its request, of a feed that has the history of this moment, on the day that it is
+-- reply that was made in it is one to its request, of a feed that has the history of this moment, on the day that it is, from
+-- a node that is busy exactly if a fetch is under way or was requested
 pub record IsShare (rules : Rules) (token : Option (List ℕ)) (key : ℕ) (share : List Event) (earlier : List NodeEvent) : Type 0 where
   pub connection : Connection
   pub state : HasState connection (share ++ events_of key earlier)
-  pub is_busy : Bool
   pub is_local : Bool
   pub today : TodayValue
   pub day : today_in earlier ≡ Some today
-  pub replied : AreReplies (replies_at rules (terms_with token is_busy is_local today) (feed_history earlier)) share
+  pub replied : AreReplies (replies_at rules (terms_with token (busy_in earlier) is_local today) (feed_history earlier)) share
 
 -- the bytes received on a connection with these events begin with the requests that had a reply; the last request that had
--- one has the token and asks for this release
-pub record IsAskedBy (token : Option (List ℕ)) (events : List Event) (bytes : List ℕ) (name : Name) : Type 0 where
+-- one has the token and asks for this release, or has an invalid name
+pub record IsAskedBy (token : Option (List ℕ)) (events : List Event) (bytes : List ℕ) (asked : Result Name NameFault) : Type 0 where
   pub rest : List ℕ
   pub in_order : AreRequestsIn (received_bytes events) (requests_in events) rest
   pub last : IsLastOf (requests_in events) bytes
-  pub asks : IsFetchBy false token bytes (Some (Ok name))
+  pub asks : IsFetchBy false token bytes (Some asked)
 
--- a request asked for the release that the node requests from the knowledge base
+-- the node requests the release that it fetches
 abbrev pub MayExchange : ExchangeEvent → List NodeEvent → Type 0
-MayExchange (Requested name piece phase front request) earlier = WasAsked name earlier
+MayExchange (Requested name piece phase front request) earlier = fetching_in earlier ≡ Some name
 MayExchange event earlier = Unit {0}
 
--- each event since the node was opened may follow those before it; an earlier run may have had another responder or token
+-- each event since the node was opened may follow those before it; an earlier run may have had another responder or token. A
+-- request is noted only while no fetch is under way or requested, and only the fetch that was requested begins
 abbrev pub AreAllowed : Rules → Option (List ℕ) → List NodeEvent → Type 0
 AreAllowed rules token [] = Unit {0}
 AreAllowed rules token (Accepted key ∷ earlier) = AreAllowed rules token earlier
 AreAllowed rules token (Served key share ∷ earlier) = IsShare rules token key share earlier × AreAllowed rules token earlier
 AreAllowed rules token (Passed millis ∷ earlier) = AreAllowed rules token earlier
 AreAllowed rules token (DayBegan today ∷ earlier) = AreAllowed rules token earlier
-AreAllowed rules token (Asked key bytes name ∷ earlier) = IsAskedBy token (events_of key earlier) bytes name × AreAllowed rules token earlier
-AreAllowed rules token (Took name phase reply steps ∷ earlier) = WasAsked name earlier × AreAllowed rules token earlier
-AreAllowed rules token (TookPart name first size bytes answer ∷ earlier) = WasAsked name earlier × AreAllowed rules token earlier
+AreAllowed rules token (Asked key bytes asked ∷ earlier) =
+    IsAskedBy token (events_of key earlier) bytes asked × (busy_in earlier ≡ false) × AreAllowed rules token earlier
+AreAllowed rules token (Began asked ∷ earlier) = (requested_in earlier ≡ Some asked) × (fetching_in earlier ≡ None) × AreAllowed rules token earlier
+AreAllowed rules token (Finished ∷ earlier) = IsSome (fetching_in earlier) × AreAllowed rules token earlier
+AreAllowed rules token (Took name phase reply steps ∷ earlier) = (fetching_in earlier ≡ Some name) × AreAllowed rules token earlier
+AreAllowed rules token (TookPart name first size bytes answer ∷ earlier) = (fetching_in earlier ≡ Some name) × AreAllowed rules token earlier
 AreAllowed rules token (Exchanged event ∷ earlier) = MayExchange event earlier × AreAllowed rules token earlier
 AreAllowed rules token (Reopened ∷ earlier) = Unit {0}
 
@@ -87,7 +92,9 @@ AreGiven (Accepted key ∷ earlier) = AreGiven earlier
 AreGiven (Served key share ∷ earlier) = AreGiven earlier
 AreGiven (Passed millis ∷ earlier) = AreGiven earlier
 AreGiven (DayBegan today ∷ earlier) = AreGiven earlier
-AreGiven (Asked key bytes name ∷ earlier) = AreGiven earlier
+AreGiven (Asked key bytes asked ∷ earlier) = AreGiven earlier
+AreGiven (Began asked ∷ earlier) = AreGiven earlier
+AreGiven (Finished ∷ earlier) = AreGiven earlier
 AreGiven (Took name phase reply steps ∷ earlier) =
     AreOwed name phase reply steps × (name_of (exchange_in earlier) ≡ Some name) × HasReply (exchange_in earlier) reply
     × AreGiven earlier

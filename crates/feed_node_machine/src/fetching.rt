@@ -15,8 +15,8 @@ ghost use Rattle.feed_node_machine.specs.Exchanges.{HasArrived, HasArrivedPart};
 ghost use Rattle.feed_node_machine.specs.Exchanges.{is_arriving, method_of, part_of, reply_of, request_for};
 ghost use Rattle.feed_node_machine.specs.NodeEvents.{NodeEvent, feed_history};
 ghost use Rattle.feed_node_machine.specs.Rules.{AreGiven};
-ghost use Rattle.feed_node_machine.specs.Nodes.{HasExchanged, HasHistory, HasRequested, HasTaken, HasTakenPart};
-ghost use Rattle.feed_node_machine.specs.Nodes.{IsLater, KeepsHistory, exchange_of};
+ghost use Rattle.feed_node_machine.specs.Nodes.{HasBegun, HasExchanged, HasFinished, HasHistory, HasRequested};
+ghost use Rattle.feed_node_machine.specs.Nodes.{HasTaken, HasTakenPart, IsLater, KeepsHistory, exchange_of, release_of};
 
 use crate::exchange::{Arrival, Exchange};
 use crate::machine::NodeMachine;
@@ -232,7 +232,8 @@ impl<'a, T: Stream, K: Keep, S: FeedRespond + Drop> NodeMachine<'a, T, K, S> {
     pub fn begin_fetch(&mut self, piece: u64) -> Option<Result<(), NameFault>>
         requires least { 1 ≤ piece }
         requires most { piece ≤ piece_limit }
-        ensures history { KeepsHistory S.wanted S.replies self.old self.new }
+        ensures begun { HasBegun S.wanted S.replies self.old self.new }
+        ensures kept { self.old.requested ≡ None → self.new ≡ self.old }
         ensures later { IsLater S.wanted S.replies self.old self.new }
     {
         match self.requested.take()? {
@@ -251,7 +252,9 @@ impl<'a, T: Stream, K: Keep, S: FeedRespond + Drop> NodeMachine<'a, T, K, S> {
 
     /// Ends the fetch that is under way. Returns the release.
     pub fn end_fetch(&mut self) -> Option<ReleaseName>
-        ensures history { KeepsHistory S.wanted S.replies self.old self.new }
+        ensures ended { result ≡ release_of self.old.fetching }
+        ensures finished { HasFinished S.wanted S.replies self.old self.new }
+        ensures kept { self.old.fetching ≡ None → self.new ≡ self.old }
         ensures later { IsLater S.wanted S.replies self.old self.new }
     {
         let fetching = self.fetching.take()?;

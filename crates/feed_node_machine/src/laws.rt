@@ -7,9 +7,10 @@ use feed_keep::Keep;
 use feed_node_table::Stream;
 
 /// On each connection of a node the bytes sent are the beginning of the replies, in order, to the requests received.
-/// Each reply is one of the responder to the feed as it was when the reply was made. The feed has nothing but what the
-/// replies of the knowledge base gave it; it changes only for requests that have the token; and it never reports
-/// an older release, over any number of stops.
+/// Each reply is one of the responder to the feed as it was when the reply was made, and of a busy node exactly if a
+/// fetch was under way or requested. The feed has nothing but what the replies of the knowledge base gave it. It
+/// changes only for requests that have the token, by one fetch at a time; and it never reports an older release, over
+/// any number of stops.
 pub fn node_is_right<T: Stream, K: Keep, S: FeedRespond + Drop>(_node: &NodeMachine<'_, T, K, S>)
     ensures { NodeIsRight S.wanted S.replies _node.now }
 {}

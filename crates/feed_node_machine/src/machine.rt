@@ -1,5 +1,6 @@
 //! The node as a value, and its connections.
 ghost use Rattle.std.specs.Prelude.{◌≡◌, ◌<◌, ◌≤◌, ◌+◌, ◌⊎◌, ◌∷◌, ℕ, true, List, None, IfSome, IsSome, IsSomeAnd};
+ghost use Rattle.std.specs.Prelude.{option_copied};
 ghost use Rattle.feed_node_turns.specs.Queues.{MayServe};
 ghost use Rattle.feed_node_turns.specs.Turns.{behind_keys, fresh_keys, IsFromBehind, IsFromFresh, IsTaken};
 ghost use Rattle.feed_model.specs.Content.{IsContent};
@@ -51,8 +52,9 @@ impl<'a, T: Stream, K: Keep, S: FeedRespond + Drop> NodeMachine<'a, T, K, S> {
         today: Today,
     ) -> NodeMachine<'a, T, K, S>
         requires { size_of table ≡ 0 }
-        ensures { (history : List NodeEvent) → IsContent (recorded feed) (feed_history history) → AreGiven history
-            → HasHistory S.wanted S.replies result (DayBegan today ∷ Reopened ∷ history) }
+        ensures history { (history : List NodeEvent) → IsContent (recorded feed) (feed_history history)
+            → AreGiven history → HasHistory S.wanted S.replies result (DayBegan today ∷ Reopened ∷ history) }
+        ensures token { option_copied result.token ≡ option_copied token.entry }
     {
         NodeMachine {
             alloc,

@@ -1,5 +1,5 @@
 //! A share of a turn: a connection receives, replies and sends.
-ghost use Rattle.std.specs.Prelude.{◌≡◌, ◌≤◌, List, option_copied};
+ghost use Rattle.std.specs.Prelude.{◌≡◌, ◌≤◌, ◌||◌, List, is_some, option_copied};
 ghost use Rattle.feed_node_machine.specs.NodeEvents.{NodeEvent};
 ghost use Rattle.feed_node_machine.specs.Nodes.{table_of, HasHistory, HasServed, HasAsked, HasAdvanced, IsLater};
 ghost use Rattle.feed_node_machine.specs.Nodes.{KeepsRest};
@@ -16,7 +16,8 @@ use feed_resolver_request::{FetchPolicy, fetch_to_begin};
 impl<'a, T: Stream, K: Keep, S: FeedRespond + Drop> NodeMachine<'a, T, K, S> {
     // Returns who may make the node fetch now: a fetch that was requested excludes another one, too.
     fn policy(&self) -> FetchPolicy<'a>
-        ensures { result.token ≡ option_copied self.now.token }
+        ensures token { result.token ≡ option_copied self.now.token }
+        ensures busy { result.is_busy ≡ (is_some self.now.fetching || is_some self.now.requested) }
     {
         FetchPolicy {
             token: self.token,

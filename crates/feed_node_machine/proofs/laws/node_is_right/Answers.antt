@@ -1,5 +1,6 @@
 use Rattle.std.specs.Prelude.{option_copied}
 use Rattle.feed_node_machine.specs.Nodes.{rules_of}
+use Rattle.feed_node_machine.proofs.Busy.{in_turn}
 use Rattle.feed_node_machine.proofs.Feeds.{never_older}
 use Rattle.feed_node_machine.proofs.Moments.{changes_by_token, of_the_moment}
 use Rattle.feed_node_machine.proofs.Replies.{all_served_in}
@@ -17,4 +18,5 @@ returns g c = λ history has.
       given = has.given;
       later = never_older history has.feed.legal;
       authorized = changes_by_token rules token history has.allowed;
+      in_turn = in_turn rules token history has.allowed;
     }

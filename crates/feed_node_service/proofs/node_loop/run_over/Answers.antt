@@ -14,7 +14,7 @@ pub returns : goal.returns
 returns g c = λ history is given clean.
     let opened = DayBegan c.today.result ∷ Reopened ∷ [] in
     let start = subst (λ (node : NodeMachine Socket g.row.K.Denot FeedResponder g.K.Keep). HasHistory (λ responder head. form_length head) IsTurnText node (opened ++ history))
-    (sym c.keep_releases.ensures) (c.new-node.ensures history is given) in
+    (sym c.keep_releases.ensures) (c.new-node.ensures.history history is given) in
     let now = c.run-end.ensures.history (opened ++ history) start in
     let kept = subst (λ (whole : List NodeEvent). IsContent (g.K.Keep.content c.into_keeper.result) (feed_history whole) × AreGiven whole) (sym (append_assoc now.0 opened history))
     (c.into_keeper.ensures (now.0 ++ (opened ++ history)) now.1 clean) in

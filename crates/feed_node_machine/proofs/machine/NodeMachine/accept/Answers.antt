@@ -11,6 +11,7 @@ returns-clause-history g c = λ history was.
           c.insert-key.ensures.fresh has.connections;
       feed = has.feed;
       fetching = has.fetching;
+      idle = has.idle;
       requested = has.requested;
       today = has.today;
       allowed = has.allowed;

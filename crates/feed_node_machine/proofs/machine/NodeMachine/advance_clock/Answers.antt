@@ -10,6 +10,7 @@ returns-clause-history g c = λ history has. (
     connections = at_passed c.args.now c.args.self.now.table c.advance_clock.new.self history c.advance_clock.ensures.elapsed has.connections;
     feed = has.feed;
     fetching = has.fetching;
+    idle = has.idle;
     requested = has.requested;
     today = has.today;
     allowed = has.allowed;

@@ -8,6 +8,7 @@ returns-clause-later g c = later_by g.S.FeedRespond.wanted g.S.FeedRespond.repli
   connections = has.connections;
   feed = has.feed;
   fetching = has.fetching;
+  idle = has.idle;
   requested = has.requested;
   today = refl;
   allowed = has.allowed;

@@ -11,6 +11,7 @@ returns-clause-history g c = λ history has. record {
   connections = has.connections;
   feed = subst (λ (rs : List ReleaseValue). IsContent (content_of rs) (feed_history history)) (sym c.catch_up.ensures.releases) has.feed;
   fetching = has.fetching;
+  idle = has.idle;
   requested = has.requested;
   today = has.today;
   allowed = has.allowed;

@@ -3,12 +3,13 @@ use Rattle.feed_node_machine.specs.NodeEvents.{DayBegan, Reopened}
 use Rattle.feed_node_machine.proofs.Connections.{at_empty}
 use Rattle.feed_node_machine.proofs.machine.NodeMachine.new.Goals as goal
 
-pub returns : goal.returns
-returns g c = λ history is given. record {
+pub returns-clause-history : goal.returns-clause-history
+returns-clause-history g c = λ history is given. record {
   connections = at_empty c.args.table (DayBegan c.args.today ∷ Reopened ∷ history) c.requires;
   feed = is;
   fetching = λ fetching e. absurd (cc);
-  requested = λ name e. absurd (cc);
+  idle = λ e. refl;
+  requested = refl;
   today = refl;
   allowed = tt;
   given = given;

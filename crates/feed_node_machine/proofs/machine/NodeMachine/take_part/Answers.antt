@@ -1,7 +1,9 @@
-use Rattle.std.proofs.Common.{rules, ◌≡◌, Some, refl, sym, subst, ◌∙◌, ap}
+use Rattle.std.proofs.Common.{rules, ◌≡◌, ℕ, List, None, Option, Some, refl, sym, subst, ◌∙◌, ap}
 use Rattle.feed_node_machine.specs.declared.exchange.Exchange.TheVariants.{Arriving}
 use Rattle.feed_node_machine.specs.declared.fetching.Fetching.{Fetching}
 use Rattle.feed_node_machine.specs.Exchanges.{IsExchangeOf, part_of}
+use Rattle.feed_node_machine.specs.Nodes.{exchange_of}
+use Rattle.feed_node_machine.proofs.Later.{later_as}
 use Rattle.feed_node_machine.proofs.Exchanged.{later_part, part_taken_as, took_part}
 use Rattle.feed_node_machine.proofs.machine.NodeMachine.take_part.Goals as goal
 
@@ -27,3 +29,13 @@ pub returns-in-Ok-clause-later : goal.returns-in-Ok-clause-later
 returns-in-Ok-clause-later g c =
     let is : c.args.self.now.fetching ≡ Some c.in-Some.fetching = search rules in
     later_part g.S.FeedRespond.wanted g.S.FeedRespond.replies c.args.self.now _ c.in-Some.fetching is (returns-in-Ok-clause-idle g c) (returns-in-Ok-clause-taken g c)
+
+pub returns-in-Err-clause-idle : goal.returns-in-Err-clause-idle
+returns-in-Err-clause-idle g c = search rules
+
+pub returns-in-Err-clause-later : goal.returns-in-Err-clause-later
+returns-in-Err-clause-later g c =
+    let is : c.args.self.now.fetching ≡ Some c.in-Some.fetching = search rules in
+    later_as c.args.self.now _
+    (returns-in-Err-clause-idle g c
+    (subst (λ (f : Option Fetching). ◌≡◌ {A = Option (ℕ × ℕ × List ℕ)} (part_of (exchange_of f)) None) (sym is) c.in-Err.ensures.ended.1))

@@ -1,9 +1,13 @@
-use Rattle.std.proofs.Common.{rules, ◌≡◌, None, Some, refl}
+use Rattle.std.proofs.Common.{rules, ◌≡◌, None, Option, Result, Some, refl, sym, subst}
 use Rattle.std.specs.Prelude.{IfErr}
 use Rattle.feed_fetch.specs.Answers.{IsStoppedAt}
 use Rattle.feed_node_machine.specs.declared.fetching.Fetching.{Fetching}
+use Rattle.feed_http.specs.declared.fetching.got.Got.{Got}
+use Rattle.feed_fetch.specs.declared.stop.RequestFault.{RequestFault}
+use Rattle.feed_node_machine.specs.Exchanges.{reply_of}
+use Rattle.feed_node_machine.specs.Nodes.{exchange_of}
 use Rattle.feed_node_machine.proofs.Exchanged.{taken_as, took_reply}
-use Rattle.feed_node_machine.proofs.Later.{later_taken}
+use Rattle.feed_node_machine.proofs.Later.{later_as, later_taken}
 use Rattle.feed_node_machine.proofs.machine.NodeMachine.take_reply.Goals as goal
 
 pub returns-in-Ok-clause-taken : goal.returns-in-Ok-clause-taken
@@ -21,3 +25,13 @@ pub returns-in-Ok-clause-later : goal.returns-in-Ok-clause-later
 returns-in-Ok-clause-later g c =
     let is : c.args.self.now.fetching ≡ Some c.in-Some.fetching = search rules in
     later_taken g.S.FeedRespond.wanted g.S.FeedRespond.replies c.in-Some.fetching c.in-Ok.reply _ _ is c.in-Ok.ensures.ended (returns-in-Ok-clause-taken g c)
+
+pub returns-in-Err-clause-idle : goal.returns-in-Err-clause-idle
+returns-in-Err-clause-idle g c = search rules
+
+pub returns-in-Err-clause-later : goal.returns-in-Err-clause-later
+returns-in-Err-clause-later g c =
+    let is : c.args.self.now.fetching ≡ Some c.in-Some.fetching = search rules in
+    later_as c.args.self.now _
+    (returns-in-Err-clause-idle g c
+    (subst (λ (f : Option Fetching). ◌≡◌ {A = Option (Result Got RequestFault)} (reply_of (exchange_of f)) None) (sym is) c.in-Err.ensures.arriving.1))
