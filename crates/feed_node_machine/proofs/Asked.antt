@@ -1,6 +1,7 @@
 -- A request that makes a node fetch.
-use Rattle.std.proofs.Common.{◌≡◌, ◌∙◌, ℕ, Bool, true, false, List, [], ◌∷◌, take, Option, Some, None, Result, inl, inr, refl, sym, subst}
-use Rattle.std.specs.Prelude.{◌||◌, IsSomeAnd, is_some, option_copied}
+use Rattle.std.proofs.Common.{◌≡◌, ◌∙◌, ℕ, Bool, true, false, List, [], ◌∷◌, take, Option, Some, None, Result, inl, inr, refl, sym, ap, subst}
+use Rattle.std.specs.Prelude.{◌||◌, IfSome, IsSomeAnd, is_some, option_copied}
+use Rattle.std.specs.Option.{option_or}
 use Rattle.httparse.specs.Grammar.{RequestHead}
 use Rattle.feed_names.specs.ReleaseName.{Name}
 use Rattle.feed_names.specs.declared.name_fault.NameFault.{NameFault}
@@ -17,7 +18,9 @@ use Rattle.feed_node_table.specs.Tables.{peer_at}
 use Rattle.feed_node_machine.specs.declared.machine.NodeMachine.{NodeMachine}
 use Rattle.feed_node_machine.specs.NodeEvents.{NodeEvent, events_of}
 use Rattle.feed_node_machine.specs.Rules.{Terms}
-use Rattle.feed_node_machine.specs.Nodes.{HasHistory, HasAsked}
+use Rattle.feed_node_machine.specs.Nodes.{HasHistory, HasAsked, HasNoted}
+use Rattle.feed_node_machine.specs.declared.fetching.Fetching.{Fetching}
+use Rattle.feed_node_table.specs.Peers.{is_streamed}
 use Rattle.feed_node_machine.proofs.Busy.{busy_is}
 
 none_taken : (xs : List ℕ) → take 0 xs ≡ []
@@ -81,3 +84,55 @@ module _ {T K S : Type 0} {k : Ghosts K} (wanted : S → RequestHead → ℕ)
           given = has.given;
         },
       )
+
+  -- nothing is to be noted of a reply that is not streamed
+  pub noted_none : (key : ℕ) (old : NodeMachine T K S k) → IfSome (peer_at old.table key) (λ peer. false ≡ is_streamed peer.connection) → HasNoted key old old
+  noted_none key old = by (peer_at old.table key)
+    where
+      by : (slot : Option (Peer T)) → IfSome slot (λ peer. false ≡ is_streamed peer.connection)
+          → IfSome slot (λ peer. is_streamed peer.connection ≡ true
+          → (asked : Option (Result Name NameFault)) × IsFetchBy (is_some old.fetching || is_some old.requested) (option_copied old.token) (request_of peer.connection) asked
+          × (old.requested ≡ option_or asked old.requested))
+      by None not = tt
+      by (Some peer) not = λ streamed. absurd (cc (not, streamed))
+
+  -- what the request of the connection asks for was noted
+  pub noted_asked : (key : ℕ) (bytes : List ℕ) (is_busy : Bool) (token : Option (List ℕ)) (old : NodeMachine T K S k) (asked next : Option (Result Name NameFault))
+      → IsSomeAnd (peer_at old.table key) (λ peer. bytes ≡ request_of peer.connection) → token ≡ option_copied old.token → is_busy ≡ (is_some old.fetching || is_some old.requested)
+      → IsFetchBy is_busy token bytes asked → next ≡ option_or asked old.requested → HasNoted key old (record old { requested = next })
+  noted_asked key bytes is_busy token old asked next request same busy asks is = by (peer_at old.table key) request
+    where
+      by : (slot : Option (Peer T)) → IsSomeAnd slot (λ peer. bytes ≡ request_of peer.connection)
+          → IfSome slot (λ peer. is_streamed peer.connection ≡ true
+          → (asked : Option (Result Name NameFault)) × IsFetchBy (is_some old.fetching || is_some old.requested) (option_copied old.token) (request_of peer.connection) asked
+          × (next ≡ option_or asked old.requested))
+      by None there = absurd there
+      by (Some peer) there = λ streamed. (
+        asked,
+        subst (λ (b : Bool). IsFetchBy b (option_copied old.token) (request_of peer.connection) asked) busy
+            (subst (λ (t : Option (List ℕ)). IsFetchBy is_busy t (request_of peer.connection) asked) same (subst (λ (b : List ℕ). IsFetchBy is_busy token b asked) there asks)),
+        is,
+      )
+
+  -- also behind a share that changed neither the fetches nor the token
+  pub noted_behind : (key : ℕ) (old mid new : NodeMachine T K S k) → mid.fetching ≡ old.fetching → mid.token ≡ old.token → mid.requested ≡ old.requested → HasNoted key mid new
+      → HasNoted key old new
+  noted_behind key old mid new fetching token requested = by (peer_at new.table key)
+    where
+      busy : (is_some mid.fetching || is_some mid.requested) ≡ (is_some old.fetching || is_some old.requested)
+      busy = ap (λ (f : Option Fetching). is_some f || is_some mid.requested) fetching ∙ ap (λ (r : Option (Result Name NameFault)). is_some old.fetching || is_some r) requested
+
+      by : (slot : Option (Peer T))
+          → IfSome slot (λ peer. is_streamed peer.connection ≡ true
+          → (asked : Option (Result Name NameFault)) × IsFetchBy (is_some mid.fetching || is_some mid.requested) (option_copied mid.token) (request_of peer.connection) asked
+          × (new.requested ≡ option_or asked mid.requested))
+          → IfSome slot (λ peer. is_streamed peer.connection ≡ true
+          → (asked : Option (Result Name NameFault)) × IsFetchBy (is_some old.fetching || is_some old.requested) (option_copied old.token) (request_of peer.connection) asked
+          × (new.requested ≡ option_or asked old.requested))
+      by None given = tt
+      by (Some peer) given = λ streamed. (let x = given streamed in (
+        x.0,
+        subst (λ (b : Bool). IsFetchBy b (option_copied old.token) (request_of peer.connection) x.0) busy
+            (subst (λ (t : Option (List ℕ)). IsFetchBy (is_some mid.fetching || is_some mid.requested) t (request_of peer.connection) x.0) (ap option_copied token) x.1),
+        x.2 ∙ ap (λ (r : Option (Result Name NameFault)). option_or x.0 r) requested,
+      ))

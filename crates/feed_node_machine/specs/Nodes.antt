@@ -1,5 +1,6 @@
 -- The node after a history.
-use Rattle.std.specs.Prelude.{◌≡◌, ◌⊎◌, ◌∷◌, ◌++◌, ℕ, Bool, List, Option, None, Some, Result, option_copied}
+use Rattle.std.specs.Prelude.{◌≡◌, ◌⊎◌, ◌∷◌, ◌++◌, ◌||◌, ℕ, Bool, true, List, Option, None, Some, IfSome, is_some, Result, option_copied}
+use Rattle.std.specs.Option.{option_or}
 use Rattle.httparse.specs.Grammar.{RequestHead}
 use Rattle.feed_names.specs.ReleaseName.{Name}
 use Rattle.feed_names.specs.declared.name_fault.NameFault.{NameFault}
@@ -10,10 +11,12 @@ use Rattle.feed_releases.specs.Feeds.{recorded}
 use Rattle.feed_http.specs.declared.fetching.got.Got.{Got}
 use Rattle.feed_fetch.specs.declared.stop.RequestFault.{RequestFault}
 use Rattle.feed_node_connection.specs.Events.{Event}
-use Rattle.feed_node_connection.specs.States.{HasState}
+use Rattle.feed_node_connection.specs.States.{HasState, request_of}
 use Rattle.feed_node_table.specs.declared.peer.Peer.{Peer}
 use Rattle.feed_node_table.specs.declared.table.Table.{Table}
+use Rattle.feed_node_table.specs.Peers.{is_streamed}
 use Rattle.feed_node_table.specs.Tables.{peer_at, KeepsOthers}
+use Rattle.feed_resolver_request.specs.FetchRequests.{IsFetchBy}
 use Rattle.feed_node_machine.specs.declared.fetching.Fetching.{Fetching}
 use Rattle.feed_node_machine.specs.declared.machine.NodeMachine.{NodeMachine}
 use Rattle.feed_fetch.specs.declared.machine.Request.{Request}
@@ -54,6 +57,14 @@ module _ {T K S : Type 0} {k : Ghosts K} where
     pub responder : new.responder ≡ old.responder
     pub token : new.token ≡ old.token
     pub today : new.today ≡ old.today
+
+  -- if the reply of the connection with this key is streamed, then what its request asks for, by the token and while no fetch is
+  -- under way or requested, is requested next
+  abbrev pub HasNoted : ℕ → NodeMachine T K S k → NodeMachine T K S k → Type 0
+  HasNoted key old new =
+      IfSome (peer_at (table_of new) key) (λ peer. is_streamed peer.connection ≡ true
+      → (asked : Option (Result Name NameFault)) × IsFetchBy (is_some old.fetching || is_some old.requested) (option_copied old.token) (request_of peer.connection) asked
+      × (new.requested ≡ option_or asked old.requested))
 
 module _ {T K S : Type 0} {k : Ghosts K} (wanted : S → RequestHead → ℕ)
     (replies : S → Terms → History → List ℕ → List ℕ → Bool → List ℕ → Type 0) where

@@ -1,8 +1,8 @@
 //! A share of a turn: a connection receives, replies and sends.
-ghost use Rattle.std.specs.Prelude.{◌≡◌, ◌≤◌, ◌||◌, List, is_some, option_copied};
+ghost use Rattle.std.specs.Prelude.{◌≡◌, ◌≤◌, ◌<◌, ◌||◌, List, is_some, option_copied};
 ghost use Rattle.feed_node_machine.specs.NodeEvents.{NodeEvent};
 ghost use Rattle.feed_node_machine.specs.Nodes.{table_of, HasHistory, HasServed, HasAsked, HasAdvanced, IsLater};
-ghost use Rattle.feed_node_machine.specs.Nodes.{KeepsRest};
+ghost use Rattle.feed_node_machine.specs.Nodes.{KeepsRest, HasNoted};
 ghost use Rattle.feed_node_table.specs.Peers.{held_limit};
 ghost use Rattle.feed_node_table.specs.Tables.{bytes_held, IsSettled};
 
@@ -37,6 +37,7 @@ impl<'a, T: Stream, K: Keep, S: FeedRespond + Drop> NodeMachine<'a, T, K, S> {
         ensures history { (history : List NodeEvent) → HasHistory S.wanted S.replies self.old history
             → HasServed S.wanted S.replies turn.key self.new history }
         ensures rest { KeepsRest turn.key self.old self.new }
+        ensures requested { self.new.requested ≡ self.old.requested }
     {
         let policy = self.policy();
         let moment = MomentResponder::new(
@@ -54,6 +55,7 @@ impl<'a, T: Stream, K: Keep, S: FeedRespond + Drop> NodeMachine<'a, T, K, S> {
     fn note_request(&mut self, key: usize)
         ensures history { (history : List NodeEvent) → HasHistory S.wanted S.replies self.old history
             → HasAsked S.wanted S.replies key self.new history }
+        ensures noted { HasNoted key self.old self.new }
         ensures rest { KeepsRest key self.old self.new }
     {
         let Some(received) = self.table.streamed_request(key) else {
@@ -78,6 +80,7 @@ impl<'a, T: Stream, K: Keep, S: FeedRespond + Drop> NodeMachine<'a, T, K, S> {
         requires { bytes_held (table_of self.old) ≤ held_limit }
         ensures history { (history : List NodeEvent) → HasHistory S.wanted S.replies self.old history
             → HasAdvanced S.wanted S.replies turn.key self.new history }
+        ensures noted { share.new.replies < share.old.replies → HasNoted turn.key self.old self.new }
         ensures later { IsLater S.wanted S.replies self.old self.new }
         ensures rest { KeepsRest turn.key self.old self.new }
     {

@@ -102,6 +102,7 @@ impl<'a> Fetcher<'a> {
     }
 
     /// Begins to fetch the release that a client asked for, if one did. The client receives a line for each event.
+    #[tactic(auto, using(feed_node_machine::proofs::Later::later_after))]
     pub fn begin<K: Keep>(&mut self, server: &mut Server, node: &mut FeedNode<'_, K>)
         ensures { IsLaterNode node.old node.new }
     {

@@ -23,9 +23,13 @@ abbrev pub micros_in : Option ℕ → ℕ → ℕ → ℕ
 micros_in None micros now = micros
 micros_in (Some began) micros now = now - began
 
--- the head of a streamed reply was sent
+-- the reply that was made is streamed
+abbrev pub is_streamed : Connection → Bool
+is_streamed connection = option_map_or (λ summary. summary.is_streamed) connection.summary false
+
+-- its head was sent
 abbrev pub begins_stream : Connection → Bool
-begins_stream connection = option_map_or (λ summary. summary.is_streamed) connection.summary false && is_reply_sent_in connection.phase
+begins_stream connection = is_streamed connection && is_reply_sent_in connection.phase
 
 -- a connection that waits for bytes of a request is not behind the others, and one that drops what it receives is
 abbrev pub is_behind_by : Wants → Bool → Bool

@@ -1,7 +1,7 @@
 //! A connection with its stream and its times.
 ghost use Rattle.std.specs.Prelude.{◌≡◌, ◌≢◌, ◌≤◌, ◌<◌, ℕ, List, []};
 ghost use Rattle.std.specs.Prelude.{true, false};
-ghost use Rattle.std.specs.Prelude.{IfSome};
+ghost use Rattle.std.specs.Prelude.{IfSome, is_some};
 ghost use Rattle.feed_node_connection.specs.Events.{Event};
 ghost use Rattle.feed_node_connection.specs.States.{allocated_bytes, HasState, is_reply_sent_in, request_of};
 ghost use Rattle.feed_node_connection.specs.States.{wants_in};
@@ -59,7 +59,8 @@ pub(crate) struct Peer<T> {
 }
 
 impl<T: Stream> Peer<T> {
-    ghost use Rattle.feed_node_table.specs.Peers.{begins_stream, cause_of, micros_of, HasElapsed, HasResumed};
+    ghost use Rattle.feed_node_table.specs.Peers.{begins_stream, cause_of, is_streamed, micros_of};
+    ghost use Rattle.feed_node_table.specs.Peers.{HasElapsed, HasResumed};
     ghost use Rattle.feed_node_table.specs.Peers.{is_behind, IsFollowed, IsLate};
 
     /// Returns a connection that was accepted now.
@@ -96,16 +97,22 @@ impl<T: Stream> Peer<T> {
 
     /// Returns the request whose reply is streamed, from when the reply is made.
     pub(crate) fn streamed_request(&self) -> Option<ReceivedRequest<'_>>
-        ensures { IfSome result (λ received. received.bytes.now ≡ request_of self.now.connection) }
+        ensures request { IfSome result (λ received. received.bytes.now ≡ request_of self.now.connection) }
+        ensures streamed { is_some result ≡ is_streamed self.now.connection }
     {
-        let is_streamed = match self.connection.summary() {
-            Some(summary) => summary.is_streamed,
-            None => false,
-        };
-        if is_streamed {
+        if self.is_streamed() {
             Some(self.connection.request())
         } else {
             None
+        }
+    }
+
+    fn is_streamed(&self) -> bool
+        ensures { result ≡ is_streamed self.now.connection }
+    {
+        match self.connection.summary() {
+            Some(summary) => summary.is_streamed,
+            None => false,
         }
     }
 
@@ -169,10 +176,7 @@ impl<T: Stream> Peer<T> {
     fn begins_stream(&self) -> bool
         ensures { result ≡ begins_stream self.now.connection }
     {
-        match self.connection.summary() {
-            Some(summary) => summary.is_streamed && self.connection.is_reply_sent(),
-            None => false,
-        }
+        self.is_streamed() && self.connection.is_reply_sent()
     }
 
     // Turns to the next request, once a reply was sent and the connection persists. Records the reply.

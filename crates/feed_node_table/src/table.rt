@@ -2,10 +2,10 @@
 ghost use Rattle.std.specs.Prelude.{◌≡◌, ◌≢◌, ◌≤◌, ◌<◌, ◌+◌, ◌⊎◌, ℕ, []};
 ghost use Rattle.std.specs.Prelude.{true, false, length, nat_le};
 ghost use Rattle.std.specs.Prelude.{sum_by};
-ghost use Rattle.std.specs.Prelude.{Some, None, IfOk, IfSome, IfNone, IsSome, IsSomeAnd};
+ghost use Rattle.std.specs.Prelude.{Some, None, IfOk, IfSome, IfNone, IsSome, IsSomeAnd, is_some};
 ghost use Rattle.slab.specs.Slab.{ContainsKey, slab_len};
 ghost use Rattle.feed_node_turns.specs.Turns.{key_count, IsReady};
-ghost use Rattle.feed_node_table.specs.Peers.{held_in, AreBounded};
+ghost use Rattle.feed_node_table.specs.Peers.{held_in, is_streamed, AreBounded};
 
 use crate::log::{CloseCause, Log};
 use crate::peer::{NewConnection, Outcome, Peer};
@@ -402,8 +402,10 @@ impl<T: Stream> Table<T> {
 
     /// Returns the request of a connection whose reply is streamed, from when the reply is made.
     pub fn streamed_request(&self, key: usize) -> Option<ReceivedRequest<'_>>
-        ensures { IfSome result (λ received. IsSomeAnd (peer_at self.now key)
+        ensures request { IfSome result (λ received. IsSomeAnd (peer_at self.now key)
             (λ peer. received.bytes.now ≡ request_of peer.connection)) }
+        ensures streamed { IfSome (peer_at self.now key)
+            (λ peer. is_some result ≡ is_streamed peer.connection) }
     {
         match self.peers.get(key) {
             Some(peer) => peer.streamed_request(),

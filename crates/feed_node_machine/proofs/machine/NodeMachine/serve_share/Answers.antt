@@ -1,4 +1,5 @@
 use Rattle.std.proofs.Common.{◌∙◌, inl, inr}
+use Rattle.feed_node_machine.proofs.Asked.{noted_behind}
 use Rattle.feed_node_machine.proofs.Later.{later_advanced, later_served}
 use Rattle.feed_node_machine.proofs.machine.NodeMachine.serve_share.Goals as goal
 
@@ -7,6 +8,12 @@ returns-then-share-replies-clause-history g c = λ history has. elim (c.serve_fr
   | inl same ↦ inl (c.note_request.ensures.history history same)
   | inr (share, is) ↦ inr (share, c.note_request.ensures.history _ is)
 ]
+
+pub returns-then-share-replies-clause-noted : goal.returns-then-share-replies-clause-noted
+returns-then-share-replies-clause-noted g c less =
+    let rest = c.serve_from_feed-progress.ensures.rest in
+    noted_behind g.S.FeedRespond.wanted g.S.FeedRespond.replies c.args.turn.key c.args.self.now c.serve_from_feed-progress.new.self c.note_request.new.self
+    rest.fetching rest.token c.serve_from_feed-progress.ensures.requested c.note_request.ensures.noted
 
 pub returns-then-share-replies-clause-rest : goal.returns-then-share-replies-clause-rest
 returns-then-share-replies-clause-rest g c = record {
