@@ -10,7 +10,9 @@ time that LONG, a target with a long reply, takes without the others. These are,
   titles     8 that pipeline searches for titles, and read
   reset      200 that ask for LONG and disconnect at once, again and again
 
-Prints each kind, and what is wrong with it; with `-v` also the times."""
+Prints each kind, and what is wrong with it; with `-v` also the times. A machine that does something else delays
+answers now and then, and a node that serves the others first each time: so a kind that was late is tried again, at
+most twice."""
 import os
 import signal
 import socket
@@ -18,7 +20,7 @@ import struct
 import sys
 import time
 
-SECONDS = 3
+SECONDS, TRIES = 3, 3
 KINDS = {"unread": 300, "titles": 8, "reset": 200}
 
 
@@ -123,8 +125,11 @@ def main():
     alone = sorted(answered(address, target)[0] for _ in range(9))[4]
     limit = max(int(millis), 3 * alone)
     for kind in KINDS:
-        times, refused = beside(kind, address, target)
-        slow = times[len(times) * 98 // 100]
+        for _ in range(TRIES):
+            times, refused = beside(kind, address, target)
+            slow = times[len(times) * 98 // 100]
+            if slow <= limit:
+                break
         print(kind, "in time" if slow <= limit else f"{slow:.0f} ms", f"refused {refused}")
         if is_verbose:
             print(f"{len(times)} answers, median {times[len(times) // 2]:.2f} ms, 98 of 100 within {slow:.2f} ms, "
