@@ -286,7 +286,7 @@ def serving_node(shop, database, *options, calls=None):
 
 
 def until_it_answers(port):
-    """Waits until a node answers readers. Returns the longest wait of a client for a reply meanwhile, in seconds."""
+    """Waits until a node answers readers. Returns the longest wait of a client for a response meanwhile, in seconds."""
     longest, status = 0.0, 503
     while status == 503:
         began = time.monotonic()
@@ -302,7 +302,7 @@ def until_it_answers(port):
 
 def started(shop, path):
     """Starts a node with a list. Returns the times until it listens and until it answers readers, with its memory then,
-    and the longest wait for a reply in between."""
+    and the longest wait for a response in between."""
     database = database_with(shop, shop.program, path)
     began = time.monotonic()
     child, port = started_node(shop, database)
@@ -335,7 +335,7 @@ def figures_of(name, units, measured, needs):
 
 def node_start(shop):
     """From the start of a node to its listening socket and to its first answer, with the memory that it then has, and
-    the longest wait for a reply in between."""
+    the longest wait for a response in between."""
     units = {"": "ms", "-answers": "ms", "-wait": "ms, longest wait"}
     lists = [(str(mib), lambda mib=mib: shop.list_of(mib)) for mib in shop.sizes]
     for label, made in [*lists, ("short", lambda: shop.short_list(max(shop.sizes)))]:
@@ -374,7 +374,7 @@ def rate_of_node(shop, clients, options):
 
 
 def site_of(shop):
-    """Returns a folder with a file that has the bytes of a node's reply."""
+    """Returns a folder with a file that has the bytes of a node's response."""
     child, port = serving_node(shop, database_of(shop, shop.program, min(shop.sizes)))
     try:
         connection = http.client.HTTPConnection("127.0.0.1", port, timeout=30)
@@ -437,7 +437,7 @@ def last_commit(path):
 
 
 def post_feed(port, name, result):
-    """Has a node fetch a release, and appends the last line of the reply."""
+    """Has a node fetch a release, and appends the last line of the response."""
     connection = http.client.HTTPConnection("127.0.0.1", port, timeout=600)
     connection.request("POST", f"/feed/{name}", headers={"Authorization": f"Bearer {TOKEN}"})
     result.append(connection.getresponse().read().decode().strip().split("\n")[-1])

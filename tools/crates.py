@@ -9,7 +9,7 @@ ROOT = pathlib.Path(__file__).resolve().parent.parent
 PARTS = ["src", "specs", "proofs"]
 RUN = ["stdin", "stdout", "args", "status", "data"]
 # The program and its drivers, those first whose compilation takes longest.
-PROGRAMS = ["kbfeed", "feed_test_store", "feed_test_http", "feed_test_releases", "feed_test_lists"]
+PROGRAMS = ["kbfeed", "test_store", "test_http", "test_releases", "test_lists"]
 # The most that are compiled side by side. The greatest takes as long as all drivers beside it in two lanes, so a fourth
 # lane would only take memory, and a processor from the sessions.
 LANES = 3

@@ -9,7 +9,7 @@ import sys
 
 
 class Handler(http.server.BaseHTTPRequestHandler):
-    """Replies with a file of the folder, or with one range of it."""
+    """Responds with a file of the folder, or with one range of it."""
 
     protocol_version = "HTTP/1.1"
 

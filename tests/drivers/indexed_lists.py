@@ -3,9 +3,9 @@
 
 indexed_lists.py [NAME ROWS]
 
-Each list is written to the file `list` in the current folder. feed_test_lists reads it at once and in windows of some
+Each list is written to the file `list` in the current folder. test_lists reads it at once and in windows of some
 sizes, and prints the places of some identifiers: of the first and the last row, of rows between them, and of none.
-Prints a line for each list, and each line of feed_test_lists that is not the one wanted. Fails if there is one. With
+Prints a line for each list, and each line of test_lists that is not the one wanted. Fails if there is one. With
 NAME and ROWS it only writes a list of so many rows, such as `ascending`, and prints the first and the last ISSN."""
 import subprocess
 import sys
@@ -51,7 +51,7 @@ def check_list(name, rows, steps):
     asked = [row[0] or row[1] for row in identifiers[::rows // 5 + 1] + identifiers[-1:]]
     asked += [row[1] for row in identifiers[-1:] if row[1]] + [issn(9_999_999), isbn(999_999_999)]
     lines = [f"places {step} list {' '.join(asked)}\n" for step in steps]
-    printed = subprocess.run(["feed_test_lists"], input="".join(lines), capture_output=True, text=True, check=True)
+    printed = subprocess.run(["test_lists"], input="".join(lines), capture_output=True, text=True, check=True)
     expected = [(step, it, places_of(it, identifiers)) for step in steps for it in asked]
     wrong = [(step, it) for (step, it, want), got in zip(expected, printed.stdout.splitlines(), strict=True)
              if got != want]

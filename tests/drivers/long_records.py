@@ -4,7 +4,7 @@
 long_records.py [SEED [LISTS]]
 
 A record of more than 131,072 bytes is read field by field while it arrives. Each list is written to the file `list` in
-the current folder, and feed_test_lists reads it in windows of some sizes, from a reader, and from two. The lists have
+the current folder, and test_lists reads it in windows of some sizes, from a reader, and from two. The lists have
 records of 131,071 to 131,075 bytes, cut near their tabs, their line ends and the byte-order mark, long headers, rows of
 tabs, spaces in each place, and LISTS random ones.
 Prints a line for each kind of list, and each case that differs. Fails if there is one."""
@@ -46,7 +46,7 @@ def header_fault(header):
 
 
 def plain(text):
-    """The lines that feed_test_lists prints of a list whose rows are serials without dates and volumes."""
+    """The lines that test_lists prints of a list whose rows are serials without dates and volumes."""
     lines = [it for it in re.split("[\r\n]", text.removeprefix(MARK)) if it]
     if not lines:
         return ["refused NoHeader"]
@@ -77,7 +77,7 @@ def differs(text, steps):
         out.write(text)
     asked = [f"windows {step} list" for step in steps]
     asked += [f"read {max(steps)} {CALLS} list", f"parts {min(steps)} {CALLS} {CALLS} list"]
-    printed = subprocess.run(["feed_test_lists"], input="\n".join(asked) + "\n", capture_output=True, text=True,
+    printed = subprocess.run(["test_lists"], input="\n".join(asked) + "\n", capture_output=True, text=True,
                              check=True, encoding="utf-8").stdout
     wanted = "\n".join(plain(text)) + "\n"
     if printed == wanted * len(asked):

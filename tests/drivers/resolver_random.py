@@ -6,7 +6,7 @@ The model is written from docs/RESOLVER.md, docs/KBART.md and docs/OPENURL.md al
 lists for each request. Each world has up to three packages with a few rows, a site file or none, and a day; it gets
 twenty requests. In some worlds a list has about as many rows of one ISSN as a query looks at. Compared are the status,
 the address of a redirect, the whole text, the hits and `also` of JSON with most members, the links of a page, in their
-order, and how many hits are left out. `feed_test_http` gives the replies."""
+order, and how many hits are left out. `test_http` gives the replies."""
 import argparse
 import calendar
 import datetime
@@ -286,7 +286,7 @@ class World:
 
     def equal_records(self, count):
         """Returns so many records of one journal. Most of them are equal, and match every query or few dates. They have
-        few bytes, since feed_test_http takes lists of less than 1 MiB."""
+        few bytes, since test_http takes lists of less than 1 MiB."""
         journal = {"print_identifier": ISSNS[0], "online_identifier": "", "date_first_issue_online": "",
                    "date_last_issue_online": "", "publication_type": ""}
         most = dict.fromkeys(LABELS, "") | journal | self.dice.choice([
@@ -568,7 +568,7 @@ class Links(html.parser.HTMLParser):
 
 
 def escaped(data):
-    """Returns bytes as a text of feed_test_http."""
+    """Returns bytes as a text of test_http."""
     names = {10: "\\n", 13: "\\r", 9: "\\t"}
     return "".join(names.get(it) or (chr(it) if 32 <= it < 127 and it != 92 else f"\\x{it:02x}") for it in data)
 
@@ -634,15 +634,15 @@ def run_world(dice, count, is_long):
         head, form = it.text()
         lines.append(f"respond close {escaped(head.encode())}" if form is None else
                      f"respond-to-form close {escaped(form.encode())} {escaped(head.encode())}")
-    run = subprocess.run(["feed_test_http", "65536"], input="\n".join([*lines, ""]), capture_output=True, text=True,
+    run = subprocess.run(["test_http", "65536"], input="\n".join([*lines, ""]), capture_output=True, text=True,
                          check=False)
     if run.returncode:
-        sys.exit(f"feed_test_http: {run.stdout[-200:]}{run.stderr[-200:]}")
+        sys.exit(f"test_http: {run.stdout[-200:]}{run.stderr[-200:]}")
     # Each list prints a line, each form its length, and each request its reply.
     replies = [it for it in run.stdout.splitlines()[len(world.lists):] if not it.startswith("length ")]
     differ = 0
     if len(replies) != count:
-        sys.exit(f"feed_test_http printed {len(replies)} replies to {count} requests")
+        sys.exit(f"test_http printed {len(replies)} replies to {count} requests")
     for request, reply in zip(requests, replies):
         why = differences(request, reply)
         if why:

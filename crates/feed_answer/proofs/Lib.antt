@@ -1,3 +1,6 @@
+pub mod Lengths
+pub mod Months
+pub mod Opened
 pub mod Writing
 pub mod Lines
 pub mod Members

@@ -6,7 +6,7 @@ use Rattle.std.specs.List.{cons_option, enumerate_from, filter, filter_map, list
 use Rattle.std.specs.Str.{bytes_eq, str_eq_ignore_ascii_case}
 use Rattle.std.specs.Cmp.Lexicographic.{bytes_decides}
 use Rattle.form_urlencoded.specs.Form as form
-use Rattle.feed_identifiers.specs.Text.{trimmed}
+use Rattle.feed_bytes.specs.Trim.{trimmed}
 use Rattle.feed_kbart.specs.Columns.{columns_of, field_of}
 use Rattle.feed_kbart.specs.Coverage.{book_coverage, book_reason, serial_coverage, serial_reason}
 use Rattle.feed_kbart.specs.Files.{holdings_in, holdings_of}

@@ -1,3 +1,8 @@
+pub mod Today
+pub mod Embargo
+pub mod Form
+pub mod Availability
+pub mod EmbargoLaws
 pub mod Limits
 pub mod IdentifierSet
 pub mod Pairs

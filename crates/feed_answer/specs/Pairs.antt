@@ -4,7 +4,7 @@ use Rattle.std.specs.List.{filter_map}
 use Rattle.std.specs.Str.{bytes_eq, str_eq_ignore_ascii_case}
 use Rattle.feed_identifiers.specs.Isbn.{isbn_of}
 use Rattle.feed_identifiers.specs.Issn.{issn_of}
-use Rattle.feed_identifiers.specs.Text.{trimmed}
+use Rattle.feed_bytes.specs.Trim.{trimmed}
 use Rattle.feed_kbart.specs.Volumes.{volume_of}
 use Rattle.feed_dates.specs.DayRanges.{query_days_of}
 use Rattle.feed_dates.specs.declared.day_range.DayRange.{DayRange}

@@ -4,7 +4,7 @@ use Rattle.std.specs.List.{enumerate_from, filter, filter_map, list_any}
 use Rattle.std.specs.Str.{str_eq_ignore_ascii_case}
 use Rattle.form_urlencoded.specs.Form as form
 use Rattle.feed_dates.specs.declared.day_range.DayRange.{DayRange}
-use Rattle.feed_identifiers.specs.Text.{trimmed}
+use Rattle.feed_bytes.specs.Trim.{trimmed}
 use Rattle.feed_kbart.specs.Columns.{columns_of, field_of}
 use Rattle.feed_kbart.specs.Coverage as coverage
 use Rattle.feed_kbart.specs.Coverage.{serial_coverage, serial_reason}

@@ -42,7 +42,7 @@ pub fn decode_text(alloc: Global, text: &[u8]) -> Result<CowSlice<'_, u8, Global
     Ok(CowSlice::Owned(unescape(alloc, &spaced)?))
 }
 
-/// Returns the pairs of a query, in order. Skips empty pieces between `&`. A key without `=` has the empty value.
+/// Returns the pairs of a query, in order. Skips what is empty between `&`. A key without `=` has the empty value.
 pub fn decode_pairs(alloc: Global, text: &[u8]) -> Result<Vec<Pair<'_>>, AllocError>
     ensures { IfOk result (λ pairs. pairs.items ≡ form.parse text.now) }
 {

@@ -3,8 +3,9 @@ ghost use Rattle.std.specs.Prelude.{◌≡◌};
 ghost use Rattle.feed_answer.specs.Pairs.{days_of_pair, has_key, is_other, is_other_format, is_other_version};
 ghost use Rattle.feed_answer.specs.Pairs.{isbn_of_pair, issn_of_pair, issn_of_urn, has_format, volume_of_pair};
 
+use feed_bytes::trim_spaces;
 use feed_dates::DayRange;
-use feed_identifiers::{Isbn, Issn, trim_spaces};
+use feed_identifiers::{Isbn, Issn};
 use feed_kbart::read_volume;
 use std::alloc::Global;
 use std::borrow::CowSlice;

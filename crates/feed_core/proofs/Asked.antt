@@ -17,10 +17,10 @@ said : (name : Name) (file items : List ℕ) (query : QueryValue) (hits : List H
 unfolding text_for
 said name file items query hits found written = ap Text (written ∙ ap (answer_text (text_of name)) found)
 
-pub asked_text : (h : History) (stem text old items : List ℕ) (name : Name) (query : QueryValue) (hits : List HitValue) → Reports h stem (Some name) → Ok query ≡ query_of text
-    → IsAnswered h stem query (Ok hits) → old ≡ [] → items ≡ old ++ answer_text (text_of name) hits → IsAsked h stem text (Text items)
-asked_text h stem text old items name query hits reports read answered none written =
-    let same : answered.0 ≡ name = (let e = reports_one h stem (Some answered.0) (Some name) answered.2 reports in cc) in
+pub asked_text : (h : History) (package_name text old items : List ℕ) (name : Name) (query : QueryValue) (hits : List HitValue) → Reports h package_name (Some name) → Ok query ≡ query_of text
+    → IsAnswered h package_name query (Ok hits) → old ≡ [] → items ≡ old ++ answer_text (text_of name) hits → IsAsked h package_name text (Text items)
+asked_text h package_name text old items name query hits reports read answered none written =
+    let same : answered.0 ≡ name = (let e = reports_one h package_name (Some answered.0) (Some name) answered.2 reports in cc) in
     let file = answered.1 in (
       Some name,
       reports,

@@ -11,7 +11,7 @@ use Rattle.feed_world.specs.declared.line.Why as why
 use Rattle.feed_world.specs.declared.line.Why.TheVariants.{NoNode, Down}
 use Rattle.feed_world.specs.World.{World, Node, WorldEvent, Line, Shelf, Sent, Refused, node_at, set_node, with_node, arriving, AtNode, Arrives, IfUp, Happens}
 use Rattle.feed_world.specs.World.{StopBefore, StopAfter, Stopped, IsDown, Reopens}
-use Rattle.feed_releases.specs.declared.event.Event as code_event
+use Rattle.feed_releases.specs.declared.feed.Event as code_event
 use Rattle.feed_releases.specs.declared.feed.Point.{Point}
 use Rattle.feed_releases.specs.declared.feed.Point.TheVariants.{Before, After}
 use Rattle.feed_core.specs.Nodes.{HasStopped, shown_arrived}

@@ -10,8 +10,8 @@ node_of (Tell i sent) = Some i
 node_of (Restart i) = Some i
 node_of (StopBefore i sent) = Some i
 node_of (StopAfter i sent) = Some i
-node_of (Report i stem) = Some i
-node_of (Ask i stem query) = Some i
+node_of (Report i package_name) = Some i
+node_of (Ask i package_name query) = Some i
 
 -- the event is a publication, or at a chosen node
 abbrev pub is_on : (ℕ → Bool) → WorldEvent → Bool

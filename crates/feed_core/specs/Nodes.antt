@@ -7,7 +7,7 @@ use Rattle.feed_model.specs.Reply.{IsRight}
 use Rattle.feed_model.specs.Content.{Content}
 use Rattle.feed_world.specs.declared.line.Why as why
 use Rattle.feed_world.specs.World.{Line, Text, Refused}
-use Rattle.feed_releases.specs.declared.event.Event as code_event
+use Rattle.feed_releases.specs.declared.feed.Event as code_event
 use Rattle.feed_releases.specs.declared.feed.Point.{Point}
 use Rattle.feed_releases.specs.declared.feed.Point.TheVariants.{Before, After}
 use Rattle.feed_releases.specs.Events.{event_of}

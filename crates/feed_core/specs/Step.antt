@@ -14,7 +14,7 @@ use Rattle.feed_keep.specs.declared.keep.Keep as keep
 use Rattle.feed_core.specs.declared.node.Node.{Ghosts}
 use Rattle.feed_core.specs.Nodes.{IsStartRefused, shown_arrived}
 use Rattle.feed_core.specs.Chosen.{events_on, is_on, lines_on}
-use Rattle.feed_releases.specs.declared.event.Event as code_event
+use Rattle.feed_releases.specs.declared.feed.Event as code_event
 use Rattle.feed_releases.specs.declared.feed.Point.{Point}
 use Rattle.feed_releases.specs.declared.feed.Point.TheVariants.{Before, After}
 use Rattle.feed_core.specs.declared.world.ReplayFault.{ReplayFault}

@@ -24,16 +24,16 @@ const TEXT_ROOM: usize = 256;
 
 /// A node over a keeper.
 #[derive(Drop)]
-pub enum Slot<K: Keep> {
+pub enum NodeSlot<K: Keep> {
     /// It is up: a feed.
     Up(Feed<K>),
     /// It is down: the keeper of a feed that could not be opened again.
     Down(K),
 }
 
-impl<K: Keep> Slot<K> {
+impl<K: Keep> NodeSlot<K> {
     /// Starts a node on an empty keeper. The error returns a keeper that is not empty.
-    pub fn start(alloc: Global, keeper: K) -> Result<Slot<K>, OpenFault<K>>
+    pub fn start(alloc: Global, keeper: K) -> Result<NodeSlot<K>, OpenFault<K>>
         ensures ok { IfOk result (λ s. HasSlotState K.content K.listed s true []) }
         ensures counted { IfOk result (λ s. slot_count K.failed s ≡ K.failed keeper) }
         ensures loaded { IfOk result (λ s. slot_count K.loads s ≡ one_more (K.loads keeper)) }
@@ -49,7 +49,7 @@ impl<K: Keep> Slot<K> {
         match Feed::open(alloc, keeper) {
             Ok(feed) => {
                 if feed.is_empty() {
-                    Ok(Slot::Up(feed))
+                    Ok(NodeSlot::Up(feed))
                 } else {
                     Err(OpenFault {
                         cause: KeepFault::Damaged,
@@ -70,14 +70,14 @@ impl<K: Keep> Slot<K> {
         ensures unloaded { K.loads result ≡ slot_count K.loads self }
     {
         match self {
-            Slot::Up(feed) => feed.restart(),
-            Slot::Down(keeper) => keeper,
+            NodeSlot::Up(feed) => feed.restart(),
+            NodeSlot::Down(keeper) => keeper,
         }
     }
 }
 
 // Opens a keeper, and returns why the node is down if this fails.
-fn open_slot<K: Keep>(alloc: Global, keeper: K) -> (Slot<K>, Result<(), KeepFault>)
+fn open_slot<K: Keep>(alloc: Global, keeper: K) -> (NodeSlot<K>, Result<(), KeepFault>)
     ensures clean { IsSlotClean K.clean result.0 → K.clean keeper }
     ensures same { (h : History) → IsSlotClean K.clean result.0 → IsContent (K.content keeper) h
         → ∥ K.listed keeper ∥₁ → IsReopened (HasSlotState K.content K.listed result.0) h result.1 }
@@ -85,12 +85,12 @@ fn open_slot<K: Keep>(alloc: Global, keeper: K) -> (Slot<K>, Result<(), KeepFaul
     ensures loaded { slot_count K.loads result.0 ≡ one_more (K.loads keeper) }
 {
     match Feed::open(alloc, keeper) {
-        Ok(feed) => (Slot::Up(feed), Ok(())),
-        Err(fault) => (Slot::Down(fault.keeper), Err(fault.cause)),
+        Ok(feed) => (NodeSlot::Up(feed), Ok(())),
+        Err(fault) => (NodeSlot::Down(fault.keeper), Err(fault.cause)),
     }
 }
 
-impl<K: Keep> Node for Slot<K> {
+impl<K: Keep> Node for NodeSlot<K> {
     ghost clean = { IsSlotClean K.clean };
 
     ghost has_state = { HasSlotState K.content K.listed };
@@ -101,40 +101,40 @@ impl<K: Keep> Node for Slot<K> {
 
     fn is_up(&self) -> bool {
         match self {
-            Slot::Up(_) => true,
-            Slot::Down(_) => false,
+            NodeSlot::Up(_) => true,
+            NodeSlot::Down(_) => false,
         }
     }
 
     fn report(&self, package: &[u8]) -> Option<&ReleaseName> {
         match self {
-            Slot::Up(feed) => feed.report(package),
-            Slot::Down(_) => None,
+            NodeSlot::Up(feed) => feed.report(package),
+            NodeSlot::Down(_) => None,
         }
     }
 
     fn ask(&self, alloc: Global, package: &[u8], query: &[u8]) -> Result<Vec<u8>, Why> {
         match self {
-            Slot::Up(feed) => answer_text(alloc, feed, package, query),
-            Slot::Down(_) => Err(Why::Down),
+            NodeSlot::Up(feed) => answer_text(alloc, feed, package, query),
+            NodeSlot::Down(_) => Err(Why::Down),
         }
     }
 
     fn handle(&mut self, event: &Event<'_>) -> Result<Reply, Refusal> {
         match self {
-            Slot::Up(feed) => feed.handle(event),
-            Slot::Down(_) => Err(Refusal::Memory),
+            NodeSlot::Up(feed) => feed.handle(event),
+            NodeSlot::Down(_) => Err(Refusal::Memory),
         }
     }
 
-    fn restart(self, alloc: Global) -> (Slot<K>, Result<(), KeepFault>) {
+    fn restart(self, alloc: Global) -> (NodeSlot<K>, Result<(), KeepFault>) {
         open_slot(alloc, self.into_keeper())
     }
 
-    fn stop_after(self, alloc: Global, event: &Event<'_>) -> (Slot<K>, Result<(), KeepFault>) {
+    fn stop_after(self, alloc: Global, event: &Event<'_>) -> (NodeSlot<K>, Result<(), KeepFault>) {
         match self {
-            Slot::Up(feed) => open_slot(alloc, feed.stop_at(event, Point::After)),
-            Slot::Down(keeper) => open_slot(alloc, keeper),
+            NodeSlot::Up(feed) => open_slot(alloc, feed.stop_at(event, Point::After)),
+            NodeSlot::Down(keeper) => open_slot(alloc, keeper),
         }
     }
 }

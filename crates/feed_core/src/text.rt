@@ -3,7 +3,7 @@ use std::alloc::{AllocError, Global};
 use std::io;
 use std::io::Write;
 
-/// A text in memory, as a writer that accepts each piece completely.
+/// A text in memory, as a writer that accepts all bytes.
 #[derive(Drop)]
 pub(crate) struct Text {
     pub(crate) bytes: Vec<u8>,

@@ -18,7 +18,7 @@ ghost use Rattle.feed_core.specs.Step.{AllClean, AreNodes, AreKept, IsWorldStep,
 
 use crate::node::Node;
 use crate::shelf::Shelf;
-use crate::slot::Slot;
+use crate::slot::NodeSlot;
 use crate::step::{ask_at, report_at, restart_at, stop_at, tell_at};
 use crate::transcript::Transcript;
 use feed_keep::Keep;
@@ -75,7 +75,7 @@ pub fn replay<K: Keep>(
 }
 
 // Starts nodes on empty keepers.
-fn start_all<K: Keep>(alloc: Global, keepers: Vec<K>) -> Result<Vec<Slot<K>>, ReplayFault<K>>
+fn start_all<K: Keep>(alloc: Global, keepers: Vec<K>) -> Result<Vec<NodeSlot<K>>, ReplayFault<K>>
     ensures count { IfOk result (λ nodes. length nodes.items ≡ vec_len keepers) }
     ensures started { IfOk result (λ nodes. (chosen : ℕ → Bool) → AreNodes chosen (HasSlotState K.content K.listed)
         nodes.items (start (length nodes.items)).nodes) }
@@ -88,7 +88,7 @@ fn start_all<K: Keep>(alloc: Global, keepers: Vec<K>) -> Result<Vec<Slot<K>>, Re
         return Err(ReplayFault::Memory);
     };
     for keeper in keepers {
-        match Slot::start(alloc, keeper) {
+        match NodeSlot::start(alloc, keeper) {
             Ok(slot) => {
                 let Ok(()) = nodes.push(slot) else {
                     return Err(ReplayFault::Memory);
@@ -115,7 +115,7 @@ fn start_fault<K: Keep>(fault: OpenFault<K>, node: usize) -> ReplayFault<K>
 }
 
 // Returns the keepers of the nodes, in their order, in the vector that was reserved for them.
-fn collect_keepers<K: Keep>(room: Vec<K>, nodes: Vec<Slot<K>>) -> Vec<K>
+fn collect_keepers<K: Keep>(room: Vec<K>, nodes: Vec<NodeSlot<K>>) -> Vec<K>
     requires empty { room.items ≡ [] }
     requires room { vec_len nodes ≤ vec_capacity room }
     ensures clean { (chosen : ℕ → Bool) → AllClean chosen K.clean result.items

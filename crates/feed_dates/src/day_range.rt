@@ -1,4 +1,4 @@
-//! Ranges of days: what a coverage date of a KBART file or a date of an OpenURL query covers.
+//! Ranges of days: what a coverage date of a KBART file or a date of an OpenURL covers.
 ghost use Rattle.std.specs.Prelude.{◌≡◌, ◌<◌, Some, option_map};
 ghost use Rattle.jiff.specs.Words.{epoch_day};
 ghost use Rattle.feed_dates.specs.Days.{day_number};

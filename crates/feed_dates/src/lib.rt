@@ -6,6 +6,6 @@ mod day;
 mod day_range;
 mod laws;
 
-pub use crate::day::{read_date, write_date};
-pub use crate::day_range::DayRange;
-pub use crate::laws::{dates_are_ranges, day_numbers_fit, one_date_for_day, one_day_for_date};
+pub use day::{read_date, write_date};
+pub use day_range::DayRange;
+pub use laws::{dates_are_ranges, day_numbers_fit, one_date_for_day, one_day_for_date};

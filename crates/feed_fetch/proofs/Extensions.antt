@@ -22,7 +22,7 @@ use Rattle.feed_fetch.specs.declared.stop.RequestFault.{RequestFault}
 use Rattle.feed_fetch.specs.declared.stop.RequestFault.TheVariants.{Dial, Http}
 use Rattle.feed_fetch.specs.declared.stop.Stop.{Stop}
 use Rattle.feed_fetch.specs.declared.stop.Stop.TheVariants as stops
-use Rattle.feed_fetch.specs.Answers.{status_of, IsExcused, reply_or_stop, piece_result, offer_result, round_result, HasRightAnswer, HasCause, IsStoppedAt}
+use Rattle.feed_fetch.specs.Answers.{status_of, IsExcused, response_or_stop, piece_result, offer_result, round_result, HasRightAnswer, HasCause, IsStoppedAt}
 use Rattle.feed_fetch.specs.Effects.{IsExtension, IsCurrent, IsReported, IsStatusAfter, EndsWithStatus, IsPieceOf, IsTakenFrom}
 
 still_idle : (h : History) (e : Event) (a : Answer) → is_noted a ≡ false → is_taken a ≡ false → IsStill h ((e, a) ∷ h)
@@ -65,7 +65,7 @@ passed_after : (h : History) (e : Event) (n : Name) → IsPassed h n → IsPasse
 passed_after h e n p = passed_same h ((e, Ok replies.Older) ∷ h) (goods_still h ((e, Ok replies.Older) ∷ h) (still_idle h e (Ok replies.Older) refl refl)) n p
 
 -- where an answer stops a fetch, it was the last one
-stands : (h : History) (n : Name) (e : Event) (a : Answer) → (a ≡ Ok replies.Older → IsPassed ((e, a) ∷ h) n) → IfErr (reply_or_stop a) (λ stop. IsStoppedAt n stop ((e, a) ∷ h))
+stands : (h : History) (n : Name) (e : Event) (a : Answer) → (a ≡ Ok replies.Older → IsPassed ((e, a) ∷ h) n) → IfErr (response_or_stop a) (λ stop. IsStoppedAt n stop ((e, a) ∷ h))
 stands h n e (Ok replies.Noted) older = tt
 stands h n e (Ok replies.Known) older = tt
 stands h n e (Ok (replies.Stored m)) older = tt
@@ -77,13 +77,13 @@ stands h n e (Ok replies.Nothing) older = tt
 stands h n e (Err r) older = (e, (h, refl))
 
 pub stands_told : (h : History) (n : Name) (e : Event) (a : Answer) (result : Result Reply Stop) → (a ≡ Ok replies.Older → IsPassed ((e, a) ∷ h) n)
-    → (result ≡ reply_or_stop a) ⊎ (result ≡ Err stops.Print) → IfErr result (λ stop. IsStoppedAt n stop ((e, a) ∷ h))
+    → (result ≡ response_or_stop a) ⊎ (result ≡ Err stops.Print) → IfErr result (λ stop. IsStoppedAt n stop ((e, a) ∷ h))
 stands_told h n e a result older (inl same) = subst (λ (r : Result Reply Stop). IfErr r (λ stop. IsStoppedAt n stop ((e, a) ∷ h))) (sym same) (stands h n e a older)
 stands_told h n e a result older (inr same) = subst (λ (r : Result Reply Stop). IfErr r (λ stop. IsStoppedAt n stop ((e, a) ∷ h))) (sym same) tt
 
 pub stands_news : (h : History) (n : Name) (e : Event) (a : Answer) (result : Result Bool Stop) → (a ≡ Ok replies.Older → IsPassed ((e, a) ∷ h) n)
-    → (result ≡ piece_result (reply_or_stop a)) ⊎ (result ≡ Err stops.Print) → IfErr result (λ stop. IsStoppedAt n stop ((e, a) ∷ h))
-stands_news h n e a result older (inl same) = subst (λ (r : Result Bool Stop). IfErr r (λ stop. IsStoppedAt n stop ((e, a) ∷ h))) (sym same) (by (reply_or_stop a) (stands h n e a older))
+    → (result ≡ piece_result (response_or_stop a)) ⊎ (result ≡ Err stops.Print) → IfErr result (λ stop. IsStoppedAt n stop ((e, a) ∷ h))
+stands_news h n e a result older (inl same) = subst (λ (r : Result Bool Stop). IfErr r (λ stop. IsStoppedAt n stop ((e, a) ∷ h))) (sym same) (by (response_or_stop a) (stands h n e a older))
   where
     by : (r : Result Reply Stop) → IfErr r (λ stop. IsStoppedAt n stop ((e, a) ∷ h)) → IfErr (piece_result r) (λ stop. IsStoppedAt n stop ((e, a) ∷ h))
     by (Ok reply) so = tt
@@ -91,8 +91,8 @@ stands_news h n e a result older (inl same) = subst (λ (r : Result Bool Stop). 
 stands_news h n e a result older (inr same) = subst (λ (r : Result Bool Stop). IfErr r (λ stop. IsStoppedAt n stop ((e, a) ∷ h))) (sym same) tt
 
 pub stands_done : (h : History) (n : Name) (e : Event) (a : Answer) (result : Result (Unit {0}) Stop) → (a ≡ Ok replies.Older → IsPassed ((e, a) ∷ h) n)
-    → (result ≡ offer_result (reply_or_stop a)) ⊎ (result ≡ Err stops.Print) → IfErr result (λ stop. IsStoppedAt n stop ((e, a) ∷ h))
-stands_done h n e a result older (inl same) = subst (λ (r : Result (Unit {0}) Stop). IfErr r (λ stop. IsStoppedAt n stop ((e, a) ∷ h))) (sym same) (by (reply_or_stop a) (stands h n e a older))
+    → (result ≡ offer_result (response_or_stop a)) ⊎ (result ≡ Err stops.Print) → IfErr result (λ stop. IsStoppedAt n stop ((e, a) ∷ h))
+stands_done h n e a result older (inl same) = subst (λ (r : Result (Unit {0}) Stop). IfErr r (λ stop. IsStoppedAt n stop ((e, a) ∷ h))) (sym same) (by (response_or_stop a) (stands h n e a older))
   where
     by : (r : Result Reply Stop) → IfErr r (λ stop. IsStoppedAt n stop ((e, a) ∷ h)) → IfErr (offer_result r) (λ stop. IsStoppedAt n stop ((e, a) ∷ h))
     by (Ok reply) so = tt
@@ -110,10 +110,10 @@ older_offer h n s a right e =
 abbrev pub one_event : Event → Answer → History
 one_event e a = (e, a) ∷ []
 
--- one piece, as a reply gave it
+-- one piece, as a response gave it
 pub taken_piece : (c c' : Content) (n : Name) (given : Got) (first : ℕ) (total : Option ℕ) (bytes : List ℕ) (result : Result Bool Stop)
     → IsPieceOf given first total bytes
-    → HasRightAnswer (λ answer. (result ≡ piece_result (reply_or_stop answer)) ⊎ (result ≡ Err stops.Print)) c (Piece n first total bytes) c'
+    → HasRightAnswer (λ answer. (result ≡ piece_result (response_or_stop answer)) ⊎ (result ≡ Err stops.Print)) c (Piece n first total bytes) c'
     → IsExtension (IsTakenFrom n given) (λ k. IfErr result (λ stop. IsStoppedAt n stop k)) c c'
 taken_piece c c' n given first total bytes result of answered h is =
     let t = answered h is in (
@@ -126,7 +126,7 @@ taken_piece c c' n given first total bytes result of answered h is =
 -- a loss is reported to the feed, and the request is the reason for the stop, or the output failed
 pub lost_stops : (c c' : Content) (n : Name) (why : RequestFault) (fault : HttpFault) (result : Result Reply Stop) (stop : Stop) → why ≡ Http fault
     → MatchResult result (λ reply. stop ≡ stops.Request why) (λ unprinted. stop ≡ unprinted)
-    → HasRightAnswer (λ answer. (result ≡ reply_or_stop answer) ⊎ (result ≡ Err stops.Print)) c (Lost n) c'
+    → HasRightAnswer (λ answer. (result ≡ response_or_stop answer) ⊎ (result ≡ Err stops.Print)) c (Lost n) c'
     → (h : History) → IsContent c h
     → (answer : Answer) × (((stop ≡ stops.Request why) ⊎ (stop ≡ stops.Print)) × IsStoppedAt n stop ((Lost n, answer) ∷ h)) × IsContent c' ((Lost n, answer) ∷ h)
 lost_stops c c' n why fault result stop is_http so answered h is = let t = answered h is in (t.0, by t.0 result t.1 t.2 so, t.3)
@@ -136,11 +136,11 @@ lost_stops c c' n why fault result stop is_http so answered h is = let t = answe
         let http : s ≡ stops.Request (Http fault) = e ∙ ap (λ (w : RequestFault). stops.Request w) is_http in
         subst (λ (x : Stop). IsStoppedAt n x ((Lost n, a) ∷ h)) (sym http) (h, ap (λ (x : Answer). (Lost n, x) ∷ h) nothing)
 
-    by : (a : Answer) (r : Result Reply Stop) → a ≡ Ok replies.Nothing → (r ≡ reply_or_stop a) ⊎ (r ≡ Err stops.Print)
+    by : (a : Answer) (r : Result Reply Stop) → a ≡ Ok replies.Nothing → (r ≡ response_or_stop a) ⊎ (r ≡ Err stops.Print)
         → MatchResult r (λ reply. stop ≡ stops.Request why) (λ unprinted. stop ≡ unprinted)
         → ((stop ≡ stops.Request why) ⊎ (stop ≡ stops.Print)) × IsStoppedAt n stop ((Lost n, a) ∷ h)
     by a (Ok reply) nothing printed e = (inl e, at a stop nothing e)
-    by a (Err unprinted) nothing (inl same) e = absurd (let f : Err unprinted ≡ reply_or_stop (Ok replies.Nothing) = same ∙ ap reply_or_stop nothing in cc)
+    by a (Err unprinted) nothing (inl same) e = absurd (let f : Err unprinted ≡ response_or_stop (Ok replies.Nothing) = same ∙ ap response_or_stop nothing in cc)
     by a (Err unprinted) nothing (inr same) e = (let f : unprinted ≡ stops.Print = cc in (inr (e ∙ f), subst (λ (s : Stop). IsStoppedAt n s ((Lost n, a) ∷ h)) (sym (e ∙ f)) tt))
 
 pub extends_more : (A : Event → Type 0) (P Q : History → Type 0) (c d e : Content) → IsExtension A P c d → IsExtension A Q d e → IsExtension A Q c e
@@ -163,13 +163,13 @@ extends_any A P c d extends h is = let x = extends h is in (x.0, x.1, tt, x.3)
 pub part_within : (first total count most : ℕ) → first ≤ total → count ≡ min (total - first) most → first + count ≤ total
 part_within first total count most le is = omega (arith, is, le)
 
--- a piece is passed to the feed as the reply gave it
+-- a piece is passed to the feed as the response gave it
 pub piece_as_given : (c d : Content) (n : Name) (f g : ℕ) (t u : Option ℕ) (bytes read slice : List ℕ) (r : Result Bool Stop) → got.Piece f t bytes ≡ got.Piece g u read → slice ≡ bytes
-    → HasRightAnswer (λ answer. (r ≡ piece_result (reply_or_stop answer)) ⊎ (r ≡ Err stops.Print)) c (Piece n f t slice) d
-    → HasRightAnswer (λ answer. (r ≡ piece_result (reply_or_stop answer)) ⊎ (r ≡ Err stops.Print)) c (Piece n g u read) d
+    → HasRightAnswer (λ answer. (r ≡ piece_result (response_or_stop answer)) ⊎ (r ≡ Err stops.Print)) c (Piece n f t slice) d
+    → HasRightAnswer (λ answer. (r ≡ piece_result (response_or_stop answer)) ⊎ (r ≡ Err stops.Print)) c (Piece n g u read) d
 piece_as_given c d n f g t u bytes read slice r same is answered =
     let event : Piece n f t slice ≡ Piece n g u read = cc in
-    subst (λ (e : Event). HasRightAnswer (λ answer. (r ≡ piece_result (reply_or_stop answer)) ⊎ (r ≡ Err stops.Print)) c e d) event answered
+    subst (λ (e : Event). HasRightAnswer (λ answer. (r ≡ piece_result (response_or_stop answer)) ⊎ (r ≡ Err stops.Print)) c e d) event answered
 
 -- the status of a fetch that found nothing missing
 pub ends_done : (A : Event → Type 0) (n : Name) (c d : Content) (status : ℕ) (unprinted : Bool) (refused : Option DialFault)

@@ -30,7 +30,7 @@ passed_back n h k s p = (p.0, (good_back n p.0 h k s apart p.1.0, latest), p.2)
     apart : p.0 ≢ n
     apart e = let lt : n.day <ℤ p.0.day = p.2.1 in let d : p.0.day ≡ n.day = ap (λ (m : Name). m.day) e in absurd (omega (arith, ints))
 
-    latest : (m : Name) → m.stem ≡ p.0.stem → IsGood h m → m.day ≤ℤ p.0.day
+    latest : (m : Name) → m.package_name ≡ p.0.package_name → IsGood h m → m.day ≤ℤ p.0.day
     latest m e g = by (name_cases m n)
       where
         by : (m ≡ n) ⊎ (m ≢ n) → m.day ≤ℤ p.0.day

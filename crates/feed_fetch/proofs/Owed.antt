@@ -1,4 +1,4 @@
--- The steps that a reply owes, one after another.
+-- The steps that a response owes, one after another.
 use Rattle.std.proofs.Common.{◌≡◌, ◌≤◌, ◌<◌, ◌+◌, ◌-◌, ◌⊎◌, ℕ, Bool, true, false, List, [], ◌∷◌, ◌++◌, length, take, drop, min}
 use Rattle.std.proofs.Common.{Option, Some, None, Result, Ok, Err, inl, inr, refl, sym, ap, subst, ◌∙◌, arith}
 use Rattle.std.specs.Prelude.{slice_range, IfErr, IsTrue, MatchResult, All, nat_lt}
@@ -22,10 +22,10 @@ use Rattle.feed_fetch.specs.declared.stop.RequestFault.{RequestFault}
 use Rattle.feed_fetch.specs.declared.stop.RequestFault.TheVariants.{Dial, Http}
 use Rattle.feed_fetch.specs.declared.stop.Stop.{Stop}
 use Rattle.feed_fetch.specs.declared.stop.Stop.TheVariants as stops
-use Rattle.feed_fetch.specs.Answers.{HasCause, HasRightAnswer, IsExcused, IsStoppedAt, add_news, first_stop, offer_result, piece_result, reply_or_stop, round_result}
+use Rattle.feed_fetch.specs.Answers.{HasCause, HasRightAnswer, IsExcused, IsStoppedAt, add_news, first_stop, offer_result, piece_result, response_or_stop, round_result}
 use Rattle.feed_fetch.specs.Effects.{IsExtension, IsFilled, IsOpened, IsPieceOf}
 use Rattle.feed_fetch.specs.Owed.{AreSteps, IsSubmitted, end_of, is_followed, may_follow, owed_event, piece_at}
-use Rattle.feed_fetch.specs.Steps.{IsReplyEvent, without_news}
+use Rattle.feed_fetch.specs.Steps.{IsResponseEvent, without_news}
 use Rattle.feed_fetch.proofs.Extensions.{caused_more, lost_stops, older_offer, older_piece, stands_done, stands_news, stands_told}
 
 abbrev pub StopsAt : {T : Type 0} → Name → Result T Stop → History → Type 0
@@ -89,7 +89,7 @@ print_stop n k (Ok was) print = tt
 print_stop n k (Err stop) print = subst (λ (s : Stop). IsStoppedAt n s k) (sym print) tt
 
 -- an answer that a piece follows stops nothing
-followed_goes_on : (answer : Answer) (stop : Stop) → is_followed answer ≡ true → Err stop ≡ reply_or_stop answer → ⊥
+followed_goes_on : (answer : Answer) (stop : Stop) → is_followed answer ≡ true → Err stop ≡ response_or_stop answer → ⊥
 followed_goes_on (Ok (replies.Stored missing)) stop followed is = cc (is)
 followed_goes_on (Ok replies.Repeated) stop followed is = cc (is)
 followed_goes_on (Ok replies.Noted) stop followed is = cc (followed)
@@ -101,7 +101,7 @@ followed_goes_on (Ok replies.Nothing) stop followed is = cc (followed)
 followed_goes_on (Err refusal) stop followed is = cc (followed)
 
 pub news_printed : (answer : Answer) (was : Result Bool Stop) (reply : Result Reply Stop) → is_followed answer ≡ true → IfErr was (λ stop. stop ≡ stops.Print)
-    → (reply ≡ reply_or_stop answer) ⊎ (reply ≡ Err stops.Print) → IfErr (add_news was reply) (λ stop. stop ≡ stops.Print)
+    → (reply ≡ response_or_stop answer) ⊎ (reply ≡ Err stops.Print) → IfErr (add_news was reply) (λ stop. stop ≡ stops.Print)
 news_printed answer (Err stop) reply followed print so = print
 news_printed answer (Ok was) (Ok reply) followed print so = tt
 news_printed answer (Ok was) (Err stop) followed print (inl is) = absurd (followed_goes_on answer stop followed is)
@@ -119,7 +119,7 @@ answered_so (inr y) = inr y
 
 -- the piece that no other follows
 pub last_piece : (b c d : Content) (n : Name) (all : List ℕ) (first count : ℕ) (answer : Answer) (was : Result Bool Stop) (reply : Result Reply Stop) → first < length all
-    → count ≡ min (length all - first) piece_limit → is_followed answer ≡ false → IfErr was (λ stop. stop ≡ stops.Print) → (reply ≡ reply_or_stop answer) ⊎ (reply ≡ Err stops.Print)
+    → count ≡ min (length all - first) piece_limit → is_followed answer ≡ false → IfErr was (λ stop. stop ≡ stops.Print) → (reply ≡ response_or_stop answer) ⊎ (reply ≡ Err stops.Print)
     → IsUnderWay n all first b c → Handles c (Piece n first (Some (length all)) (slice_range all first (first + count))) answer d
     → IsSubmitted n phases.Offered (Ok (got.Whole all)) (StopsAt n (add_news was reply)) b d
 last_piece b c d n all first count answer was reply lt is last print so before handled h at =
@@ -142,7 +142,7 @@ all_pieces b c n all first was le print before h at =
 
 -- one piece
 pub one_piece : (c d : Content) (n : Name) (first : ℕ) (total : Option ℕ) (bytes : List ℕ) (result : Result Bool Stop)
-    → HasRightAnswer (λ answer. (result ≡ piece_result (reply_or_stop answer)) ⊎ (result ≡ Err stops.Print)) c (Piece n first total bytes) d
+    → HasRightAnswer (λ answer. (result ≡ piece_result (response_or_stop answer)) ⊎ (result ≡ Err stops.Print)) c (Piece n first total bytes) d
     → IsSubmitted n phases.Offered (Ok (got.Piece first total bytes)) (StopsAt n result) c d
 one_piece c d n first total bytes result answered h is =
     let t = answered h is in (
@@ -154,7 +154,7 @@ one_piece c d n first total bytes result answered h is =
 
 -- the offer
 pub one_offer : (c d : Content) (n : Name) (size : ℕ) (result : Result (Unit {0}) Stop)
-    → HasRightAnswer (λ answer. (result ≡ offer_result (reply_or_stop answer)) ⊎ (result ≡ Err stops.Print)) c (Offered n size) d
+    → HasRightAnswer (λ answer. (result ≡ offer_result (response_or_stop answer)) ⊎ (result ≡ Err stops.Print)) c (Offered n size) d
     → IsSubmitted n phases.New (Ok (got.Size size)) (StopsAt n result) c d
 one_offer c d n size result answered h is =
     let t = answered h is in (
@@ -164,7 +164,7 @@ one_offer c d n size result answered h is =
       t.3,
     )
 
--- a reply that owes nothing
+-- a response that owes nothing
 pub none_owed : (P : History → Type 0) (n : Name) (phase : Phase) (reply : Result Got RequestFault) (c : Content) → owed_event n phase reply [] ≡ None → ((h : History) → P h)
     → IsSubmitted n phase reply P c c
 none_owed P n phase reply c none all h is = ([], (tt, inl none), all h, is)
@@ -179,7 +179,7 @@ one_loss P n phases.Stopped fault c d runs lost h is = absurd (runs refl)
 
 pub lost_steps : (c d : Content) (n : Name) (why : RequestFault) (fault : HttpFault) (result : Result Reply Stop) (stop : Stop) (phase : Phase) → why ≡ Http fault
     → MatchResult result (λ reply. stop ≡ stops.Request why) (λ unprinted. stop ≡ unprinted)
-    → HasRightAnswer (λ answer. (result ≡ reply_or_stop answer) ⊎ (result ≡ Err stops.Print)) c (Lost n) d → (phase ≡ phases.Stopped → ⊥)
+    → HasRightAnswer (λ answer. (result ≡ response_or_stop answer) ⊎ (result ≡ Err stops.Print)) c (Lost n) d → (phase ≡ phases.Stopped → ⊥)
     → IsSubmitted n phase (Err why) (λ k. ((stop ≡ stops.Request why) ⊎ (stop ≡ stops.Print)) × IsStoppedAt n stop k) c d
 lost_steps c d n why fault result stop phase http so answered runs =
     subst (λ (w : RequestFault). IsSubmitted n phase (Err w) (λ k. ((stop ≡ stops.Request why) ⊎ (stop ≡ stops.Print)) × IsStoppedAt n stop k) c d) (sym http)
@@ -188,8 +188,8 @@ lost_steps c d n why fault result stop phase http so answered runs =
 -- a print that failed before the offer is the reason for the stop
 pub offer_reported : (c d : Content) (n : Name) (given : Got) (size : ℕ) (X : Stop → Type 0) (reported offered : Result (Unit {0}) Stop) → given ≡ got.Size size
     → IfErr reported (λ stop. (stop ≡ stops.Print) ⊎ (((size : ℕ) → given ≡ got.Size size → ⊥) × X stop))
-    → HasRightAnswer (λ answer. (offered ≡ offer_result (reply_or_stop answer)) ⊎ (offered ≡ Err stops.Print)) c (Offered n size) d
-    → HasRightAnswer (λ answer. (first_stop reported offered ≡ offer_result (reply_or_stop answer)) ⊎ (first_stop reported offered ≡ Err stops.Print)) c (Offered n size) d
+    → HasRightAnswer (λ answer. (offered ≡ offer_result (response_or_stop answer)) ⊎ (offered ≡ Err stops.Print)) c (Offered n size) d
+    → HasRightAnswer (λ answer. (first_stop reported offered ≡ offer_result (response_or_stop answer)) ⊎ (first_stop reported offered ≡ Err stops.Print)) c (Offered n size) d
 offer_reported c d n given size X (Ok done) offered is printed answered h at = answered h at
 offer_reported c d n given size X (Err stop) offered is (inl print) answered h at = let t = answered h at in (t.0, t.1, inr (ap (λ (s : Stop). Err s) print), t.3)
 offer_reported c d n given size X (Err stop) offered is (inr other) answered h at = absurd (other.0 size is)
@@ -251,46 +251,46 @@ piece_in all first lt =
     let same : first + length (take piece_limit (drop first all)) - first ≡ length (take piece_limit (drop first all)) = omega arith in
     (refl, omega (arith, count, rest, lt), sym (ap (λ k. take k (drop first all)) same ∙ take_most piece_limit (length (take piece_limit (drop first all))) (drop first all) count))
 
-whole_event : (n : Name) (all : List ℕ) (first : ℕ) (event : Event) → piece_at n all first ≡ Some event → IsReplyEvent n phases.Offered (Ok (got.Whole all)) event
+whole_event : (n : Name) (all : List ℕ) (first : ℕ) (event : Event) → piece_at n all first ≡ Some event → IsResponseEvent n phases.Offered (Ok (got.Whole all)) event
 whole_event n all first event is = by (nat_lt first (length all)) refl
   where
-    by : (b : Bool) → nat_lt first (length all) ≡ b → IsReplyEvent n phases.Offered (Ok (got.Whole all)) event
+    by : (b : Bool) → nat_lt first (length all) ≡ b → IsResponseEvent n phases.Offered (Ok (got.Whole all)) event
     by false outside = absurd (let none : piece_at n all first ≡ None = rw outside refl in cc (none, is))
     by true inside =
         let lt : first < length all = grind (arith, nat_tests) in
         let piece : piece_at n all first ≡ Some (Piece n first (Some (length all)) (take piece_limit (drop first all))) = rw inside refl in
         let same : Piece n first (Some (length all)) (take piece_limit (drop first all)) ≡ event = cc (piece, is) in
-        subst (IsReplyEvent n phases.Offered (Ok (got.Whole all))) same (refl, piece_in all first lt)
+        subst (IsResponseEvent n phases.Offered (Ok (got.Whole all))) same (refl, piece_in all first lt)
 
--- an owed event is one that the reply gives
-step_event : (n : Name) (phase : Phase) (reply : Result Got RequestFault) (earlier : History) (event : Event) → owed_event n phase reply earlier ≡ Some event → IsReplyEvent n phase reply event
-step_event n phases.New (Ok (got.Size size)) [] event is = let same : Offered n size ≡ event = cc (is) in subst (IsReplyEvent n phases.New (Ok (got.Size size))) same (refl, refl)
+-- an owed event is one that the response gives
+step_event : (n : Name) (phase : Phase) (reply : Result Got RequestFault) (earlier : History) (event : Event) → owed_event n phase reply earlier ≡ Some event → IsResponseEvent n phase reply event
+step_event n phases.New (Ok (got.Size size)) [] event is = let same : Offered n size ≡ event = cc (is) in subst (IsResponseEvent n phases.New (Ok (got.Size size))) same (refl, refl)
 step_event n phases.New (Ok (got.Size size)) (step ∷ more) event is = absurd (cc (is))
 step_event n phases.New (Ok (got.Piece first total bytes)) earlier event is = absurd (cc (is))
 step_event n phases.New (Ok (got.Whole all)) earlier event is = absurd (cc (is))
 step_event n phases.New (Ok got.Missing) earlier event is = absurd (cc (is))
 step_event n phases.New (Ok (got.Unsatisfied total)) earlier event is = absurd (cc (is))
-step_event n phases.New (Err (Http fault)) [] event is = let same : Lost n ≡ event = cc (is) in subst (IsReplyEvent n phases.New (Err (Http fault))) same refl
+step_event n phases.New (Err (Http fault)) [] event is = let same : Lost n ≡ event = cc (is) in subst (IsResponseEvent n phases.New (Err (Http fault))) same refl
 step_event n phases.New (Err (Http fault)) (step ∷ more) event is = absurd (cc (is))
 step_event n phases.New (Err (Dial fault)) earlier event is = absurd (cc (is))
 step_event n phases.Offered (Ok (got.Piece first total bytes)) [] event is =
-    let same : Piece n first total bytes ≡ event = cc (is) in subst (IsReplyEvent n phases.Offered (Ok (got.Piece first total bytes))) same (refl, (refl, refl, refl))
+    let same : Piece n first total bytes ≡ event = cc (is) in subst (IsResponseEvent n phases.Offered (Ok (got.Piece first total bytes))) same (refl, (refl, refl, refl))
 step_event n phases.Offered (Ok (got.Piece first total bytes)) (step ∷ more) event is = absurd (cc (is))
 step_event n phases.Offered (Ok (got.Whole all)) earlier event is = whole_event n all (end_of earlier) event is
 step_event n phases.Offered (Ok (got.Size size)) earlier event is = absurd (cc (is))
 step_event n phases.Offered (Ok got.Missing) earlier event is = absurd (cc (is))
 step_event n phases.Offered (Ok (got.Unsatisfied total)) earlier event is = absurd (cc (is))
-step_event n phases.Offered (Err (Http fault)) [] event is = let same : Lost n ≡ event = cc (is) in subst (IsReplyEvent n phases.Offered (Err (Http fault))) same refl
+step_event n phases.Offered (Err (Http fault)) [] event is = let same : Lost n ≡ event = cc (is) in subst (IsResponseEvent n phases.Offered (Err (Http fault))) same refl
 step_event n phases.Offered (Err (Http fault)) (step ∷ more) event is = absurd (cc (is))
 step_event n phases.Offered (Err (Dial fault)) earlier event is = absurd (cc (is))
 step_event n phases.Stopped reply earlier event is = absurd (cc (is))
 
--- the steps that a reply owes are events that it gives
-pub steps_given : (n : Name) (phase : Phase) (reply : Result Got RequestFault) (steps : History) → AreSteps n phase reply steps → All (λ step. IsReplyEvent n phase reply step.0) steps
-steps_given n phase reply [] are = All-nil (λ step. IsReplyEvent n phase reply step.0)
+-- the steps that a response owes are events that it gives
+pub steps_given : (n : Name) (phase : Phase) (reply : Result Got RequestFault) (steps : History) → AreSteps n phase reply steps → All (λ step. IsResponseEvent n phase reply step.0) steps
+steps_given n phase reply [] are = All-nil (λ step. IsResponseEvent n phase reply step.0)
 steps_given n phase reply ((event, answer) ∷ earlier) are =
-    All-cons (λ step. IsReplyEvent n phase reply step.0) (event, answer) earlier (step_event n phase reply earlier event are.0) (steps_given n phase reply earlier are.2)
+    All-cons (λ step. IsResponseEvent n phase reply step.0) (event, answer) earlier (step_event n phase reply earlier event are.0) (steps_given n phase reply earlier are.2)
 
 pub submitted_extends : (P : History → Type 0) (n : Name) (phase : Phase) (reply : Result Got RequestFault) (c d : Content) → IsSubmitted n phase reply P c d
-    → IsExtension (IsReplyEvent n phase reply) P c d
+    → IsExtension (IsResponseEvent n phase reply) P c d
 submitted_extends P n phase reply c d submitted h is = let x = submitted h is in (x.0, steps_given n phase reply x.0 x.1.0, x.2, x.3)

@@ -1,7 +1,7 @@
 -- A fetch from an honest server, exchange by exchange.
 use Rattle.std.proofs.Common.{◌≡◌, ◌<◌, ◌≤◌, ◌+◌, ℕ, zero, suc, List, length, Some, None, IsSome, Ok, Err, refl, sym, ◌∙◌, subst, arith}
 use Rattle.feed_names.specs.ReleaseName.{Name}
-use Rattle.feed_dial.specs.Replies.{Replies}
+use Rattle.feed_dial.specs.Responses.{Responses}
 use Rattle.feed_model.specs.History.{History, kept, IsFile}
 use Rattle.feed_model.specs.Content.{Content, IsContent}
 use Rattle.feed_model.proofs.Bytes.{slice_some}
@@ -10,7 +10,7 @@ use Rattle.feed_fetch.specs.declared.machine.Next.{Next}
 use Rattle.feed_fetch.specs.declared.machine.Next.TheVariants.{Ask, Done}
 use Rattle.feed_fetch.specs.declared.machine.Phase.{Phase}
 use Rattle.feed_fetch.specs.declared.machine.Phase.TheVariants as phases
-use Rattle.feed_fetch.specs.declared.machine.Request.TheVariants as requests
+use Rattle.feed_fetch.specs.declared.machine.FetchRequest.TheVariants as requests
 use Rattle.feed_fetch.specs.Effects.{IsFetchable, IsOpenTo, IsFilling, IsReported}
 use Rattle.feed_fetch.specs.Exchanges.{AreExchanges, IsHonestFetch, IsBounded, IsEnding, IsExcusedAlone, NeedsWhole}
 use Rattle.feed_fetch.specs.Gaps.{requests_of}
@@ -19,11 +19,11 @@ use Rattle.feed_fetch.proofs.Gaps.{ceil_none, needed_before, needed_missing, nee
 use Rattle.feed_fetch.proofs.Filling.{asked_next, nothing_next}
 use Rattle.feed_fetch.proofs.Runs.{IsRun, IsHonest, taken_of, run_more, run_stops}
 
-honest_of : (replies : Replies) (host : List ℕ) (n : Name) (file : List ℕ) (piece : ℕ) (c : Content) (h : History) → IsHonestFetch replies host n file piece c h
+honest_of : (replies : Responses) (host : List ℕ) (n : Name) (file : List ℕ) (piece : ℕ) (c : Content) (h : History) → IsHonestFetch replies host n file piece c h
     → IsHonest replies host n file piece
 honest_of replies host n file piece c h fetch = record { serves = fetch.serves; hosted = fetch.host_is; fit = fetch.fit; least = fetch.least; most = fetch.most }
 
-run_of : (replies : Replies) (host : List ℕ) (n : Name) (file : List ℕ) (piece count : ℕ) (c d : Content) (phase : Phase) → IsHonest replies host n file piece
+run_of : (replies : Responses) (host : List ℕ) (n : Name) (file : List ℕ) (piece count : ℕ) (c d : Content) (phase : Phase) → IsHonest replies host n file piece
     → AreExchanges replies host n piece count phases.New c phase d → IsRun n file piece phase count c d
 run_of replies host n file piece zero c d phase honest (at, same) = subst (λ (p : Phase). IsRun n file piece p 0 c d) (sym at) (refl, same)
 run_of replies host n file piece (suc count) c d phase honest (before, between, earlier, one, at) =
@@ -79,16 +79,16 @@ run_ending n file piece count phases.Offered c d h next fit least most at ready 
         (λ all. refl, λ done. (omega (arith, is, none, left), (x.0, x.2, (refl, (record_good d x.0 x.2 n (file, whole, fit.good) x.1.0.current).3))))
 run_ending n file piece count phases.Stopped c d h next fit least most at ready run step = absurd run
 
-pub bounded : (replies : Replies) → IsBounded replies
+pub bounded : (replies : Responses) → IsBounded replies
 bounded replies host n file piece count c d phase h fetch exchanges =
     run_bounded n file piece count phase c d h fetch.content fetch.ready (run_of replies host n file piece count c d phase (honest_of replies host n file piece c h fetch) exchanges)
 
-pub ending : (replies : Replies) → IsEnding replies
+pub ending : (replies : Responses) → IsEnding replies
 ending replies host n file piece count c d phase h fetch exchanges next step =
     run_ending n file piece count phase c d h next fetch.fit fetch.least fetch.most fetch.content fetch.ready
     (run_of replies host n file piece count c d phase (honest_of replies host n file piece c h fetch) exchanges) step
 
-pub excused_alone : (replies : Replies) → IsExcusedAlone replies
+pub excused_alone : (replies : Responses) → IsExcusedAlone replies
 excused_alone replies host n file piece count c d e phase h stop fetch exchanges last =
     let honest = honest_of replies host n file piece c h fetch in
     let stops = run_stops replies host n file piece count phase last.request last.reply stop c d e honest last.asks last.replied

@@ -15,11 +15,11 @@ use Rattle.feed_fetch.specs.declared.stop.Stop.{Stop}
 use Rattle.feed_fetch.specs.declared.stop.Stop.TheVariants as stops
 
 -- whether a fetch continues after this answer, or why it stops
-abbrev pub reply_or_stop : Answer → Result Reply Stop
-reply_or_stop (Ok replies.Older) = Err stops.Older
-reply_or_stop (Ok (replies.Broken why)) = Err stops.Broken
-reply_or_stop (Ok reply) = Ok reply
-reply_or_stop (Err refusal) = Err (stops.Refused refusal)
+abbrev pub response_or_stop : Answer → Result Reply Stop
+response_or_stop (Ok replies.Older) = Err stops.Older
+response_or_stop (Ok (replies.Broken why)) = Err stops.Broken
+response_or_stop (Ok reply) = Ok reply
+response_or_stop (Err refusal) = Err (stops.Refused refusal)
 
 -- the reply reports new bytes
 abbrev pub has_new_bytes : Reply → Bool

@@ -8,8 +8,8 @@ use Rattle.feed_http.specs.declared.fetching.got.Got.{Got}
 use Rattle.feed_http.specs.declared.fetching.got.Got.TheVariants as got
 use Rattle.feed_http.specs.Shelves.{Files}
 use Rattle.feed_dial.specs.declared.DialFault.{DialFault}
-use Rattle.feed_dial.specs.Replies.{Replies, Unknown, Known, IfKnown}
-use Rattle.feed_fetch.specs.Servers.{IsServer, IsReplied}
+use Rattle.feed_dial.specs.Responses.{Responses, Unknown, Known, IfKnown}
+use Rattle.feed_fetch.specs.Servers.{IsServer, IsResponded}
 use Rattle.feed_fetch.specs.declared.stop.Stop.{Stop}
 use Rattle.feed_fetch.specs.Answers.{HasCause, IsExcused, IsStoppedAt, status_of}
 use Rattle.feed_model.specs.File.{fault_of}
@@ -19,22 +19,22 @@ use Rattle.feed_model.specs.Content.{Content, IsContent}
 use Rattle.feed_releases.specs.NextRange.{IsNext, IsNextRange}
 use Rattle.feed_fetch.specs.Gaps.{requests_of}
 
--- exactly the piece that the reply gave, or some range of the complete file that it gave, with its length
+-- exactly the piece that the response gave, or some range of the complete file that it gave, with its length
 abbrev pub IsPieceOf : Got → ℕ → Option ℕ → List ℕ → Type 0
 IsPieceOf (got.Piece place size all) first total bytes = (first ≡ place) × (total ≡ size) × (bytes ≡ all)
 IsPieceOf (got.Whole all) first total bytes = (total ≡ Some (length all)) × (first + length bytes ≤ length all) × (bytes ≡ slice_range all first (first + length bytes))
 IsPieceOf _ first total bytes = ⊥
 
--- a piece of the release, as the reply gave it
+-- a piece of the release, as the response gave it
 abbrev pub IsTakenFrom : Name → Got → Event → Type 0
 IsTakenFrom n given (Piece m first total bytes) = (m ≡ n) × IsPieceOf given first total bytes
 IsTakenFrom n given _ = ⊥
 
--- the offer of the release, with the length that a reply gave; a piece of it, as a reply gave it; or its loss
-abbrev pub IsFetchEvent : Replies → List ℕ → Name → Event → Type 0
-IsFetchEvent replies host n (Offered m size) = (m ≡ n) × IfKnown replies (λ IsReplyTo. IsReplied IsReplyTo Head (head_request_text host (text_of n)) (Ok (got.Size size)))
+-- the offer of the release, with the length that a response gave; a piece of it, as a response gave it; or its loss
+abbrev pub IsFetchEvent : Responses → List ℕ → Name → Event → Type 0
+IsFetchEvent replies host n (Offered m size) = (m ≡ n) × IfKnown replies (λ IsResponseTo. IsResponded IsResponseTo Head (head_request_text host (text_of n)) (Ok (got.Size size)))
 IsFetchEvent replies host n (Piece m first total bytes) =
-    (m ≡ n) × IfKnown replies (λ IsReplyTo. (low high : ℕ) × (given : Got) × IsReplied IsReplyTo Get (get_text host (text_of n) low high) (Ok given) × IsPieceOf given first total bytes)
+    (m ≡ n) × IfKnown replies (λ IsResponseTo. (low high : ℕ) × (given : Got) × IsResponded IsResponseTo Get (get_text host (text_of n) low high) (Ok given) × IsPieceOf given first total bytes)
 IsFetchEvent replies host n (Lost m) = m ≡ n
 
 -- for every history that has the content c, c' is a content of it with more events added, each of them permitted, and
@@ -49,7 +49,7 @@ IsTransition Before After c c' = (h : History) → IsContent c h → Before h �
 
 -- the release is reported
 abbrev pub IsReported : Name → History → Type 0
-IsReported n h = Reports h n.stem (Some n)
+IsReported n h = Reports h n.package_name (Some n)
 
 -- the release is reported, or a later one is
 abbrev pub IsCurrent : Name → History → Type 0
@@ -71,10 +71,10 @@ abbrev pub EndsWithStatus : Name → ℕ → Bool → Option DialFault → Histo
 EndsWithStatus n status unprinted refused k =
     (status ≡ 0 → IsCurrent n k) × ((outcome : Result (Unit {0}) Stop) × IfErr outcome (λ stop. IsStoppedAt n stop k × HasCause unprinted refused stop) × IsStatusAfter n outcome status k)
 
--- the replies of a peer are known, and it serves this file of the release
-abbrev pub ServesFile : Replies → Name → List ℕ → Type 0
+-- the responses of a peer are known, and it serves this file of the release
+abbrev pub ServesFile : Responses → Name → List ℕ → Type 0
 ServesFile Unknown n file = ⊥
-ServesFile (Known IsReplyTo) n file = (files : Files) × IsServer files IsReplyTo × (files n ≡ Some file) × IsName (text_of n) n
+ServesFile (Known IsResponseTo) n file = (files : Files) × IsServer files IsResponseTo × (files n ≡ Some file) × IsName (text_of n) n
 
 -- a file that a release may have, and that is good
 pub record IsFetchable (file : List ℕ) : Type 0 where

@@ -1,4 +1,4 @@
--- The exit status after a fetch, and the last lines of the reply to its client.
+-- The exit status after a fetch, and the last lines of the response to its client.
 use Rattle.std.specs.Prelude.{◌≡◌, ◌⊎◌, ◌++◌, ℕ, List, [], Option, None, Some, codes}
 use Rattle.std.specs.Fmt.{decimal}
 use Rattle.std.specs.Option.{option_map}

@@ -5,7 +5,7 @@ use Rattle.std.specs.Io.KnownBytes.{Appends}
 use Rattle.feed_model.specs.History.{Answer}
 use Rattle.feed_model.specs.Texts.{refusal_text, reply_text}
 use Rattle.feed_model.specs.declared.reply.Reply.{Reply}
-use Rattle.feed_fetch.specs.Answers.{reply_or_stop}
+use Rattle.feed_fetch.specs.Answers.{response_or_stop}
 use Rattle.feed_fetch.specs.declared.stop.Stop.{Stop}
 use Rattle.feed_fetch.specs.declared.stop.Stop.TheVariants as stops
 use Rattle.feed_fetch.specs.declared.events.FetchEvent.{FetchEvent}
@@ -34,4 +34,4 @@ answer_text (Err refusal) = event_text (events.Refused refusal)
 
 -- the answer was printed, and the fetch continues after it or stops; or the print failed
 abbrev pub IsPrintedAs : Option (List ℕ) → Option (List ℕ) → Answer → Result Reply Stop → Type 0
-IsPrintedAs old new answer result = ((result ≡ reply_or_stop answer) × HasLine old new (answer_text answer)) ⊎ (result ≡ Err stops.Print)
+IsPrintedAs old new answer result = ((result ≡ response_or_stop answer) × HasLine old new (answer_text answer)) ⊎ (result ≡ Err stops.Print)

@@ -10,7 +10,7 @@ abbrev pub unless_read : Bool → List ℕ → Option (List ℕ)
 unless_read true written = None
 unless_read false written = Some written
 
--- if what was written is known, the rest to read is the reply to it
+-- if what was written is known, the rest to read is the response to it
 pub IsSomeAnd-unless_read : (is_read : Bool) (written reply text : List ℕ) (files : Files) → (is_read ≡ false → IsServed files written reply)
     → unless_read is_read written ≡ Some text → IsSomeAnd (Some reply) (IsServed files text)
 IsSomeAnd-unless_read true written reply text files replied is = absurd (cc)

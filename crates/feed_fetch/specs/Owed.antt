@@ -1,4 +1,4 @@
--- The events that a fetch owes to the feed for a reply.
+-- The events that a fetch owes to the feed for a response.
 use Rattle.std.specs.Prelude.{◌≡◌, ◌+◌, ◌⊎◌, ⊤, ℕ, Bool, true, false, List, [], ◌∷◌, ◌++◌, length, take, drop, Option, Some, None, Result, Ok, Err}
 use Rattle.std.specs.Prelude.{if◌then◌else◌, nat_lt}
 use Rattle.feed_names.specs.ReleaseName.{Name}
@@ -22,8 +22,8 @@ abbrev pub end_of : History → ℕ
 end_of ((Piece n first total bytes, answer) ∷ earlier) = first + length bytes
 end_of _ = 0
 
--- the next event that a reply owes after these steps, the newest first: the offer of the length that it states; the piece
--- that it gives; the pieces of a whole file, in order; or the loss of a request that failed
+-- the next event that a response owes after these steps, the newest first: the offer of the length that it states; the
+-- piece that it gives; the pieces of a whole file, in order; or the loss of a request that failed
 abbrev pub owed_event : Name → Phase → Result Got RequestFault → History → Option Event
 owed_event n phases.New (Ok (got.Size size)) [] = Some (Offered n size)
 owed_event n phases.New (Err (Http fault)) [] = Some (Lost n)
@@ -43,18 +43,18 @@ abbrev pub may_follow : History → Bool
 may_follow [] = true
 may_follow ((event, answer) ∷ earlier) = is_followed answer
 
--- each step is the one that the reply owes after those before it
+-- each step is the one that the response owes after those before it
 abbrev pub AreSteps : Name → Phase → Result Got RequestFault → History → Type 0
 AreSteps n phase reply [] = ⊤
 AreSteps n phase reply ((event, answer) ∷ earlier) =
     (owed_event n phase reply earlier ≡ Some event) × (may_follow earlier ≡ true) × AreSteps n phase reply earlier
 
--- the steps are those that the reply owes: all, or those up to the first answer that none follows
+-- the steps are those that the response owes: all, or those up to the first answer that none follows
 abbrev pub AreOwed : Name → Phase → Result Got RequestFault → History → Type 0
 AreOwed n phase reply steps = AreSteps n phase reply steps × ((owed_event n phase reply steps ≡ None) ⊎ (may_follow steps ≡ false))
 
--- for every history that has the content c, c' is a content of it with exactly the steps that the reply owes added, and
--- the result meets the condition
+-- for every history that has the content c, c' is a content of it with exactly the steps that the response owes added,
+-- and the result meets the condition
 abbrev pub IsSubmitted : Name → Phase → Result Got RequestFault → (History → Type 0) → Content → Content → Type 0
 IsSubmitted n phase reply Stands c c' =
     (h : History) → IsContent c h → (steps : History) × AreOwed n phase reply steps × Stands (steps ++ h) × IsContent c' (steps ++ h)

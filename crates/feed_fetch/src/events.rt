@@ -1,11 +1,12 @@
 //! The events of a fetch, as values.
+use crate::printer::Unprinted;
 use feed_model::{Refusal, Reply};
 use std::fmt;
 
 /// An event of a fetch. Its text is a line of the output.
 #[derive(Clone, Copy, Debug, PartialEq, Eq)]
 pub enum FetchEvent {
-    /// A reply stated the length of the file.
+    /// A response stated the length of the file.
     Size(u64),
     /// The feed accepted an event.
     Accepted(Reply),
@@ -32,4 +33,27 @@ impl fmt::Display for FetchEvent {
             FetchEvent::Unsatisfied => f.write_str("unsatisfied"),
         }
     }
+}
+
+/// Gets the events of a fetch as values, each when it happens, and records whether one was not printed.
+pub trait Observe {
+    ghost use Rattle.std.specs.Prelude.{◌≡◌, ℕ, Bool, List, Option, IsTrue, None, OnOk, OnErr};
+    ghost use Rattle.feed_fetch.specs.Lines.{event_text, HasLine};
+
+    /// Whether an event was not printed.
+    ghost has_failed: { Self → Bool };
+
+    // The lines that it printed, if its contracts name them.
+    ghost lines: { Self → Option (List ℕ) } = { λ _. None };
+
+    /// Takes an event.
+    fn observe(&mut self, event: FetchEvent) -> Result<(), Unprinted>
+        ensures printed { OnOk result (has_failed self.new ≡ has_failed self.old) }
+        ensures line { OnOk result (HasLine (lines self.old) (lines self.new) (event_text event)) }
+        ensures failed { OnErr result (IsTrue (has_failed self.new)) };
+
+    /// Takes the end of the fetch.
+    fn finish(&mut self) -> Result<(), Unprinted>
+        ensures printed { OnOk result (has_failed self.new ≡ has_failed self.old) }
+        ensures failed { OnErr result (IsTrue (has_failed self.new)) };
 }

@@ -1,4 +1,4 @@
-//! How a fetch of a node ends: the last lines of the reply to the client that requested it.
+//! How a fetch of a node ends: the last lines of the response to the client that requested it.
 ghost use Rattle.std.specs.Prelude.{◌≡◌, Option, IfSome, IsTrue};
 ghost use Rattle.feed_model.specs.Content.{IsContent};
 ghost use Rattle.feed_model.specs.History.{History};
@@ -45,8 +45,8 @@ pub fn status_after<K: Keep>(feed: &Feed<K>, name: &ReleaseName, end: FetchEnd) 
     }
 }
 
-/// Prints the last lines of the reply: the fault, if there is one, or why a release is broken that was complete before,
-/// and then the exit status, which it returns.
+/// Prints the last lines of the response: the fault, if there is one, or why a release is broken that was complete
+/// before, and then the exit status, which it returns.
 pub fn print_end<K: Keep, O: Write>(
     feed: &Feed<K>,
     name: &ReleaseName,

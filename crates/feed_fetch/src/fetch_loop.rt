@@ -7,13 +7,13 @@ ghost use Rattle.feed_fetch.specs.Answers.{status_of, HasCause, IsExcused, IsSto
 ghost use Rattle.feed_fetch.specs.Effects.{IsExtension, IsFetchEvent, EndsWithStatus, ServesFile, IsFetchable};
 ghost use Rattle.feed_fetch.specs.Effects.{IsOpenTo, IsFetched, IsReported, IsAllFetched};
 ghost use Rattle.feed_fetch.specs.FetchEnds.{stop_lines};
-ghost use Rattle.feed_fetch.specs.Steps.{IsReplyOf};
+ghost use Rattle.feed_fetch.specs.Steps.{IsResponseOf};
 ghost use Rattle.feed_fetch.specs.Printing.{has_failed, HasAppended, IfPrinted};
 ghost use Rattle.feed_http.specs.RequestTexts.{is_host};
 ghost use Rattle.feed_limits.specs.Limits.{piece_limit};
 
-use crate::machine::{Fetch, Next, Phase, Request};
-use crate::observe::Observe;
+use crate::events::Observe;
+use crate::machine::{Fetch, FetchRequest, Next, Phase};
 use crate::printer::{Printer, Unprinted};
 use crate::requests::{request_range, request_size};
 use crate::stop::{RequestFault, Stop};
@@ -26,22 +26,22 @@ use feed_releases::Feed;
 use std::alloc::Global;
 use std::io::Write;
 
-// Makes a request and reads the reply.
+// Makes a request and reads the response.
 fn send<D: Dial>(
     alloc: Global,
     dial: &mut D,
     host: &[u8],
     name: &ReleaseName,
-    request: Request,
+    request: FetchRequest,
 ) -> Result<Got, RequestFault>
     requires { IsTrue (is_host host.now) }
-    ensures reply { IsReplyOf D.replies host.now name.now request result }
+    ensures reply { IsResponseOf D.responses host.now name.now request result }
     ensures refused { (fault : DialFault) → result ≡ Err (RequestFault.Dial fault)
         → D.last_fault dial.new ≡ Some fault }
 {
     match request {
-        Request::Length => request_size(alloc, dial, host, name),
-        Request::Range { first, last } => request_range(alloc, dial, host, name, first, last),
+        FetchRequest::Length => request_size(alloc, dial, host, name),
+        FetchRequest::Range { first, last } => request_range(alloc, dial, host, name, first, last),
     }
 }
 
@@ -58,9 +58,9 @@ pub fn fetch_file<D: Dial, K: Keep, O: Observe>(
 ) -> Result<(), Stop>
     requires host { IsTrue (is_host host.now) }
     requires new { fetch.phase ≡ Phase.New }
-    ensures extends { IsExtension (IsFetchEvent D.replies host.now name.now)
+    ensures extends { IsExtension (IsFetchEvent D.responses host.now name.now)
         (λ k. IfErr result (λ stop. IsStoppedAt name.now stop k)) (recorded feed.old) (recorded feed.new) }
-    ensures gets { (file : List ℕ) → ServesFile D.replies name.now file → IsFetchable file
+    ensures gets { (file : List ℕ) → ServesFile D.responses name.now file → IsFetchable file
         → IsFetched name.now file result (recorded feed.old) (recorded feed.new) }
     ensures done { OnOk result ((h : History) → IsContent (recorded feed.new) h → IsAllFetched name.now h) }
     ensures caused { IfErr result (λ stop. HasCause (O.has_failed out.new) (D.last_fault dial.new) stop) }
@@ -128,10 +128,10 @@ pub fn fetch_with<D: Dial, K: Keep, O: Observe, F: Write>(
     requires host { IsTrue (is_host host.now) }
     requires least { 1 ≤ piece }
     requires most { piece ≤ piece_limit }
-    ensures extends { IsExtension (IsFetchEvent D.replies host.now name.now)
+    ensures extends { IsExtension (IsFetchEvent D.responses host.now name.now)
         (EndsWithStatus name.now result (O.has_failed out.new || has_failed faults.new) (D.last_fault dial.new))
         (recorded feed.old) (recorded feed.new) }
-    ensures gets { (file : List ℕ) → ServesFile D.replies name.now file → IsFetchable file → (h : History)
+    ensures gets { (file : List ℕ) → ServesFile D.responses name.now file → IsFetchable file → (h : History)
         → IsContent (recorded feed.old) h → IsOpenTo name.now file h → (result ≡ 0) ⊎ (result ≡ 3) }
 {
     let fetch = Fetch::new(piece);

@@ -10,12 +10,12 @@ pub fn header_is_fetchable()
     ensures { IsFetchable header_alone }
 {}
 
-/// A fetch ends, for any caller of `Fetch::next` and `Fetch::take`. If each exchange gets the reply of a server that
-/// has the file (`D` states the replies of the peer), `next` returns `Done` after one exchange for the length and one
+/// A fetch ends, for any caller of `Fetch::next` and `Fetch::take`. If each exchange gets the response of a server that
+/// has the file (`D` states the responses of the peer), `next` returns `Done` after one exchange for the length and one
 /// for each piece of each gap, and the release is then reported. Only an excused stop ends the fetch before.
 pub fn fetch_ends<D: Dial>()
-    ensures bounded { IsBounded D.replies }
-    ensures ending { IsEnding D.replies }
-    ensures excused { IsExcusedAlone D.replies }
+    ensures bounded { IsBounded D.responses }
+    ensures ending { IsEnding D.responses }
+    ensures excused { IsExcusedAlone D.responses }
     ensures whole { NeedsWhole }
 {}

@@ -1,18 +1,18 @@
-//! A fetch of one release, as a machine that does no I/O: it says what to request next, and takes the replies.
+//! A fetch of one release, as a machine that does no I/O: it says what to request next, and takes the responses.
 ghost use Rattle.std.specs.Prelude.{ℕ, List, Option, ◌≡◌, ◌≤◌, ◌⊎◌, Some, None, Err, IfErr};
 ghost use Rattle.feed_model.specs.Content.{IsContent};
 ghost use Rattle.feed_model.specs.History.{History, Piece};
 ghost use Rattle.feed_releases.specs.Feeds.{recorded};
 ghost use Rattle.feed_limits.specs.Limits.{piece_limit};
-ghost use Rattle.feed_fetch.specs.Answers.{HasCause, HasRightAnswer, IsStoppedAt, piece_result, reply_or_stop};
+ghost use Rattle.feed_fetch.specs.Answers.{HasCause, HasRightAnswer, IsStoppedAt, piece_result, response_or_stop};
 ghost use Rattle.feed_fetch.specs.Effects.{IsExtension, IsTakenFrom};
 ghost use Rattle.feed_fetch.specs.Exchanges.{Opens, Fills};
 ghost use Rattle.feed_fetch.specs.Owed.{IsSubmitted};
 ghost use Rattle.feed_fetch.specs.Steps.{IsNextStep, IsArrivedPart};
 ghost use Rattle.feed_fetch.specs.Steps.{phase_after, phase_after_part, without_news};
 
-use crate::observe::Observe;
-use crate::replies::{handle_piece, take_length, take_range};
+use crate::events::Observe;
+use crate::responses::{handle_piece, take_length, take_range};
 use crate::stop::{RequestFault, Stop};
 use feed_dial::DialFault;
 use feed_http::{FilePart, Got};
@@ -22,7 +22,7 @@ use feed_releases::Feed;
 
 /// A request of a fetch.
 #[derive(Clone, Copy, Debug, PartialEq, Eq)]
-pub enum Request {
+pub enum FetchRequest {
     /// For the length of the file.
     Length,
     /// For the range from the first to the last place of the file, both included.
@@ -32,8 +32,8 @@ pub enum Request {
 /// The next step of a fetch.
 #[derive(Clone, Copy, Debug, PartialEq, Eq)]
 pub enum Next {
-    /// It needs the reply to this request.
-    Ask(Request),
+    /// It needs the response to this request.
+    Ask(FetchRequest),
     /// It needs nothing: no range is missing, or the fetch stopped.
     Done,
 }
@@ -59,7 +59,7 @@ pub struct Fetch {
     ghost most: { piece ≤ piece_limit },
 }
 
-// Returns the phase after a reply.
+// Returns the phase after a response.
 fn phase_after(outcome: Result<(), Stop>) -> Phase
     ensures { result ≡ phase_after outcome }
 {
@@ -109,16 +109,16 @@ impl Fetch {
             → IsNextStep name.now self.now.piece self.now.phase h result }
     {
         match self.phase {
-            Phase::New => Next::Ask(Request::Length),
+            Phase::New => Next::Ask(FetchRequest::Length),
             Phase::Offered => match feed.next_range(name, self.piece) {
-                Some((first, last)) => Next::Ask(Request::Range { first, last }),
+                Some((first, last)) => Next::Ask(FetchRequest::Range { first, last }),
                 None => Next::Done,
             },
             Phase::Stopped => Next::Done,
         }
     }
 
-    // Submits the events of a reply to the feed.
+    // Submits the events of a response to the feed.
     fn submit<K: Keep, O: Observe>(
         self,
         feed: &mut Feed<K>,
@@ -141,7 +141,7 @@ impl Fetch {
         }
     }
 
-    /// Takes the reply to the last request, or why there is none: submits its events to the feed, and passes
+    /// Takes the response to the last request, or why there is none: submits its events to the feed, and passes
     /// them and the feed's answers to the observer. Returns why the fetch stops, if it does.
     pub fn take<K: Keep, O: Observe>(
         &mut self,
@@ -165,8 +165,8 @@ impl Fetch {
         outcome
     }
 
-    /// Takes the reply as `take` does, but continues after a piece without new bytes. The feed may have bytes of a file
-    /// that is read from its front on.
+    /// Takes the response as `take` does, but continues after a piece without new bytes. The feed may have bytes of a
+    /// file that is read from its front on.
     pub fn take_again<K: Keep, O: Observe>(
         &mut self,
         feed: &mut Feed<K>,
@@ -199,9 +199,9 @@ impl Fetch {
         }
     }
 
-    /// Takes a part of a whole file whose length the reply stated, before the rest of it has arrived: submits it to the
-    /// feed as a piece, and passes the feed's answer to the observer. Returns whether the part had new bytes, or why
-    /// the fetch stops.
+    /// Takes a part of a whole file whose length the response stated, before the rest of it has arrived: submits it to
+    /// the feed as a piece, and passes the feed's answer to the observer. Returns whether the part had new bytes, or
+    /// why the fetch stops.
     pub fn take_part<K: Keep, O: Observe>(
         &mut self,
         feed: &mut Feed<K>,
@@ -213,7 +213,7 @@ impl Fetch {
             → IsExtension (IsTakenFrom name.now (Got.Whole file))
             (λ k. IfErr result (λ stop. IsStoppedAt name.now stop k)) (recorded feed.old) (recorded feed.new) }
         ensures right { HasRightAnswer
-            (λ answer. (result ≡ piece_result (reply_or_stop answer)) ⊎ (result ≡ Err Stop.Print))
+            (λ answer. (result ≡ piece_result (response_or_stop answer)) ⊎ (result ≡ Err Stop.Print))
             (recorded feed.old) (Piece name.now part.now.first (Some part.now.length) part.now.bytes.now)
             (recorded feed.new) }
         ensures caused { IfErr result (λ stop. HasCause (O.has_failed out.new) None stop) }

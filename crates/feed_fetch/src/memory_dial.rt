@@ -1,19 +1,19 @@
 //! Connections to a server over files in memory.
-ghost use Rattle.std.specs.Prelude.{◌≡◌, false};
+ghost use Rattle.std.specs.Prelude.{◌≡◌, false, ◌++◌, IfOk};
 ghost use Rattle.feed_http.specs.MemoryShelves.{file_named};
 ghost use Rattle.feed_http.specs.Shelves.{Files};
 ghost use Rattle.feed_fetch.specs.Servers.{IsServed};
 
-use crate::memory_reply::{concat, reply_to};
 use feed_dial::{Dial, DialFault};
-use feed_http::NamedFile;
-use std::alloc::Global;
+use feed_http::{MemoryShelf, NamedFile, serve_one};
+use feed_http_heads::HttpFault;
+use std::alloc::{AllocError, Global};
 use std::collections::VecDeque;
 use std::io;
-use std::io::{Read, Write};
+use std::io::{ErrorKind, Read, Write};
 use std::marker::{Brand, PhantomData};
 
-/// A type that represents a list of files, so that the replies of a dial are a constant of its type.
+/// A type that represents a list of files, so that the responses of a dial are a constant of its type.
 pub(crate) trait Archive: Drop {
     // The file of each release, if there is one.
     ghost files: { Files };
@@ -46,7 +46,7 @@ impl<'a, A: Archive> MemoryDial<'a, A> {
     }
 }
 
-/// A connection to the server. It replies at once to what is written, and the reply can then be read.
+/// A connection to the server. It responds at once to what is written, and the response can then be read.
 #[derive(Drop)]
 pub(crate) struct MemoryConn<'a, A: Archive> {
     alloc: Global,
@@ -78,7 +78,7 @@ impl<A: Archive> Write for MemoryConn<'_, A> {
 
     fn write(&mut self, buf: &[u8]) -> io::Result<usize> {
         let written = concat(self.alloc, &self.written, buf)?;
-        self.reply = reply_to(self.alloc, self.files, &written)?;
+        self.reply = response_to(self.alloc, self.files, &written)?;
         self.written = written;
         Ok(buf.len())
     }
@@ -90,13 +90,13 @@ impl<A: Archive> Write for MemoryConn<'_, A> {
 
 impl<'a, A: Archive> Dial for MemoryDial<'a, A> {
     ghost use Rattle.std.specs.Prelude.{None};
-    ghost use Rattle.feed_dial.specs.Replies.{Known};
+    ghost use Rattle.feed_dial.specs.Responses.{Known};
     ghost use Rattle.feed_fetch.specs.Servers.{IsServed};
     ghost use Rattle.feed_fetch.specs.MemoryConns.{IsSomeAnd-unless_read};
 
     type Conn = MemoryConn<'a, A>;
 
-    ghost replies = { Known (IsServed A.files) };
+    ghost responses = { Known (IsServed A.files) };
 
     ghost last_fault = { λ _. None };
 
@@ -113,4 +113,31 @@ impl<'a, A: Archive> Dial for MemoryDial<'a, A> {
 
     ghost answers = { λ conn text is.
         IsSomeAnd-unless_read conn.is_read conn.written.items conn.reply.items text A.files conn.replied is };
+}
+
+/// Appends more bytes to a copy of what was written.
+pub(crate) fn concat(alloc: Global, written: &[u8], more: &[u8]) -> Result<Vec<u8>, AllocError>
+    ensures { IfOk result (λ text. text.items ≡ written.now ++ more.now) }
+{
+    let mut text = Vec::from_slice(alloc, written)?;
+    text.extend_from_slice(more)?;
+    Ok(text)
+}
+
+/// Returns the response to a text. It is empty if the text ends inside the head of a request.
+pub(crate) fn response_to(
+    alloc: Global,
+    files: &[NamedFile],
+    text: &[u8],
+) -> io::Result<VecDeque<u8>>
+    ensures { IfOk result (λ reply. IsServed (file_named files.now) text.now reply.items) }
+{
+    let mut left = text;
+    let mut reply = VecDeque::new(alloc);
+    match serve_one(alloc, &mut left, &mut reply, &mut MemoryShelf { files }) {
+        Ok(_) => Ok(reply),
+        Err(HttpFault::Short) => Ok(reply),
+        Err(HttpFault::Memory) => Err(io::Error::from(ErrorKind::OutOfMemory)),
+        Err(_) => Err(io::Error::from(ErrorKind::ConnectionAborted)),
+    }
 }

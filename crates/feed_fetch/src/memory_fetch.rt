@@ -4,15 +4,15 @@ ghost use Rattle.feed_http.specs.MemoryShelves.{file_named};
 ghost use Rattle.feed_model.specs.Content.{IsContent};
 ghost use Rattle.feed_model.specs.History.{History};
 ghost use Rattle.feed_releases.specs.Feeds.{recorded};
-ghost use Rattle.feed_dial.specs.Replies.{Known};
+ghost use Rattle.feed_dial.specs.Responses.{Known};
 ghost use Rattle.feed_fetch.specs.Printing.{has_failed};
 ghost use Rattle.feed_fetch.specs.Servers.{IsServed};
 ghost use Rattle.feed_fetch.specs.Orders.{IsOrder};
 ghost use Rattle.feed_fetch.specs.Effects.{IsExtension, IsFetchEvent, EndsWithStatus, IsFetchable, IsOpenTo};
 
+use crate::events::Observe;
 use crate::fetch_loop::fetch_with;
 use crate::memory_dial::{Archive, MemoryDial};
-use crate::observe::Observe;
 use crate::printer::Printer;
 use feed_http::NamedFile;
 use feed_keep::Keep;

@@ -2,8 +2,7 @@
 ghost use Rattle.std.specs.Prelude.{◌≡◌, false, IfSome, IsTrue, OnOk, OnErr};
 ghost use Rattle.feed_fetch.specs.Printing.{has_failed, HasPrinted};
 
-use crate::events::FetchEvent;
-use crate::observe::Observe;
+use crate::events::{FetchEvent, Observe};
 use std::fmt;
 use std::io::Write;
 

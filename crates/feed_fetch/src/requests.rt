@@ -1,12 +1,12 @@
-//! Sends one request on a connection of its own, and reads the reply.
+//! Sends one request on a connection of its own, and reads the response.
 ghost use Rattle.std.specs.Prelude.{◌≡◌, Some, Err, IfOk, IsTrue};
 ghost use Rattle.feed_names.specs.ReleaseName.{text_of};
 ghost use Rattle.feed_http.specs.RequestTexts.{is_host, get_text, head_request_text};
-ghost use Rattle.feed_dial.specs.Replies.{IfKnown};
+ghost use Rattle.feed_dial.specs.Responses.{IfKnown};
 ghost use Rattle.feed_fetch.specs.Servers.{IsReadOf};
 ghost use Rattle.feed_fetch.specs.Steps.{request_text};
 
-use crate::machine::Request;
+use crate::machine::FetchRequest;
 use crate::stop::RequestFault;
 use feed_dial::{Dial, DialFault};
 use feed_http::{Got, Method, read_reply, write_head_request, write_request};
@@ -23,15 +23,15 @@ pub fn request_text(
     alloc: Global,
     host: &[u8],
     name: &ReleaseName,
-    request: Request,
+    request: FetchRequest,
 ) -> Result<Vec<u8>, AllocError>
     requires { IsTrue (is_host host.now) }
     ensures { IfOk result (λ text. text.items ≡ request_text host.now (text_of name.now) request) }
 {
     let mut text = Vec::new(alloc);
     let written = match request {
-        Request::Length => write_head_request(&mut text, host, name),
-        Request::Range { first, last } => write_request(&mut text, host, name, first, last),
+        FetchRequest::Length => write_head_request(&mut text, host, name),
+        FetchRequest::Range { first, last } => write_request(&mut text, host, name, first, last),
     };
     match written {
         Ok(()) => Ok(text),
@@ -47,8 +47,8 @@ pub fn request_size<D: Dial>(
     name: &ReleaseName,
 ) -> Result<Got, RequestFault>
     requires { IsTrue (is_host host.now) }
-    ensures reply { IfKnown D.replies (λ IsReplyTo.
-        IsReadOf IsReplyTo Method.Head (head_request_text host.now (text_of name.now)) result) }
+    ensures reply { IfKnown D.responses (λ IsResponseTo.
+        IsReadOf IsResponseTo Method.Head (head_request_text host.now (text_of name.now)) result) }
     ensures refused { (fault : DialFault) → result ≡ Err (RequestFault.Dial fault)
         → D.last_fault dial.new ≡ Some fault }
 {
@@ -75,8 +75,8 @@ pub fn request_range<D: Dial>(
     last: u64,
 ) -> Result<Got, RequestFault>
     requires { IsTrue (is_host host.now) }
-    ensures reply { IfKnown D.replies (λ IsReplyTo.
-        IsReadOf IsReplyTo Method.Get (get_text host.now (text_of name.now) first last) result) }
+    ensures reply { IfKnown D.responses (λ IsResponseTo.
+        IsReadOf IsResponseTo Method.Get (get_text host.now (text_of name.now) first last) result) }
     ensures refused { (fault : DialFault) → result ≡ Err (RequestFault.Dial fault)
         → D.last_fault dial.new ≡ Some fault }
 {

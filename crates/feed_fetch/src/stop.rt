@@ -28,7 +28,7 @@ pub enum Stop {
     Missing,
     /// The peer's file has no byte of the range.
     Unsatisfied,
-    /// A reply had no new bytes.
+    /// A response had no new bytes.
     NoProgress,
     /// A request got no answer.
     Request(RequestFault),

@@ -1,4 +1,4 @@
--- Which faults the head of a reply may have.
+-- Which faults the head of a response may have.
 use Rattle.std.proofs.Common.{◌≡◌, ◌+◌, ◌-◌, ℕ, List, [], ◌∷◌, Option, Some, None, IfErr, Result, Ok, Err, Bool, true, false, sym, subst}
 use Rattle.std.specs.Prelude.{nat_lt, not, ◌==◌, ◌&&◌, if◌then◌else◌}
 use Rattle.std.specs.Option.{option_map_or}

@@ -4,7 +4,7 @@ use Rattle.std.specs.List.{list_all}
 use Rattle.std.specs.Bool.{then_some}
 use Rattle.feed_http_heads.specs.Fields.{first_of}
 use Rattle.feed_http.specs.Announcements.{is_length_value, common_length}
-use Rattle.feed_range.specs.Text.{number_in_64_bits}
+use Rattle.feed_bytes.specs.Split.{number_in_64_bits}
 
 pub agreed_on_none : (all : List (List ℕ)) → None ≡ first_of all → None ≡ common_length all
 agreed_on_none all e = rw (← e) refl

@@ -17,24 +17,24 @@ use Rattle.httparse.proofs.GrammarLemmas.{response_unique, ReadsResponse-append}
 use Rattle.feed_range.specs.Content.{content_range}
 use Rattle.feed_range.specs.declared.content.ContentRange.TheVariants as range
 use Rattle.feed_range.proofs.Laws.{content_range-text}
-use Rattle.feed_http.specs.Replies.{head_text, head_of, line}
+use Rattle.feed_http.specs.Responses.{head_text, head_of, line}
 use Rattle.feed_http_heads.specs.declared.http_fault.HttpFault.{HttpFault}
 use Rattle.feed_http_heads.specs.declared.http_fault.HttpFault.TheVariants.{Read, Memory, Length, Short, HeadTooLong, BadHead}
 use Rattle.feed_http.specs.declared.fetching.got.Got.{Got}
 use Rattle.feed_http.specs.declared.fetching.got.Got.TheVariants.{Piece, Size}
-use Rattle.feed_http.specs.ServerReplies.{reply_of, reply_text, head_alone}
-use Rattle.feed_http_heads.specs.ReplyHeads.{is_interim, print_heads, IsInterimHead, HasNoReply, IsWhyNoReply}
-use Rattle.feed_http.specs.Got.{IsGot, IsReply, IsAnnounced, IsHeadFailure}
+use Rattle.feed_http.specs.ServerResponses.{with_body, bytes_of_response, head_alone}
+use Rattle.feed_http_heads.specs.ResponseHeads.{is_interim, print_heads, IsInterimHead, HasInterimAlone, IsWhyNoResponse}
+use Rattle.feed_http.specs.Got.{IsGot, IsResultOf, IsAnnounced, IsHeadFailure}
 use Rattle.feed_http_heads.proofs.BufferFilling.{take-behind}
 use Rattle.feed_http.specs.Laws.{IsGiven, PartReadsBack, SizeReadsBack}
 use Rattle.std.specs.Result.{result_ok}
 use Rattle.feed_http.specs.declared.fetching.got.Method.{Method}
 use Rattle.feed_http.specs.declared.fetching.got.Method.TheVariants.{Get, Head}
 use Rattle.feed_http.specs.Announcements.{announcement_of, part_announcement, framing_by_length, stated_of, size_announcement}
-use Rattle.feed_http.specs.declared.serving.reply_head.ReplyHead.TheVariants.{Part, Whole}
+use Rattle.feed_http.specs.declared.serving.response_head.ServerHead.TheVariants.{Part, Whole}
 use Rattle.std.proofs.lemmas.List.Elements.{All-append, All-weaker, All-cons, All-nil}
-use Rattle.feed_range.proofs.Digits.{digit_test, numerals, number_of-digits}
-use Rattle.feed_range.specs.Text.{number_of}
+use Rattle.feed_bytes.proofs.Digits.{digit_test, numerals, number_of-digits}
+use Rattle.feed_bytes.specs.Split.{number_of}
 use borrow.Author.Tests.{eq-eqb, lt-ltb, le-ltb, lt-leb}
 use Rattle.feed_http.specs.declared.fetching.validation.Framing.TheVariants.{Sized}
 use Rattle.feed_http.specs.declared.fetching.validation.Announcement.TheVariants as announcement
@@ -72,7 +72,7 @@ visible_back xs ds all some =
 pub trimmed : (front ds : List ℕ) → skip_ows (front ++ ds) ≡ front ++ ds → list_all is_ascii_digit ds ≡ true → 0 < length ds → trim_ows (32 ∷ (front ++ ds)) ≡ front ++ ds
 trimmed front ds begins all some = trim_ows_space (front ++ ds) begins (visible_back front ds all some)
 
--- the head of the reply with a part, with these values of Content-Range and Content-Length
+-- the head of the response with a part, with these values of Content-Range and Content-Length
 part_fields : List ℕ → List ℕ → List Field
 part_fields places count =
     field (codes "Content-Type") (codes "application/octet-stream") ∷ field (codes "Accept-Ranges") (codes "bytes")
@@ -124,12 +124,12 @@ range_line : (first last size count : List ℕ) → head_of (part_lines (codes "
 range_line first last size count = ap (λ t. codes "HTTP/1.1 206 Partial Content" ++ (13 ∷ 10 ∷ (codes "Content-Type: application/octet-stream" ++ (13 ∷ 10 ∷ (codes "Accept-Ranges: bytes" ++
     (13 ∷ 10 ∷ (codes "Content-Range: " ++ t))))))) (range_split first last size _)
 
--- the reply's head is the text of that head
-abbrev reply_head : ℕ → ℕ → ℕ → ResponseHead
-reply_head first last size = part_head (range_value (decimal first) (decimal last) (decimal size)) (decimal (last - first + 1))
+-- the response's head is the text of that head
+abbrev response_head : ℕ → ℕ → ℕ → ResponseHead
+response_head first last size = part_head (range_value (decimal first) (decimal last) (decimal size)) (decimal (last - first + 1))
 
-reply_printed : (first last size : ℕ) → print_response (reply_head first last size) ≡ head_text (Part first last size)
-reply_printed first last size =
+response_printed : (first last size : ℕ) → print_response (response_head first last size) ≡ head_text (Part first last size)
+response_printed first last size =
     part_printed (range_value (decimal first) (decimal last) (decimal size)) (decimal (last - first + 1)) ∙ range_line (decimal first) (decimal last) (decimal size) (decimal (last - first + 1))
 
 -- digits may appear in a value
@@ -210,7 +210,7 @@ length_says n small =
     rw (number, lt-ltb n (2 ^ 64) small, eq-eqb n n refl) refl
 
 head_says : (first last size : ℕ) → first ≤ last → last < size → size < 2 ^ 64 → last - first + 1 ≤ 1048576
-    → announcement_of Get (reply_head first last size) ≡ Ok (announcement.Part first (Some size) (last - first + 1) (Sized (last - first + 1)))
+    → announcement_of Get (response_head first last size) ≡ Ok (announcement.Part first (Some size) (last - first + 1) (Sized (last - first + 1)))
 head_says first last size ordered inside small few =
     let fits : last - first + 1 < 2 ^ 64 = omega arith in
     part_announcement_of (range_value (decimal first) (decimal last) (decimal size)) (decimal (last - first + 1))
@@ -242,23 +242,23 @@ length_line = 13 ∷ 10 ∷ codes "Content-Length: "
 close_line : List ℕ
 close_line = 13 ∷ 10 ∷ (codes "Connection: close" ++ (13 ∷ 10 ∷ 13 ∷ 10 ∷ []))
 
-head_short : (first last size : ℕ) → first ≤ last → last < size → size < 2 ^ 64 → length (print_response (reply_head first last size)) ≤ 8192
+head_short : (first last size : ℕ) → first ≤ last → last < size → size < 2 ^ 64 → length (print_response (response_head first last size)) ≤ 8192
 unfolding start_lines length_line close_line
 head_short first last size ordered inside small =
-    let pieces : print_response (reply_head first last size) ≡ start_lines ++ (decimal first ++ (codes "-" ++ (decimal last ++ (codes "/" ++ (decimal size ++ (length_line ++ (decimal
-    (last - first + 1) ++ close_line))))))) = reply_printed first last size in
+    let pieces : print_response (response_head first last size) ≡ start_lines ++ (decimal first ++ (codes "-" ++ (decimal last ++ (codes "/" ++ (decimal size ++ (length_line ++ (decimal
+    (last - first + 1) ++ close_line))))))) = response_printed first last size in
     rw pieces (total start_lines (decimal first) (codes "-") (decimal last) (codes "/") (decimal size) length_line (decimal (last - first + 1)) close_line
     (decimal_short first (omega arith)) (decimal_short last (omega arith)) (decimal_short size small) (decimal_short (last - first + 1) (omega arith)) (lit≤ tt) (lit≤ tt) (lit≤ tt) (lit≤ tt)
     (lit≤ tt))
 
--- the reply begins with this head
-reply_reads : (first last size : ℕ) (body : List ℕ) → first ≤ last → last < size → size < 2 ^ 64
-    → ReadsResponse (reply_text (reply_of (Part first last size) body)) (reply_head first last size) body
-reply_reads first last size body ordered inside small =
+-- the response begins with this head
+response_reads : (first last size : ℕ) (body : List ℕ) → first ≤ last → last < size → size < 2 ^ 64
+    → ReadsResponse (bytes_of_response (with_body (Part first last size) body)) (response_head first last size) body
+response_reads first last size body ordered inside small =
     let fits : last - first + 1 < 2 ^ 64 = omega arith in (
       head_valid (range_value (decimal first) (decimal last) (decimal size)) (decimal (last - first + 1)) (range_passes first last size (omega arith) (omega arith) small) (digits_pass
           (last - first + 1) fits),
-      ap (λ t. t ++ body) (sym (reply_printed first last size)),
+      ap (λ t. t ++ body) (sym (response_printed first last size)),
     )
 
 not_interim : (places count : List ℕ) → is_interim (part_head places count) ≡ false
@@ -301,7 +301,7 @@ reads_front bytes text h body reads short =
 
 -- a text that begins with a head within the limits is at no fault
 why_not : (fault : HttpFault) (bytes : ℕ) (text : List ℕ) (h : ResponseHead) (body : List ℕ) → ReadsResponse text h body → length (print_response h) ≤ bytes → length h.fields ≤ 64
-    → IsWhyNoReply bytes 64 fault text → ⊥
+    → IsWhyNoResponse bytes 64 fault text → ⊥
 why_not Short bytes text h body reads short few why = why.1.not_whole h body reads
 why_not HeadTooLong bytes text h body reads short few why = why.1.not_whole h (take (bytes - length (print_response h)) body) (reads_front bytes text h body reads short)
 why_not BadHead bytes text h body reads short few why = let front : List ℕ = take (bytes - length (print_response h)) body in
@@ -310,7 +310,7 @@ why_not _ bytes text h body reads short few why = why
 
 -- the heads of a text that begins with a head within the limits do not fail
 no_failure : (text : List ℕ) (h : ResponseHead) (body : List ℕ) (fault : HttpFault) → ReadsResponse text h body → is_interim h ≡ false → length (print_response h) ≤ 8192
-    → length h.fields ≤ 64 → HasNoReply 8192 64 text fault → ⊥
+    → length h.fields ≤ 64 → HasInterimAlone 8192 64 text fault → ⊥
 no_failure text h body fault reads other short few failed =
     let none : failed.interim ≡ [] = no_interim text h body failed.rest failed.interim reads other failed.skipped failed.text_is in
     let rest : text ≡ failed.rest = failed.text_is ∙ ap (λ i. print_heads i ++ failed.rest) none in
@@ -329,26 +329,27 @@ failed_or_given text h body wanted (Err BadHead) reads other short few failed = 
 failed_or_given text h body wanted (Err _) reads other short few failed = absurd failed.why
 
 -- what is given of the one head that a text begins with is given of the text
-pub one_reply : (method : Method) (text : List ℕ) (h : ResponseHead) (body : List ℕ) (wanted : Got) (result : Result Got HttpFault) → ReadsResponse text h body → is_interim h ≡ false
+pub one_response : (method : Method) (text : List ℕ) (h : ResponseHead) (body : List ℕ) (wanted : Got) (result : Result Got HttpFault) → ReadsResponse text h body → is_interim h ≡ false
     → length (print_response h) ≤ 8192 → length h.fields ≤ 64
-    → (IsAnnounced (announcement_of method h) body result → IsGiven wanted result) → IsReply method text result → IsGiven wanted result
-one_reply method text h body wanted result reads other short few gives (inr failed) = failed_or_given text h body wanted result reads other short few failed
-one_reply method text h body wanted result reads other short few gives (inl got) =
+    → (IsAnnounced (announcement_of method h) body result → IsGiven wanted result) → IsResultOf method text result → IsGiven wanted result
+one_response method text h body wanted result reads other short few gives (inr failed) = failed_or_given text h body wanted result reads other short few failed
+one_response method text h body wanted result reads other short few gives (inl got) =
     let split : text ≡ print_heads got.interim ++ (print_response got.head ++ got.rest) = got.begins.text_is ∙ append_assoc (print_heads got.interim) (print_response got.head) got.rest in
     let none : got.interim ≡ [] = no_interim text h body (print_response got.head ++ got.rest) got.interim reads other got.begins.skipped split in
     let alone : text ≡ print_response got.head ++ got.rest = split ∙ ap (λ i. print_heads i ++ (print_response got.head ++ got.rest)) none in
     let same = response_unique text got.head h got.rest body (got.begins.valid, alone) reads in
     gives (rw (same.0, same.1) at got.is)
 
--- what a GET gives of the reply with a part
+-- what a GET gives of the response with a part
 pub part_reads_back : PartReadsBack
 part_reads_back first last size body result ordered inside small few long =
-    one_reply Get (reply_text (reply_of (Part first last size) body)) (reply_head first last size) body (Piece first (Some size) body) result (reply_reads first last size body ordered inside small)
+    one_response Get (bytes_of_response (with_body (Part first last size) body)) (response_head first last size) body (Piece first (Some size) body) result
+    (response_reads first last size body ordered inside small)
     (not_interim _ _)
     (head_short first last size ordered inside small) (few_fields _ _)
     (λ is. piece_given first size (last - first + 1) body result long (rw (head_says first last size ordered inside small few) at is))
 
--- the head of the reply to a HEAD
+-- the head of the response to a HEAD
 abbrev size_pairs : List ℕ → List (List ℕ × List ℕ)
 size_pairs count = (codes "Content-Type", codes "application/octet-stream") ∷ (codes "Accept-Ranges", codes "bytes") ∷ (codes "Content-Length", count) ∷
     (codes "Connection", codes "close") ∷ []
@@ -404,9 +405,9 @@ size_short n small =
 size_given : (n : ℕ) (result : Result Got HttpFault) → result ≡ Ok (Size n) → IsGiven (Size n) result
 size_given n result is = rw is refl
 
--- what a HEAD gives of the reply with its fields alone
+-- what a HEAD gives of the response with its fields alone
 pub size_reads_back : SizeReadsBack
 size_reads_back n result small =
-    one_reply Head (reply_text (head_alone (Whole n))) (size_head (decimal n)) [] (Size n) result
+    one_response Head (bytes_of_response (head_alone (Whole n))) (size_head (decimal n)) [] (Size n) result
     (size_valid (decimal n) (digits_pass n small), ap (λ t. t ++ []) (sym (size_printed n))) (size_interim (decimal n)) (size_short n small) (size_fields (decimal n))
     (λ is. size_given n result (rw (size_announcement_of (decimal n), count_trimmed n small, length_says n small) at is))

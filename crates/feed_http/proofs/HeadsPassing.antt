@@ -1,4 +1,4 @@
--- The heads of a reply that were passed, and the bytes behind them.
+-- The heads of a response that were passed, and the bytes behind them.
 use Rattle.std.proofs.Common.{◌≡◌, ◌≢◌, ◌≤◌, ◌<◌, ◌+◌, ◌-◌, ℕ, List, [], ◌∷◌, ◌++◌, length, min, take, drop, true, false, refl, sym, ap, arith, ◌∙◌, append_assoc, subst}
 use Rattle.std.proofs.lemmas.List.{append-nil, length-append, take_at, take_all, take-append-drop, take-append-le, length-take}
 use Rattle.std.proofs.lemmas.List.Elements.{All-push}
@@ -9,8 +9,8 @@ use Rattle.httparse.specs.declared.spans.ResponseSpans.{ResponseSpans}
 use Rattle.httparse.specs.declared.spans.HeaderSpan.{HeaderSpan}
 use Rattle.feed_http_heads.specs.declared.http_fault.HttpFault.TheVariants.{Short, HeadTooLong, BadHead}
 use Rattle.feed_http_heads.specs.Limits.{head_limit, field_limit}
-use Rattle.feed_http_heads.specs.ReplyHeads.{print_heads, is_interim_status, IsInterimHead, HasNoReply, NeverBeginsWithReply}
-use Rattle.feed_http_heads.proofs.ReplyReading.{counted, some_bytes}
+use Rattle.feed_http_heads.specs.ResponseHeads.{print_heads, is_interim_status, IsInterimHead, HasInterimAlone, NeverBeginsWithResponse}
+use Rattle.feed_http_heads.proofs.ResponseReading.{counted, some_bytes}
 use Rattle.feed_http_heads.proofs.BufferFilling.{front_of}
 use Rattle.feed_http.specs.ArrivingHeads.{ArePassed, IsHeadAt}
 
@@ -77,7 +77,7 @@ head_found passed n room text bytes headers spans at is_room fits few within (h,
 
 -- more of a head has to arrive
 pub head_awaited : (passed n room : ℕ) (text bytes : List ℕ) → ArePassed passed text → room ≡ head_limit - passed → n ≡ min (length bytes) room → n ≢ room
-    → HasNoResponse (take n bytes) → MayBecomeResponse (take n bytes) → HasNoReply head_limit field_limit (text ++ bytes) Short
+    → HasNoResponse (take n bytes) → MayBecomeResponse (take n bytes) → HasInterimAlone head_limit field_limit (text ++ bytes) Short
 head_awaited passed n room text bytes at is_room is_n less none may =
     let few : length bytes < room = omega (arith, is_n, less) in
     let whole : take n bytes ≡ bytes = take_all n bytes (omega (arith, is_n, few)) in
@@ -94,7 +94,7 @@ head_awaited passed n room text bytes at is_room is_n less none may =
 
 -- the heads reach the limit
 pub heads_too_long : (passed n room : ℕ) (text bytes : List ℕ) → ArePassed passed text → room ≡ head_limit - passed → n ≡ min (length bytes) room → n ≡ room
-    → HasNoResponse (take n bytes) → MayBecomeResponse (take n bytes) → (more : List ℕ) → HasNoReply head_limit field_limit (text ++ (bytes ++ more)) HeadTooLong
+    → HasNoResponse (take n bytes) → MayBecomeResponse (take n bytes) → (more : List ℕ) → HasInterimAlone head_limit field_limit (text ++ (bytes ++ more)) HeadTooLong
 heads_too_long passed n room text bytes at is_room is_n same none may more =
     let left : head_limit - length (print_heads at.interim) ≡ n = omega (arith, same, is_room, ap length at.text_is, at.counted) in
     let front : take n (bytes ++ more) ≡ take n bytes = take-append-le n bytes more (omega (arith, is_n)) in
@@ -114,22 +114,22 @@ heads_too_long passed n room text bytes at is_room is_n same none may more =
 
 -- the bytes are not a head
 pub head_refused : (passed n room : ℕ) (text bytes : List ℕ) → ArePassed passed text → room ≡ head_limit - passed → n ≡ min (length bytes) room
-    → ResponseOverflows field_limit (take n bytes) → (more : List ℕ) → HasNoReply head_limit field_limit (text ++ (bytes ++ more)) BadHead
+    → ResponseOverflows field_limit (take n bytes) → (more : List ℕ) → HasInterimAlone head_limit field_limit (text ++ (bytes ++ more)) BadHead
 head_refused passed n room text bytes at is_room is_n over more =
     let left : head_limit - length (print_heads at.interim) ≡ room = omega (arith, is_room, ap length at.text_is, at.counted) in
     let split : bytes ++ more ≡ take n bytes ++ (drop n bytes ++ more) =
     ap (λ t. t ++ more) (sym (take-append-drop n bytes)) ∙ append_assoc (take n bytes) (drop n bytes) more in
     let fits : length (take n bytes) ≤ room = (let l = length-take n bytes in omega (arith, l, is_n)) in
-    let never : NeverBeginsWithReply field_limit (take room (bytes ++ more)) = refused room (take n bytes) (drop n bytes ++ more) (bytes ++ more) split fits over in
+    let never : NeverBeginsWithResponse field_limit (take room (bytes ++ more)) = refused room (take n bytes) (drop n bytes ++ more) (bytes ++ more) split fits over in
     record {
       interim = at.interim;
       rest = bytes ++ more;
       skipped = at.skipped;
       text_is = ap (λ t. t ++ (bytes ++ more)) at.text_is;
-      why = subst (λ (k : ℕ). NeverBeginsWithReply field_limit (take k (bytes ++ more))) (sym left) never;
+      why = subst (λ (k : ℕ). NeverBeginsWithResponse field_limit (take k (bytes ++ more))) (sym left) never;
     }
   where
-    refused : (room : ℕ) (part rest whole : List ℕ) → whole ≡ part ++ rest → length part ≤ room → ResponseOverflows field_limit part → NeverBeginsWithReply field_limit (take room whole)
+    refused : (room : ℕ) (part rest whole : List ℕ) → whole ≡ part ++ rest → length part ≤ room → ResponseOverflows field_limit part → NeverBeginsWithResponse field_limit (take room whole)
     refused room part rest whole e fits over = λ further head tail reads few.
         let front : take room whole ≡ part ++ take (room - length part) rest = ap (take room) e ∙ front_of room part rest fits in
         let many : field_limit < length head.fields =

@@ -9,10 +9,10 @@ pub mod ChunkPassing
 pub mod ChunkLaw
 pub mod HeadsPassing
 pub mod BodyPassing
-pub mod ReplyPassing
+pub mod ResponsePassing
 pub mod Advancing
-pub mod ReplyReading
-pub mod ReplyLaw
+pub mod ResponseReading
+pub mod ResponseLaw
 pub mod AnnouncedFaults
 pub mod ExchangeLaw
 pub mod RequestLaw

@@ -3,7 +3,7 @@ use Rattle.std.proofs.Common.{◌≡◌, ◌≤◌, ◌<◌, ◌+◌, ◌-◌, �
 use Rattle.std.proofs.Common.{length, All, codes, Some, true, min, refl, sym, ap, arith, ◌∙◌, append_assoc, subst, lit≤, drop}
 use Rattle.std.specs.Prelude.{◌&&◌, IsTrue, slice_range, nat_lt, nat_le}
 use borrow.Author.Tests.{leb-true}
-use Rattle.feed_range.proofs.Digits.{both}
+use Rattle.feed_bytes.proofs.Digits.{both}
 use Rattle.std.specs.List.{list_all, flat_map}
 use Rattle.std.specs.Fmt.{decimal}
 use Rattle.std.proofs.lemmas.Bool.Decides.{nat_tests}
@@ -16,16 +16,16 @@ use Rattle.httparse.specs.Grammar.{AllPass, RequestHead, IsRequestHead, print_re
 use Rattle.httparse.proofs.OnLiterals.{httparse_on_literals}
 use Rattle.httparse.proofs.GrammarLemmas.{cons-append}
 use Rattle.feed_names.specs.Day.{two, ymd_text}
-use Rattle.feed_names.specs.ReleaseName.{Name, IsName, is_stem_byte, text_of}
-use Rattle.feed_range.specs.Ask.{ask_text, ask_of}
+use Rattle.feed_names.specs.ReleaseName.{Name, IsName, is_package_byte, text_of}
+use Rattle.feed_range.specs.RangeAsk.{ask_text, ask_of}
 use Rattle.feed_http.specs.Shelves.{Files}
 use Rattle.feed_http.specs.Requests.{IsNamedBy}
-use Rattle.feed_http.specs.ServerReplies.{server_reply, part_reply, reply_of, head_alone}
+use Rattle.feed_http.specs.ServerResponses.{server_response, part_response, with_body, head_alone}
 use Rattle.feed_http.specs.RequestTexts.{is_host, is_host_byte, start_then, get_text, head_request_text}
 use Rattle.feed_http.proofs.ExchangeLaw.{field, fields_of, fields_text, digits_pass, static_field, number_field, decimal_short, decimal_digits, decimal_some, trimmed, part_reads_back, size_reads_back}
-use Rattle.feed_range.specs.declared.ask.RangeAsk.TheVariants.{Part}
+use Rattle.feed_range.specs.declared.range_ask.RangeAsk.TheVariants.{Part}
 use Rattle.feed_range.proofs.Laws.{ask_of-ask_text}
-use Rattle.feed_http.specs.declared.serving.reply_head.ReplyHead.TheVariants as head
+use Rattle.feed_http.specs.declared.serving.response_head.ServerHead.TheVariants as head
 use Rattle.feed_http_heads.specs.RequestHeads.{BeginsWithHead}
 use Rattle.feed_http.specs.Laws.{FetchGivesSlice, HeadGivesSize}
 
@@ -50,13 +50,14 @@ get_printed host name first last = request_printed (codes "GET") host name (fiel
 
 -- the bytes of a name
 abbrev Passes : ℕ → Type 0
-Passes b = is_stem_byte b ≡ true
+Passes b = is_package_byte b ≡ true
 
-digit_is_stem : (k : ℕ) → k < 10 → Passes (48 + k)
-digit_is_stem k small = grind (arith, nat_tests)
+digit_is_package_byte : (k : ℕ) → k < 10 → Passes (48 + k)
+digit_is_package_byte k small = grind (arith, nat_tests)
 
 two_pass : (n : ℕ) → All Passes (two n)
-two_pass n = All-cons Passes (48 + n / 10 % 10) ((48 + n % 10) ∷ []) (digit_is_stem (n / 10 % 10) (omega arith)) (All-cons Passes (48 + n % 10) [] (digit_is_stem (n % 10) (omega arith))
+two_pass n = All-cons Passes (48 + n / 10 % 10) ((48 + n % 10) ∷ []) (digit_is_package_byte (n / 10 % 10) (omega arith))
+    (All-cons Passes (48 + n % 10) [] (digit_is_package_byte (n % 10) (omega arith))
     (All-nil Passes))
 
 date_passes : (year month day : ℕ) → All Passes (ymd_text year month day)
@@ -71,13 +72,14 @@ name_passes : (text : List ℕ) (name : Name) → IsName text name → All Passe
 name_passes text name is =
     let P : List ℕ → Type 0 = λ t. All Passes t in
     let date : All Passes is.is_dated.date = subst P (sym is.is_dated.is_date.spelled) (date_passes is.is_dated.is_date.year is.is_dated.is_date.month is.is_dated.is_date.day) in
-    let front : All Passes is.front = subst P (sym is.is_dated.spelled) (All-append Passes name.stem (95 ∷ is.is_dated.date) is.is_stem.bytes (All-cons Passes 95 is.is_dated.date refl date)) in
-    subst P (sym is.ends) (All-append Passes is.front (codes ".txt") front (AllPass-from_list_all is_stem_byte (codes ".txt") refl))
+    let front : All Passes is.front = subst P (sym is.is_dated.spelled)
+    (All-append Passes name.package_name (95 ∷ is.is_dated.date) is.is_package_name.bytes (All-cons Passes 95 is.is_dated.date refl date)) in
+    subst P (sym is.ends) (All-append Passes is.front (codes ".txt") front (AllPass-from_list_all is_package_byte (codes ".txt") refl))
 
 name_short : (text : List ℕ) (name : Name) → IsName text name → length text ≤ 115
 name_short text name is =
     let date : length is.is_dated.date ≡ 10 = ap length is.is_dated.is_date.spelled in
-    omega (arith, ap length is.ends, length-append is.front (codes ".txt"), ap length is.is_dated.spelled, length-append name.stem (95 ∷ is.is_dated.date), date, is.is_stem.most)
+    omega (arith, ap length is.ends, length-append is.front (codes ".txt"), ap length is.is_dated.spelled, length-append name.package_name (95 ∷ is.is_dated.date), date, is.is_package_name.most)
 
 uri_byte : (b : ℕ) → Passes b → is_uri_byte b ≡ true
 uri_byte b p = grind (arith, nat_tests)
@@ -123,7 +125,7 @@ get_valid host text ask name is_valid is asks =
 
 -- what is served to it
 served_get : (files : Files) (host text ask file : List ℕ) (name : Name) → files name ≡ Some file
-    → server_reply files (get_head host text ask) (Some name) ≡ part_reply (ask_of (trim_ows (32 ∷ ask)) (length file)) file
+    → server_response files (get_head host text ask) (Some name) ≡ part_response (ask_of (trim_ows (32 ∷ ask)) (length file)) file
 unfolding request_head field
 served_get files host text ask file name there = rw there refl
 
@@ -190,8 +192,8 @@ fetch_gives_slice files host name file first last is_valid is there ordered smal
     let low : first < 2 ^ 64 = omega arith in
     let asked : ask_of (trim_ows (32 ∷ ask)) size ≡ Part first end = ap (λ v. ask_of v (length file)) (ask_trimmed first last small)
     ∙ ask_of-ask_text first last (length file) ordered small inside in
-    let reply : server_reply files (get_head host text ask) (Some name) ≡ reply_of (head.Part first end size) (slice_range file first (end + 1)) =
-    served_get files host text ask file name there ∙ ap (λ a. part_reply a file) asked in
+    let reply : server_response files (get_head host text ask) (Some name) ≡ with_body (head.Part first end size) (slice_range file first (end + 1)) =
+    served_get files host text ask file name there ∙ ap (λ a. part_response a file) asked in
     let after : first ≤ min last (length file - 1) = omega arith in
     let within : min last (length file - 1) < length file = omega arith in
     let long : length (slice_range file first (min last (length file - 1) + 1)) ≡ min last (length file - 1) - first + 1 =
@@ -243,7 +245,7 @@ head_names : (host text : List ℕ) (name : Name) → IsName text name → IsNam
 unfolding request_head
 head_names host text name is = record { text = text; path = refl; is_name = is }
 
-served_head : (files : Files) (host text file : List ℕ) (name : Name) → files name ≡ Some file → server_reply files (head_head host text) (Some name) ≡ head_alone (head.Whole (length file))
+served_head : (files : Files) (host text file : List ℕ) (name : Name) → files name ≡ Some file → server_response files (head_head host text) (Some name) ≡ head_alone (head.Whole (length file))
 unfolding request_head field
 served_head files host text file name there = rw there refl
 

@@ -11,7 +11,7 @@ use Rattle.feed_names.specs.ReleaseName.{Name}
 use Rattle.feed_http_heads.specs.declared.http_fault.HttpFault.{HttpFault}
 use Rattle.feed_http_heads.specs.declared.http_fault.HttpFault.TheVariants.{Write, Memory, Shelf}
 use Rattle.feed_http.specs.Shelves.{Files}
-use Rattle.feed_http.specs.ServerReplies.{IsSending}
+use Rattle.feed_http.specs.ServerResponses.{IsSending}
 use Rattle.std.proofs.KnownBytes.{Appends-trans}
 use Rattle.feed_http_heads.proofs.BufferFilling.{take_both}
 

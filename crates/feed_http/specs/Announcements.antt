@@ -1,4 +1,4 @@
--- Validating the head of a reply (RFC 9110, sections 8.4, 8.6, 14.4 and 15; RFC 9112, sections 6 and 7).
+-- Validating the head of a response (RFC 9110, sections 8.4, 8.6, 14.4 and 15; RFC 9112, sections 6 and 7).
 use Rattle.std.specs.Prelude.{◌==◌, ◌+◌, ◌-◌, ◌&&◌, ◌||◌, not, ℕ, List, [], ◌∷◌, Bool, true, false, nat_lt, codes, if◌then◌else◌, Option, None, Some, Result, Ok, Err}
 use Rattle.std.specs.Result.{result_ok}
 use Rattle.std.specs.Option.{option_and_then, option_map_or}
@@ -6,7 +6,7 @@ use Rattle.std.specs.List.{list_all}
 use Rattle.std.specs.Str.{str_eq_ignore_ascii_case}
 use Rattle.httparse.specs.Grammar.{ResponseHead, status_code}
 use Rattle.httparse.specs.Spans.{IsResponseWithin, IsResponseAt}
-use Rattle.feed_range.specs.Text.{number_in_64_bits}
+use Rattle.feed_bytes.specs.Split.{number_in_64_bits}
 use Rattle.feed_range.specs.Content.{content_range}
 use Rattle.feed_range.specs.declared.content.ContentRange.{ContentRange}
 use Rattle.feed_range.specs.declared.content.ContentRange.TheVariants as range
@@ -16,7 +16,7 @@ use Rattle.feed_http_heads.specs.declared.http_fault.HttpFault.{HttpFault}
 use Rattle.feed_http_heads.specs.declared.http_fault.HttpFault.TheVariants as fault
 use Rattle.feed_http.specs.declared.fetching.got.Method.{Method}
 use Rattle.feed_http.specs.declared.fetching.got.Method.TheVariants.{Get, Head}
-use Rattle.feed_http.specs.declared.fetching.validation.Reply.{Reply}
+use Rattle.feed_http.specs.declared.fetching.validation.BufferedHead.{BufferedHead}
 use Rattle.feed_http.specs.declared.fetching.validation.Framing.{Framing}
 use Rattle.feed_http.specs.declared.fetching.validation.Framing.TheVariants.{Chunked, Sized, ToEnd}
 use Rattle.feed_http.specs.declared.fetching.validation.Announcement.{Announcement}
@@ -39,7 +39,7 @@ has_file_status method head = (status_code head == 200) || ((status_code head ==
 abbrev pub is_identity : ResponseHead → Bool
 is_identity head = list_all (λ value. str_eq_ignore_ascii_case value (codes "identity")) (values (codes "content-encoding") head)
 
--- the body is chunked, in a reply of HTTP/1.1
+-- the body is chunked, in a response of HTTP/1.1
 abbrev pub is_chunked : ResponseHead → Bool
 is_chunked head =
     (head.minor == 1)
@@ -111,7 +111,7 @@ whole_announcement (Ok ToEnd) = Ok (Whole ToEnd)
 whole_announcement (Ok (Sized length)) = if nat_lt file_limit length then Err fault.BodyTooLong else Ok (Whole (Sized length))
 whole_announcement (Err e) = Err e
 
--- the length of the file, which the reply to a HEAD must state
+-- the length of the file, which the response to a HEAD must state
 abbrev pub size_announcement : Result (Option ℕ) HttpFault → Result Announcement HttpFault
 size_announcement (Ok (Some length)) = Ok (Size length)
 size_announcement (Ok None) = Err fault.Length
@@ -128,7 +128,7 @@ abbrev pub unsatisfied_by_head : ResponseHead → Result Announcement HttpFault
 unsatisfied_by_head head =
     if has_any (values (codes "content-range") head) then unsatisfied_announcement (range_of head) else Ok (Unsatisfied None)
 
--- a reply with the file or a part of it
+-- a response with the file or a part of it
 abbrev pub file_announcement : Method → ResponseHead → Result Announcement HttpFault
 file_announcement method head =
     if is_coded_otherwise method head then Err fault.Coding
@@ -144,10 +144,10 @@ announcement_of method head =
     else (if not (has_file_status method head) then Err (fault.Status (status_code head))
     else file_announcement method head))
 
--- the parts of a parsed reply are inside its buffer
-abbrev pub IsInBuffer : Reply → Type 0
+-- the parts of a parsed response are inside its buffer
+abbrev pub IsInBuffer : BufferedHead → Type 0
 IsInBuffer reply = IsResponseWithin reply.buffer.now reply.headers.now reply.spans
 
--- the parsed reply has this head
-abbrev pub HasHead : Reply → ResponseHead → Type 0
+-- the parsed response has this head
+abbrev pub HasHead : BufferedHead → ResponseHead → Type 0
 HasHead reply head = IsResponseAt reply.buffer.now reply.headers.now reply.spans head

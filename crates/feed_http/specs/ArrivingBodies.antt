@@ -1,4 +1,4 @@
--- The body of a reply, as a whole and while it arrives (RFC 9112, section 6.3).
+-- The body of a response, as a whole and while it arrives (RFC 9112, section 6.3).
 use Rattle.std.specs.Prelude.{◌≡◌, ◌<◌, ◌≤◌, ◌⊎◌, ℕ, List, ◌++◌, length, take, Result, Ok, Err}
 use Rattle.feed_http_heads.specs.declared.http_fault.HttpFault.{HttpFault}
 use Rattle.feed_http_heads.specs.declared.http_fault.HttpFault.TheVariants.{Short, Memory}

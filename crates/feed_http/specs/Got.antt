@@ -1,4 +1,4 @@
--- The result of a reply (RFC 9110, sections 15.3.7 and 15.5.17; RFC 9112, section 6.3).
+-- The result of a response (RFC 9110, sections 15.3.7 and 15.5.17; RFC 9112, section 6.3).
 use Rattle.std.specs.Prelude.{◌≡◌, ◌<◌, ◌≤◌, ◌⊎◌, ℕ, List, length, take, Result, Ok, Err, ⊤}
 use Rattle.httparse.specs.Grammar.{ResponseHead}
 use Rattle.feed_http_heads.specs.declared.http_fault.HttpFault.{HttpFault}
@@ -12,7 +12,7 @@ use Rattle.feed_http.specs.declared.fetching.validation.Announcement.{Announceme
 use Rattle.feed_http.specs.declared.fetching.validation.Announcement.TheVariants.{Missing, Unsatisfied, Size, Part, Whole}
 use Rattle.feed_http_heads.specs.Limits.{head_limit, field_limit}
 use Rattle.feed_limits.specs.Limits.{file_limit}
-use Rattle.feed_http_heads.specs.ReplyHeads.{BeginsWithHeads, IsNoReply}
+use Rattle.feed_http_heads.specs.ResponseHeads.{BeginsWithHeads, IsNoResponse}
 use Rattle.feed_http.specs.Announcements.{announcement_of}
 use Rattle.feed_http.specs.Chunks.{IsBodyChunked, IsNotChunked}
 
@@ -58,7 +58,7 @@ IsAnnounced (Ok announcement) text result = IsGot announcement text result
 IsAnnounced (Err fault) text result = result ≡ Err fault
 
 -- the text begins with heads, and the last one determines the result
-pub record IsReplyGot (method : Method) (text : List ℕ) (result : Result Got HttpFault) : Type 0 where
+pub record IsResponseGot (method : Method) (text : List ℕ) (result : Result Got HttpFault) : Type 0 where
   pub interim : List ResponseHead
   pub head : ResponseHead
   pub rest : List ℕ
@@ -68,13 +68,13 @@ pub record IsReplyGot (method : Method) (text : List ℕ) (result : Result Got H
 -- the text does not begin with heads within the limits
 abbrev pub IsHeadFailure : List ℕ → Result Got HttpFault → Type 0
 IsHeadFailure text (Ok given) = ⊥
-IsHeadFailure text (Err fault) = IsNoReply head_limit field_limit fault text
+IsHeadFailure text (Err fault) = IsNoResponse head_limit field_limit fault text
 
--- the result of the reply at the front of the text, for a request with this method
-abbrev pub IsReply : Method → List ℕ → Result Got HttpFault → Type 0
-IsReply method text result = IsReplyGot method text result ⊎ IsHeadFailure text result
+-- the result of the response at the front of the text, for a request with this method
+abbrev pub IsResultOf : Method → List ℕ → Result Got HttpFault → Type 0
+IsResultOf method text result = IsResponseGot method text result ⊎ IsHeadFailure text result
 
--- the faults of reading a reply
+-- the faults of reading a response
 abbrev pub IsReadingFault : HttpFault → Type 0
 IsReadingFault Write = ⊥
 IsReadingFault Shelf = ⊥

@@ -1,9 +1,9 @@
 pub mod Limits
 pub mod Shelves
 pub mod MemoryShelves
-pub mod Replies
+pub mod Responses
 pub mod Requests
-pub mod ServerReplies
+pub mod ServerResponses
 pub mod RequestTexts
 pub mod Announcements
 pub mod Chunks
@@ -11,6 +11,6 @@ pub mod Got
 pub mod ArrivingChunks
 pub mod ArrivingHeads
 pub mod ArrivingBodies
-pub mod ArrivingReplies
+pub mod ArrivingResponses
 pub mod Laws
-pub mod ReplyLaws
+pub mod ResponseLaws

@@ -3,9 +3,9 @@ use Rattle.std.specs.Prelude.{ℕ, List, [], ◌∷◌, ◌++◌, length, Bool, 
 use Rattle.std.specs.List.{list_all}
 use Rattle.std.specs.Char.{is_ascii_alphanumeric}
 use Rattle.httparse.specs.Ascii.{crlf_bytes}
-use Rattle.feed_range.specs.Ask.{ask_text}
+use Rattle.feed_range.specs.RangeAsk.{ask_text}
 use Rattle.feed_http.specs.Limits.{host_limit}
-use Rattle.feed_http.specs.Replies.{line, line_then, head_of}
+use Rattle.feed_http.specs.Responses.{line, line_then, head_of}
 
 -- a letter, a digit, `.`, `-`, `:`, `[` or `]`
 abbrev pub is_host_byte : ℕ → Bool

@@ -3,9 +3,9 @@ use Rattle.std.specs.Prelude.{◌≡◌, ◌||◌, not, ℕ, List, ◌∷◌, Bo
 use Rattle.std.specs.Option.{option_map_or}
 use Rattle.httparse.specs.Grammar.{RequestHead}
 use Rattle.feed_names.specs.ReleaseName.{Name, IsName}
-use Rattle.feed_range.specs.Ask.{ask_of}
-use Rattle.feed_range.specs.declared.ask.RangeAsk.{RangeAsk}
-use Rattle.feed_range.specs.declared.ask.RangeAsk.TheVariants.{Whole}
+use Rattle.feed_range.specs.RangeAsk.{ask_of}
+use Rattle.feed_range.specs.declared.range_ask.RangeAsk.{RangeAsk}
+use Rattle.feed_range.specs.declared.range_ask.RangeAsk.TheVariants.{Whole}
 use Rattle.feed_http_heads.specs.Fields.{values_named, only, has_any}
 use Rattle.feed_http_heads.specs.Requests.{is_get, is_head}
 use Rattle.feed_http_heads.specs.Targets.{slash, origin_form}

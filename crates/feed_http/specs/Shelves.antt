@@ -25,6 +25,6 @@ abbrev pub http_fault_of : ShelfFault → HttpFault
 http_fault_of Device = http.Shelf
 http_fault_of Memory = http.Memory
 
--- a reply leaves the files of the shelf as they were, and reports each failure that the shelf counts
+-- a response leaves the files of the shelf as they were, and reports each failure that the shelf counts
 abbrev pub IsShelfKept : Option Files → Option Files → ℕ → ℕ → Result ℕ HttpFault → Type 0
 IsShelfKept old new before after result = (new ≡ old) × IsCounted (IsErrOf result http.Shelf) before after

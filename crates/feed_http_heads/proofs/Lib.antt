@@ -1,5 +1,5 @@
 pub mod BufferFilling
 pub mod RequestReading
 pub mod NamedFields
-pub mod ReplyReading
+pub mod ResponseReading
 pub mod HeadsFound

@@ -6,4 +6,4 @@ pub mod Fields
 pub mod Options
 pub mod Requests
 pub mod Targets
-pub mod ReplyHeads
+pub mod ResponseHeads

@@ -3,7 +3,7 @@ use Rattle.std.specs.Prelude.{◌≡◌, ℕ, Bool, not, List, codes}
 use Rattle.std.specs.List.{list_all, list_any}
 use Rattle.std.specs.Str.{str_eq_ignore_ascii_case}
 use Rattle.httparse.specs.Grammar.{Field, ResponseHead, ReadsResponse, trim_ows}
-use Rattle.feed_range.specs.Parts.{parts_at}
+use Rattle.feed_bytes.specs.Parts.{parts_at}
 use Rattle.feed_http_heads.specs.Fields.{values_named}
 
 -- an element of a list is this option, ignoring case and the white space around it
@@ -22,7 +22,7 @@ lacks_option name option fields = list_all (λ value. not (lists option value)) 
 abbrev pub lacks_close : List Field → Bool
 lacks_close fields = lacks_option (codes "connection") (codes "close") fields
 
--- the text begins with the head of a reply whose fields do not say that the connection closes, or do
+-- the text begins with the head of a response whose fields do not say that the connection closes, or do
 pub record SaysWhetherItKeeps (keeps : Bool) (text : List ℕ) : Type 0 where
   pub head : ResponseHead
   pub rest : List ℕ

@@ -16,16 +16,16 @@ pub enum HttpFault {
     /// The bytes are not a head of a message, or the head has more than 64 fields.
     #[error("BadHead")]
     BadHead,
-    /// The status of the reply is neither a success nor one that says where the file is.
+    /// The status of the response is neither a success nor one that says where the file is.
     #[error("Status {0}")]
     Status(u16),
     /// The body has a coding that is not supported, or its chunks are invalid.
     #[error("Coding")]
     Coding,
-    /// The reply does not state a valid length, or its body has another one.
+    /// The response does not state a valid length, or its body has another one.
     #[error("Length")]
     Length,
-    /// The reply does not state its range in exactly one Content-Range field.
+    /// The response does not state its range in exactly one Content-Range field.
     #[error("Range")]
     Range,
     /// The message is incomplete.

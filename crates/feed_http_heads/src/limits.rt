@@ -1,6 +1,6 @@
 //! The limits of heads, with their numbers for contracts in `specs/Limits.antt`.
 
-/// The most bytes of a request's head, and of all heads of a reply together.
+/// The most bytes of a request's head, and of all heads of a response together.
 pub const HEAD_LIMIT: usize = 8_192;
 
 /// The most fields of a head.

@@ -6,7 +6,7 @@ ghost use Rattle.feed_http_heads.specs.Fields.{has_other_name_or, AreWithin, Are
 ghost use Rattle.feed_http_heads.specs.Options.{is_option, lists, lacks_option};
 
 use crate::fields::{Fields, is_named};
-use feed_range::split_once;
+use feed_bytes::split_once;
 use httparse::spans::HeaderSpan;
 
 fn is_ows(byte: u8) -> bool

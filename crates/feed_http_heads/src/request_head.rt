@@ -1,13 +1,14 @@
 //! Reading the head of a request (RFC 9112, section 3).
-ghost use Rattle.std.specs.Prelude.{◌≤◌, length, take, IfOk, IfErr, IfSome};
-ghost use Rattle.std.specs.Io.KnownBytes.{Consumes};
+ghost use Rattle.std.specs.Prelude.{◌≤◌, length, take, IfOk, IfErr, IfSome, ◌<◌, OnErr};
+ghost use Rattle.std.specs.Io.KnownBytes.{Consumes, Keeps};
 ghost use Rattle.httparse.specs.Spans.{IsRequestWithin, IsRequestOf};
 ghost use Rattle.feed_http_heads.specs.RequestHeads.{IsHeadFault, IsWhyNoRequest};
+ghost use Rattle.feed_http_heads.specs.Reads.{IsCountOf, IsEndFault};
 
 use crate::http_fault::HttpFault;
-use crate::reads::read_some;
 use httparse::Status;
 use httparse::spans::{HeaderSpan, RequestSpans, parse_request};
+use std::io;
 use std::io::Read;
 
 /// A request's head in a buffer.
@@ -45,4 +46,30 @@ pub fn read_request<R: Read>(
         }
     }
     Err(HttpFault::HeadTooLong)
+}
+
+/// Reads some bytes into the space, and returns how many.
+///
+/// # Errors
+///
+/// `Short` if the reader has ended, and `Read` if it fails.
+pub fn read_some<R: Read>(reader: &mut R, space: &mut [u8]) -> Result<usize, HttpFault>
+    requires { 0 < length space.old }
+    ensures some { IfOk result (λ count. (0 < count) × (count ≤ length space.new)) }
+    ensures taken { IfOk result (λ count.
+        Consumes (R.remaining reader.old) (R.remaining reader.new) (take count space.new)) }
+    ensures faults { IfErr result (IsEndFault (R.remaining reader.old)) }
+{
+    count_of(reader.read(space))
+}
+
+// A read of no bytes is the end, and a read that fails is not.
+fn count_of(read: io::Result<usize>) -> Result<usize, HttpFault>
+    ensures { IsCountOf read result }
+{
+    match read {
+        Ok(0) => Err(HttpFault::Short),
+        Ok(count) => Ok(count),
+        Err(_) => Err(HttpFault::Read),
+    }
 }

@@ -1,6 +1,5 @@
 mod Digits
 mod Sums
-mod Skipped
 mod Trimmed
 mod PrintedIssn
 mod PrintedIsbn

@@ -13,7 +13,8 @@ use Rattle.std.proofs.lemmas.List.Folds.{list_all-append}
 use Rattle.feed_identifiers.proofs.Digits.{IsDigit, digit_at, digit_is_no_space, digits_parts, digits_split, few_digits, same_digits}
 use Rattle.feed_identifiers.proofs.Trimmed.{trimmed_same}
 use Rattle.feed_identifiers.specs.Check.{is_check, is_check_of, weighted_sum}
-use Rattle.feed_identifiers.specs.Isbn.{IsIsbn, check_digit, has_prefix, is_isbn_10, is_isbn_13, is_no_hyphen, isbn_13_of, isbn_of, isbn_of_characters, number_of, weights_of_ten, weights_of_thirteen}
+use Rattle.feed_identifiers.specs.Isbn.{IsIsbn, check_digit, has_prefix, is_isbn_10, is_isbn_13, isbn_13_of, isbn_of, isbn_of_characters, number_of, weights_of_ten, weights_of_thirteen}
+use Rattle.feed_bytes.specs.Trim.{is_no_hyphen}
 
 -- what a test of thirteen digits found
 pub record Found (text : List ℕ) : Type 0 where

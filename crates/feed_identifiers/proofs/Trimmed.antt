@@ -1,7 +1,7 @@
 -- Texts that are as they are without the spaces at both ends.
 use Rattle.std.proofs.Common.{◌≡◌, ◌<◌, ◌-◌, ℕ, false, eqb, List, [], ◌∷◌, length, reverse, get_or, refl, ap, ◌∙◌, arith}
 use Rattle.std.proofs.lemmas.List.{get_or-reverse, reverse-reverse}
-use Rattle.feed_identifiers.specs.Text.{skip_spaces, trimmed}
+use Rattle.feed_bytes.specs.Trim.{skip_spaces, trimmed}
 
 skip_nothing : (text : List ℕ) → eqb (get_or text 0 0) 32 ≡ false → skip_spaces text ≡ text
 skip_nothing [] other = refl

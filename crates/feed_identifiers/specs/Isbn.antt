@@ -1,11 +1,11 @@
 -- ISBNs (ISO 2108): of thirteen digits, or in the older form of ten characters, which converts to thirteen digits.
-use Rattle.std.specs.Prelude.{◌≡◌, ℕ, ◌+◌, ◌-◌, ◌*◌, ◌%◌, ◌==◌, ◌&&◌, ◌||◌, not, nat_eq, Bool, true, List, [], ◌∷◌, ◌++◌, length, take, drop, slice_index}
+use Rattle.std.specs.Prelude.{◌≡◌, ℕ, ◌+◌, ◌-◌, ◌*◌, ◌%◌, ◌==◌, ◌&&◌, ◌||◌, nat_eq, Bool, true, List, [], ◌∷◌, ◌++◌, length, take, drop, slice_index}
 use Rattle.std.specs.Prelude.{Option, Some, None, if◌then◌else◌, codes}
 use Rattle.std.specs.List.{filter, list_all, starts_with}
 use Rattle.std.specs.Char.{is_ascii_digit}
 use Rattle.std.specs.Str.Parse.{digits_value}
 use Rattle.feed_identifiers.specs.Check.{is_check_of, weighted_sum}
-use Rattle.feed_identifiers.specs.Text.{trimmed}
+use Rattle.feed_bytes.specs.Trim.{trimmed, is_no_hyphen}
 
 -- the weights of the twelve digits before the check digit
 abbrev pub weights_of_thirteen : List ℕ
@@ -43,10 +43,6 @@ isbn_of_characters characters =
     if is_isbn_13 characters then Some characters
     else if is_isbn_10 characters then Some (isbn_13_of (take 9 characters))
     else None
-
--- whether a character is something other than a hyphen
-abbrev pub is_no_hyphen : ℕ → Bool
-is_no_hyphen b = not (b == 45)
 
 -- parses an ISBN into its thirteen digits: spaces at both ends and all hyphens are dropped
 abbrev pub isbn_of : List ℕ → Option (List ℕ)

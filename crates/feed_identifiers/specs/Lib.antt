@@ -1,4 +1,3 @@
-pub mod Text
 pub mod Check
 pub mod Issn
 pub mod Isbn

@@ -1,11 +1,12 @@
 //! International Standard Book Numbers (ISO 2108): parsing, validation and the conversion of the ten-character form.
 ghost use Rattle.std.specs.Prelude.{◌≡◌, ◌≤◌, ◌<◌, IfNone, IfSome, length, take};
 ghost use Rattle.std.specs.List.{filter};
-ghost use Rattle.feed_identifiers.specs.Isbn.{check_digit, has_prefix, is_isbn_10, is_isbn_13, is_no_hyphen};
+ghost use Rattle.feed_identifiers.specs.Isbn.{check_digit, has_prefix, is_isbn_10, is_isbn_13};
+ghost use Rattle.feed_bytes.specs.Trim.{is_no_hyphen};
 ghost use Rattle.feed_identifiers.specs.Isbn.{isbn_13_of, isbn_of, isbn_of_characters};
 
 use crate::check::{are_digits, is_check_of, number_of_digits, weighted_sum};
-use crate::text::{next_character, trim_spaces};
+use feed_bytes::{next_character, trim_spaces};
 use std::marker::Model;
 
 // The weights of the twelve digits before the check digit.

@@ -2,7 +2,7 @@
 ghost use Rattle.std.specs.Prelude.{◌≡◌, ◌<◌};
 
 use crate::check::{capital, is_check_of, number_of_digits};
-use crate::text::trim_spaces;
+use feed_bytes::trim_spaces;
 use std::marker::Model;
 
 // The weights of the seven digits before the check character.

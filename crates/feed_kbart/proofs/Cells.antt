@@ -7,7 +7,7 @@ use Rattle.std.proofs.lemmas.Bool.{cases_Bool, eqb-true, true≢false}
 use Rattle.std.proofs.lemmas.Bool.Decides.{nat_tests}
 use Rattle.csv.specs.Records.{field_at}
 use Rattle.feed_kbart.specs.Columns.{cell}
-use Rattle.feed_identifiers.specs.Text.{trimmed}
+use Rattle.feed_bytes.specs.Trim.{trimmed}
 use Rattle.feed_kbart.specs.RowFronts.{grown}
 use Rattle.feed_kbart.specs.Stored.{kept_text}
 

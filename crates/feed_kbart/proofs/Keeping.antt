@@ -5,9 +5,9 @@ use Rattle.std.specs.List.{filter}
 use Rattle.std.specs.Str.{str_eq_ignore_ascii_case}
 use Rattle.csv.specs.Records.{field_at}
 use Rattle.feed_dates.specs.DayRanges.{days_of}
-use Rattle.feed_identifiers.specs.Isbn.{is_no_hyphen, isbn_of_characters}
+use Rattle.feed_identifiers.specs.Isbn.{isbn_of_characters}
+use Rattle.feed_bytes.specs.Trim.{is_no_hyphen, trimmed}
 use Rattle.feed_identifiers.specs.Issn.{issn_of_characters}
-use Rattle.feed_identifiers.specs.Text.{trimmed}
 use Rattle.feed_kbart.specs.Columns.{field_of}
 use Rattle.feed_kbart.specs.Coverage.{book_coverage, book_reason, coverage_by, coverage_of, is_empty, is_reversed, kind_of, reason_by, reason_of, serial_coverage, serial_reason, volumes}
 use Rattle.feed_kbart.specs.RowValue.{row_with}
@@ -20,8 +20,7 @@ use Rattle.feed_kbart.specs.declared.identifiers.Identifiers.TheVariants.{Serial
 use Rattle.feed_kbart.specs.declared.identifiers.Kind.{Kind}
 use Rattle.feed_kbart.specs.declared.identifiers.Kind.TheVariants as of
 use Rattle.feed_kbart.specs.declared.label.Label.{Label}
-use Rattle.feed_kbart.specs.declared.label.Label.TheVariants.{DateFirstIssueOnline, DateLastIssueOnline, NumFirstVolOnline, NumLastVolOnline}
-use Rattle.feed_kbart.specs.declared.label.Label.TheVariants.{OnlineIdentifier, PrintIdentifier, PublicationType}
+use Rattle.feed_kbart.specs.declared.label.Label.TheVariants.{DateFirstIssueOnline, DateLastIssueOnline, NumFirstVolOnline, NumLastVolOnline, OnlineIdentifier, PrintIdentifier, PublicationType}
 use Rattle.feed_kbart.proofs.Trimming.{trimmed_twice}
 
 kind-kept : (text : List ℕ) → kind_of (trimmed text) ≡ kind_of text

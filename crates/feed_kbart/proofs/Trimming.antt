@@ -3,7 +3,7 @@ use Rattle.std.proofs.Common.{◌≡◌, ◌≤◌, ◌<◌, ◌∙◌, ℕ, Boo
 use Rattle.std.proofs.lemmas.Bool.{cases_Bool}
 use Rattle.std.proofs.lemmas.List.{reverse-append, reverse-reverse}
 use Rattle.std.proofs.Math.Seq.{drop-append_seam, take-append_seam, take-length}
-use Rattle.feed_identifiers.specs.Text.{skip_spaces, trimmed, trimmed_back}
+use Rattle.feed_bytes.specs.Trim.{skip_spaces, trimmed, trimmed_back}
 use Rattle.feed_kbart.specs.CellFronts.{IsCellFront, following}
 use Rattle.feed_kbart.specs.Stored.{kept_text}
 use Rattle.feed_kbart.specs.declared.cell_front.CellFront.{CellFront}

@@ -1,6 +1,6 @@
 -- A cell whose bytes arrive in parts.
 use Rattle.std.specs.Prelude.{◌≡◌, Bool, true, false, ℕ, List, [], ◌∷◌, length}
-use Rattle.feed_identifiers.specs.Text.{skip_spaces}
+use Rattle.feed_bytes.specs.Trim.{skip_spaces}
 use Rattle.feed_kbart.specs.Stored.{kept_text}
 use Rattle.feed_kbart.specs.declared.cell_front.CellFront.{CellFront}
 

@@ -1,7 +1,7 @@
 -- The identifiers, days and volumes that a record covers, and the reasons to skip a record.
 use Rattle.std.specs.Prelude.{◌||◌, ◌&&◌, not, nat_lt, ℕ, ℤ, Bool, true, false, List, [], ◌∷◌, Option, Some, None, if◌then◌else◌, is_none, is_some, option_map, codes, int_lt}
 use Rattle.std.specs.Str.{str_eq_ignore_ascii_case}
-use Rattle.feed_identifiers.specs.Text.{trimmed}
+use Rattle.feed_bytes.specs.Trim.{trimmed}
 use Rattle.feed_kbart.specs.Volumes.{volume_of}
 use Rattle.feed_identifiers.specs.Issn.{issn_of}
 use Rattle.feed_identifiers.specs.Isbn.{isbn_of}
@@ -15,8 +15,7 @@ use Rattle.feed_kbart.specs.declared.identifiers.Identifiers.{Identifiers}
 use Rattle.feed_kbart.specs.declared.identifiers.Identifiers.TheVariants.{Serial, Book}
 use Rattle.feed_kbart.specs.declared.identifiers.Kind.{Kind}
 use Rattle.feed_kbart.specs.declared.identifiers.Kind.TheVariants as of
-use Rattle.feed_kbart.specs.declared.label.Label.TheVariants.{DateFirstIssueOnline, DateLastIssueOnline, NumFirstVolOnline, NumLastVolOnline}
-use Rattle.feed_kbart.specs.declared.label.Label.TheVariants.{OnlineIdentifier, PrintIdentifier, PublicationType}
+use Rattle.feed_kbart.specs.declared.label.Label.TheVariants.{DateFirstIssueOnline, DateLastIssueOnline, NumFirstVolOnline, NumLastVolOnline, OnlineIdentifier, PrintIdentifier, PublicationType}
 
 -- the identifiers, the days and the volumes that a record covers
 pub record CoverageValue : Type 0 where

@@ -1,7 +1,7 @@
 -- The labels of a file's columns.
 use Rattle.std.specs.Prelude.{◌-◌, ◌==◌, if◌then◌else◌, ℕ, Bool, List, [], ◌∷◌, ◌++◌, Option, None, codes, slice_get}
 use Rattle.std.specs.Str.{str_eq_ignore_ascii_case}
-use Rattle.feed_identifiers.specs.Text.{trimmed}
+use Rattle.feed_bytes.specs.Trim.{trimmed}
 use Rattle.feed_kbart.specs.declared.label.Label.{Label}
 use Rattle.feed_kbart.specs.declared.label.Label.TheVariants.{PublicationTitle, PrintIdentifier, OnlineIdentifier, DateFirstIssueOnline, NumFirstVolOnline}
 use Rattle.feed_kbart.specs.declared.label.Label.TheVariants.{DateLastIssueOnline, NumLastVolOnline, TitleUrl, TitleId, EmbargoInfo, CoverageDepth}

@@ -32,3 +32,5 @@ pub mod Kept
 pub mod ListRecords
 pub mod ListChecks
 pub mod Retired
+pub mod Counts
+pub mod CountTexts

@@ -2,7 +2,7 @@
 use Rattle.std.specs.Prelude.{ℕ, zero, suc, ◌<◌, ◌^◌, ◌==◌, nat_lt, Bool, true, false, List, [], ◌∷◌, ◌++◌, length, take, drop, map, Option, Some, None, if◌then◌else◌}
 use Rattle.std.specs.Int.{from_le_bytes, to_le_bytes, w32}
 use Rattle.feed_dates.specs.declared.day_range.DayRange.{DayRange}
-use Rattle.feed_identifiers.specs.Text.{trimmed}
+use Rattle.feed_bytes.specs.Trim.{trimmed}
 use Rattle.feed_kbart.specs.Columns.{cell, column_of, field_of}
 use Rattle.feed_kbart.specs.Coverage.{coverage_days, kind_of}
 use Rattle.feed_kbart.specs.Labels.{label_count, slot, stored_labels}

@@ -4,7 +4,7 @@ ghost use Rattle.feed_kbart.specs.CellFronts.{IsCellFront, following};
 ghost use Rattle.feed_kbart.specs.Stored.{kept_text};
 
 use crate::stored_text::cut;
-use feed_identifiers::{trim_spaces_end, trim_spaces_start};
+use feed_bytes::{trim_spaces_end, trim_spaces_start};
 use std::alloc::{AllocError, Global};
 
 /// The front of a cell. Of a cell that is only parsed, as a label is, it does not keep the spaces before the first

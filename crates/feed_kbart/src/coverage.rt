@@ -2,7 +2,7 @@
 ghost use Rattle.std.specs.Prelude.{◌≡◌, true, false, None, Some, MatchResult};
 ghost use Rattle.feed_kbart.specs.Coverage.{book_coverage, book_reason, coverage_days, coverage_of, is_coverage_date};
 ghost use Rattle.feed_kbart.specs.Coverage.{is_reversed, kind_of, reason_of, serial_coverage, serial_reason, volumes};
-ghost use Rattle.feed_identifiers.specs.Text.{trimmed};
+ghost use Rattle.feed_bytes.specs.Trim.{trimmed};
 ghost use Rattle.feed_kbart.specs.Volumes.{volume_of};
 ghost use Rattle.feed_kbart.specs.declared.fault.Reason.TheVariants as reason;
 
@@ -10,9 +10,9 @@ use crate::fault::Reason;
 use crate::header::{Cells, Columns};
 use crate::identifiers::{Identifiers, Kind};
 use crate::label::Label;
-use crate::volume::read_volume;
+use feed_bytes::trim_spaces;
 use feed_dates::DayRange;
-use feed_identifiers::{Isbn, Issn, trim_spaces};
+use feed_identifiers::{Isbn, Issn};
 
 /// Returns the kind of a publication type: a serial if it is empty or `serial`, a book if it is `monograph`.
 pub(crate) fn read_kind(text: &[u8]) -> Option<Kind>
@@ -121,4 +121,21 @@ pub(crate) fn check_record<C: Cells>(columns: &Columns, fields: &C) -> Result<Id
         Some(Kind::Book) => check_book(columns, fields),
         None => Err(Reason::OtherType),
     }
+}
+
+/// Parses a volume number: 1 to 9 ASCII digits. Does not trim.
+pub fn read_volume(text: &[u8]) -> Option<u32>
+    ensures { result ≡ volume_of text.now }
+{
+    if text.is_empty() || text.len() > 9 {
+        return None;
+    }
+    let mut number = 0u32;
+    for byte in text {
+        if !byte.is_ascii_digit() {
+            return None;
+        }
+        number = number * 10 + (*byte - b'0') as u32;
+    }
+    Some(number)
 }

@@ -7,7 +7,7 @@ ghost use Rattle.feed_kbart.specs.Columns.{bad_header, cell, columns_of, first_m
 use crate::fault::BadFile;
 use crate::label::{LABEL_COUNT, LABELS, Label, REQUIRED_COUNT};
 use csv::ByteRecord;
-use feed_identifiers::trim_spaces;
+use feed_bytes::trim_spaces;
 
 /// The columns of the labels in use, counted from 0.
 #[derive(Clone, Copy)]
@@ -61,7 +61,7 @@ pub(crate) struct HeaderLabels {
 }
 
 impl Found {
-    ghost use Rattle.feed_identifiers.specs.Text.{trimmed};
+    ghost use Rattle.feed_bytes.specs.Trim.{trimmed};
     ghost use Rattle.feed_kbart.specs.HeaderLabels.{found_of, with_field};
 
     // Nothing, before the first field.

@@ -2,7 +2,7 @@
 ghost use Rattle.std.specs.Prelude.{◌≡◌, ◌<◌, Some};
 ghost use Rattle.feed_kbart.specs.Labels.{label_count};
 
-use feed_identifiers::trim_spaces;
+use feed_bytes::trim_spaces;
 use std::fmt;
 
 /// The number of labels in use.

@@ -2,11 +2,12 @@
 //!
 //! `read_file` returns the rows of a file and the records that it skipped, or the first reason why the file is bad.
 //! `Holdings::with_issn` and `with_isbn` find the rows of an identifier by an index. Queries parse identifiers, dates
-//! and volumes with the same functions.
+//! and volumes with the same functions. `count_of` counts the rows and the skipped records for a report.
 #![tactic(auto)]
 
 mod cell_front;
 mod count;
+mod counts;
 mod coverage;
 mod entry;
 mod fault;
@@ -35,21 +36,21 @@ mod runs;
 mod stored_record;
 mod stored_text;
 mod take_fields;
-mod volume;
 mod window;
 
-pub use crate::count::FileCount;
-pub use crate::fault::{BadFile, KbartFault, Reason};
-pub use crate::file::{count_file, list_file, read_file, read_parts};
-pub use crate::file_rows::FileRows;
-pub use crate::holdings::{Aside, Holdings};
-pub use crate::identifiers::{Identifiers, Kind};
-pub use crate::label::{LABELS, Label, REQUIRED_COUNT};
-pub use crate::law::{empty_file_is_bad, records_are_of_both_parts};
-pub use crate::list_check::{ListCheck, read_windows};
-pub use crate::retired::RetiredHoldings;
-pub use crate::row::Row;
-pub use crate::volume::read_volume;
+pub use count::FileCount;
+pub use counts::{Counts, count_of};
+pub use coverage::read_volume;
+pub use fault::{BadFile, KbartFault, Reason};
 pub use feed_dates::DayRange;
 pub use feed_identifiers::{Isbn, Issn};
 pub use feed_text::Utf8Check;
+pub use file::{count_file, list_file, read_file, read_parts};
+pub use file_rows::FileRows;
+pub use holdings::{Aside, Holdings};
+pub use identifiers::{Identifiers, Kind};
+pub use label::{LABELS, Label, REQUIRED_COUNT};
+pub use law::{empty_file_is_bad, records_are_of_both_parts};
+pub use list_check::{ListCheck, read_windows};
+pub use retired::RetiredHoldings;
+pub use row::Row;

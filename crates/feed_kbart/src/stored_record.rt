@@ -14,7 +14,7 @@ use crate::label::{LABEL_COUNT, Label, PARSED_COUNT};
 use crate::long_record::LongRecord;
 use crate::stored_text::{has_same_texts, put_text, text_at};
 use csv::ByteRecord;
-use feed_identifiers::trim_spaces;
+use feed_bytes::trim_spaces;
 use std::alloc::AllocError;
 use std::marker::Model;
 use std::rc::RcSlice;

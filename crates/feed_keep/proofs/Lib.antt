@@ -5,3 +5,5 @@ mod Arranged
 mod Order
 mod Listed
 pub mod Failed
+pub mod Ascending
+pub mod Strict

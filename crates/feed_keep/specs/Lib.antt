@@ -7,3 +7,4 @@ pub mod Order
 pub mod Arranged
 pub mod InMemory
 pub mod BadFile
+pub mod CheckOrder

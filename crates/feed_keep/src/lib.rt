@@ -1,15 +1,15 @@
-//! The storage of a feed: its records, the changes to them, the trait `Keep` that a store implements, and an
-//! implementation in memory.
+//! The storage of a feed: its records, the changes to them, the trait `Keep` that a store implements, the checks of
+//! records that a store has kept, and an implementation in memory.
 #![tactic(auto)]
 
 mod bad_file;
 mod keep;
 mod list_keep;
-mod name_order;
 mod record;
+mod record_checks;
 
 pub use bad_file::bad_of;
 pub use keep::{Change, Keep};
-pub use list_keep::ListKeep;
-pub use name_order::{is_earlier, is_listed_before};
+pub use list_keep::{ListKeep, is_earlier, is_listed_before};
 pub use record::Record;
+pub use record_checks::{are_names_ascending, are_places_ascending, sort_distinct};

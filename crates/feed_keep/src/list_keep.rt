@@ -1,12 +1,10 @@
 //! `ListKeep`, the implementation of `Keep` in memory.
-ghost use Rattle.std.specs.Prelude.{◌≡◌, ◌↔◌, ◌≤◌, []};
-ghost use Rattle.std.specs.Prelude.{false, Some, None, IfOk, IfSome, IfNone, OnOk, OnErr, length};
+ghost use Rattle.std.specs.Prelude.{◌≡◌, ◌↔◌, ◌≤◌, [], false, Some, None, IfOk, IfSome, IfNone, OnOk, OnErr, length};
 ghost use Rattle.std.specs.Prelude.{insert, not, IsPermutation};
 ghost use Rattle.std.specs.List.{IsDistinct};
 ghost use Rattle.std.specs.Ordering.{is_lt};
 ghost use Rattle.feed_names.specs.ReleaseName.{name_eq};
 ghost use Rattle.feed_model.specs.Content.{names, record_of};
-ghost use Rattle.feed_model.specs.Change.{};
 ghost use Rattle.feed_model.specs.Change.{changed, comes_before, insert_record};
 ghost use Rattle.feed_model.specs.Change.{is_earlier, new_record, without_earlier};
 ghost use Rattle.feed_parts.specs.Shown.{shown_parts};
@@ -15,7 +13,6 @@ ghost use Rattle.feed_keep.specs.Order.{AreNamesInOrder};
 ghost use Rattle.feed_keep.specs.Shown.{shown, shown_record, IsRecordAt};
 
 use crate::keep::{Change, Keep};
-use crate::name_order::{is_earlier, is_listed_before};
 use crate::record::Record;
 use feed_kbart::BadFile;
 use feed_model::{KeepFault, State};
@@ -258,4 +255,18 @@ fn copy_records(alloc: Global, records: &[Record]) -> Result<Vec<Record>, AllocE
         copy.push(record)?;
     }
     Ok(copy)
+}
+
+/// Returns whether the text of a name is less than that of another one, by bytes.
+pub fn is_listed_before(name: &ReleaseName, other: &ReleaseName) -> bool
+    ensures { result ≡ comes_before name.now other.now }
+{
+    name.text().cmp(&other.text()).is_lt()
+}
+
+/// Returns whether both are of one package, and the other is of a later day.
+pub fn is_earlier(name: &ReleaseName, other: &ReleaseName) -> bool
+    ensures { result ≡ is_earlier name.now other.now }
+{
+    name.earlier_than(other)
 }

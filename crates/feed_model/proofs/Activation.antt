@@ -9,7 +9,7 @@ use Rattle.feed_model.specs.History.{Piece, History, Answer, is_taken, IsGood, I
 use Rattle.feed_model.specs.Reply.{IsRight}
 use Rattle.feed_model.specs.Content.{Part, Record, Content, record_of, IsState, IsRecord, IsContent}
 use Rattle.feed_model.specs.Change.{grown, changed, is_earlier, without_earlier}
-use Rattle.feed_model.proofs.Names.{name_by, name_cases, stem_cases, day_cases, earlier_is, earlier_not}
+use Rattle.feed_model.proofs.Names.{name_by, name_cases, package_name_cases, day_cases, earlier_is, earlier_not}
 use Rattle.feed_model.proofs.Lookups.{record_of-changed, record_of-changed_here, record_of-without_earlier}
 use Rattle.feed_model.proofs.Distinct.{distinct-changed, distinct-without_earlier}
 use Rattle.feed_model.proofs.Goods.{reason_there}
@@ -18,7 +18,7 @@ use Rattle.feed_model.proofs.Tests.{of_record, record_good}
 use Rattle.feed_model.proofs.Growth.{Keeps, keeps_but, grown_bytes, no_reason}
 
 -- where n isn't passed, no good release of its package is later
-pub none_later : (c : Content) (h : History) → IsContent c h → (n m : Name) → (IsPassed h n → ⊥) → m.stem ≡ n.stem → IsGood h m → m.day ≤ℤ n.day
+pub none_later : (c : Content) (h : History) → IsContent c h → (n m : Name) → (IsPassed h n → ⊥) → m.package_name ≡ n.package_name → IsGood h m → m.day ≤ℤ n.day
 none_later c h is n m ahead same g = by (day_cases m.day n.day)
   where
     by : (m.day ≤ℤ n.day) ⊎ (n.day <ℤ m.day) → m.day ≤ℤ n.day
@@ -56,18 +56,18 @@ activate_moves c h n f t b a r ps keeps taken right good = record {
     latest : IsActive k n
     latest = (good, λ m same g. at m same g (name_cases m n))
       where
-        at : (m : Name) → m.stem ≡ n.stem → IsGood k m → (m ≡ n) ⊎ (m ≢ n) → m.day ≤ℤ n.day
+        at : (m : Name) → m.package_name ≡ n.package_name → IsGood k m → (m ≡ n) ⊎ (m ≢ n) → m.day ≤ℤ n.day
         at m same g (inl e) = let d : m.day ≡ n.day = ap (λ x. x.day) e in omega (arith, ints)
         at m same g (inr apart) = none_later c h keeps.content n m was.held.1 same (good_back n m h k but apart g)
 
     -- a release of another package is active as before
-    elsewhere : (m : Name) → m.stem ≢ n.stem → IsActive h m → IsActive k m
-    elsewhere m other act = (there m act.0, λ x same g. act.1 x same (good_back n x h k but (λ e. other (sym same ∙ ap (λ y. y.stem) e)) g))
+    elsewhere : (m : Name) → m.package_name ≢ n.package_name → IsActive h m → IsActive k m
+    elsewhere m other act = (there m act.0, λ x same g. act.1 x same (good_back n x h k but (λ e. other (sym same ∙ ap (λ y. y.package_name) e)) g))
 
     active_there : (m : Name) → (IsEarlier m n → ⊥) → m ≢ n → IsActive h m → IsActive k m
-    active_there m kept apart act = at (stem_cases m n)
+    active_there m kept apart act = at (package_name_cases m n)
       where
-        at : (m.stem ≡ n.stem) ⊎ (m.stem ≢ n.stem) → IsActive k m
+        at : (m.package_name ≡ n.package_name) ⊎ (m.package_name ≢ n.package_name) → IsActive k m
         at (inl same) =
             let le : m.day ≤ℤ n.day = latest.1 m same (there m act.0) in
             let day : m.day ≡ n.day = split (day_cases n.day m.day) le in
@@ -79,9 +79,9 @@ activate_moves c h n f t b a r ps keeps taken right good = record {
         at (inr other) = elsewhere m other act
 
     pass_there : (m : Name) → (IsEarlier m n → ⊥) → IsPassed h m → IsPassed k m
-    pass_there m kept p = at (stem_cases p.0 n)
+    pass_there m kept p = at (package_name_cases p.0 n)
       where
-        at : (p.0.stem ≡ n.stem) ⊎ (p.0.stem ≢ n.stem) → IsPassed k m
+        at : (p.0.package_name ≡ n.package_name) ⊎ (p.0.package_name ≢ n.package_name) → IsPassed k m
         at (inl same) =
             let le : p.0.day ≤ℤ n.day = none_later c h keeps.content n p.0 was.held.1 same p.1.0 in
             let lt : m.day <ℤ p.0.day = p.2.1 in

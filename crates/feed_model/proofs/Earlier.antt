@@ -219,9 +219,13 @@ release_same h n =
       held = held_moves h (without_refused h) s n;
     }
 
-report_there : (h k : History) → IsStill h k → (stem : List ℕ) (o : Option Name) → Reports h stem o → Reports k stem o
-report_there h k s stem None none = λ m same good. none m same ((goods_still h k s).back m good)
-report_there h k s stem (Some n) is = (is.0, active_same h k (goods_still h k s) n is.1)
+report_there : (h k : History) → IsStill h k → (package_name : List ℕ) (o : Option Name) → Reports h package_name o → Reports k package_name o
+report_there h k s package_name None none = λ m same good. none m same ((goods_still h k s).back m good)
+report_there h k s package_name (Some n) is = (is.0, active_same h k (goods_still h k s) n is.1)
 
-pub report_same : (h : History) (stem : List ℕ) (o : Option Name) → (Reports h stem o ↔ Reports (without_refused h) stem o)
-report_same h stem o = (report_there h (without_refused h) (still_without h) stem o, report_there (without_refused h) h (still_back h (without_refused h) (still_without h)) stem o)
+pub report_same : (h : History) (package_name : List ℕ) (o : Option Name) → (Reports h package_name o ↔ Reports (without_refused h) package_name o)
+report_same h package_name o = (
+  report_there h (without_refused h) (still_without h) package_name o,
+  report_there (without_refused h) h (still_back h (without_refused h) (still_without h))
+      package_name o,
+)

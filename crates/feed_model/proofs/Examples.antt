@@ -12,10 +12,10 @@ use Rattle.feed_model.specs.Content.{Part, Record, record_of, byte_in, AreParts}
 use Rattle.feed_model.specs.Change.{Pieces, merged, new_record, without_earlier, after}
 
 abbrev january : Name
-january = record { stem = 88 ∷ []; day = pos 0 }
+january = record { package_name = 88 ∷ []; day = pos 0 }
 
 abbrev february : Name
-february = record { stem = 88 ∷ []; day = pos 31 }
+february = record { package_name = 88 ∷ []; day = pos 31 }
 
 abbrev part : ℕ → List ℕ → Part
 part first bytes = record { first = first; bytes = bytes }

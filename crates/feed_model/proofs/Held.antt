@@ -12,7 +12,7 @@ use Rattle.feed_kbart.specs.declared.fault.BadFile.{BadFile}
 use Rattle.feed_model.specs.File.{fault_of}
 use Rattle.feed_model.specs.History.{Offered, Piece, Lost, History, Answer, is_noted, is_taken, byte_at, kept, IsFile, IsWhole, IsGood, IsPassed, IsHeld}
 use Rattle.feed_model.specs.Reply.{IsLegal, Stores, HoldsNumber, kept_with, missing_below, max_held}
-use Rattle.feed_model.proofs.Names.{name_is, name_cases, name_not, name_laws, stem_cases, day_cases}
+use Rattle.feed_model.proofs.Names.{name_is, name_cases, name_not, name_laws, package_name_cases, day_cases}
 use Rattle.feed_model.proofs.Goods.{SameGood, same_back, passed_same, held_same, IsStill, goods_still}
 use Rattle.feed_model.proofs.Legal.{nothing_kept}
 use Rattle.feed_model.proofs.Others.{SameBut, good_other, good_back, goods_but}
@@ -58,7 +58,7 @@ good_or_not h n first total bytes a taken (inl (size, sized, inr (none, (text, l
 
 -- what was passed stays passed where a release becomes good
 passed_on : (n : Name) (h k : History) → SameBut n h k → ¬ (IsGood h n) → IsGood k n → (m : Name) → IsPassed h m → IsPassed k m
-passed_on n h k but before good m p = at (stem_cases p.0 n)
+passed_on n h k but before good m p = at (package_name_cases p.0 n)
   where
     there : (x : Name) → IsGood h x → IsGood k x
     there x g = by (name_cases x n)
@@ -68,14 +68,14 @@ passed_on n h k but before good m p = at (stem_cases p.0 n)
         by (inr apart) = good_other n x h k but apart g
 
     -- what is good now is n, or not later than the one that was active
-    now : (x : Name) → x.stem ≡ p.0.stem → IsGood k x → (x ≡ n) ⊎ (x.day ≤ℤ p.0.day)
+    now : (x : Name) → x.package_name ≡ p.0.package_name → IsGood k x → (x ≡ n) ⊎ (x.day ≤ℤ p.0.day)
     now x same g = by (name_cases x n)
       where
         by : (x ≡ n) ⊎ (x ≢ n) → (x ≡ n) ⊎ (x.day ≤ℤ p.0.day)
         by (inl e) = inl e
         by (inr apart) = inr (p.1.1 x same (good_back n x h k but apart g))
 
-    stays : ((x : Name) → x.stem ≡ p.0.stem → IsGood k x → x.day ≤ℤ p.0.day) → IsPassed k m
+    stays : ((x : Name) → x.package_name ≡ p.0.package_name → IsGood k x → x.day ≤ℤ p.0.day) → IsPassed k m
     stays latest = (p.0, (there p.0 p.1.0, latest), p.2)
 
     older : p.0.day ≤ℤ n.day → (x : Name) → (x ≡ n) ⊎ (x.day ≤ℤ p.0.day) → x.day ≤ℤ n.day
@@ -86,15 +86,15 @@ passed_on n h k but before good m p = at (stem_cases p.0 n)
     newer lt x (inl e) = let d : x.day ≡ n.day = ap (λ y. y.day) e in omega (arith, ints)
     newer lt x (inr d) = d
 
-    elsewhere : p.0.stem ≢ n.stem → (x : Name) → x.stem ≡ p.0.stem → (x ≡ n) ⊎ (x.day ≤ℤ p.0.day) → x.day ≤ℤ p.0.day
-    elsewhere other x same (inl e) = absurd (other (sym same ∙ ap (λ y. y.stem) e))
+    elsewhere : p.0.package_name ≢ n.package_name → (x : Name) → x.package_name ≡ p.0.package_name → (x ≡ n) ⊎ (x.day ≤ℤ p.0.day) → x.day ≤ℤ p.0.day
+    elsewhere other x same (inl e) = absurd (other (sym same ∙ ap (λ y. y.package_name) e))
     elsewhere other x same (inr d) = d
 
-    by_day : p.0.stem ≡ n.stem → (p.0.day ≤ℤ n.day) ⊎ (n.day <ℤ p.0.day) → IsPassed k m
+    by_day : p.0.package_name ≡ n.package_name → (p.0.day ≤ℤ n.day) ⊎ (n.day <ℤ p.0.day) → IsPassed k m
     by_day same (inl le) = (n, (good, λ x s g. older le x (now x (s ∙ sym same) g)), (p.2.0 ∙ same, (let lt : m.day <ℤ p.0.day = p.2.1 in omega (arith, ints))))
     by_day same (inr lt) = stays (λ x s g. newer lt x (now x s g))
 
-    at : (p.0.stem ≡ n.stem) ⊎ (p.0.stem ≢ n.stem) → IsPassed k m
+    at : (p.0.package_name ≡ n.package_name) ⊎ (p.0.package_name ≢ n.package_name) → IsPassed k m
     at (inl same) = by_day same (day_cases p.0.day n.day)
     at (inr other) = stays (λ x s g. elsewhere other x s (now x s g))
 

@@ -10,12 +10,12 @@ use Rattle.feed_names.specs.ReleaseName.{Name, name_eq, IsEarlier}
 use Rattle.feed_model.specs.Change.{is_earlier}
 
 -- two releases of one package with one day are one
-pub name_by : (m n : Name) → m.stem ≡ n.stem → m.day ≡ n.day → m ≡ n
-name_by m n same day = λ i. record { stem = same i; day = day i }
+pub name_by : (m n : Name) → m.package_name ≡ n.package_name → m.day ≡ n.day → m ≡ n
+name_by m n same day = λ i. record { package_name = same i; day = day i }
 
 name_decides : (m n : Name) → Decides (name_eq m n) (m ≡ n)
-name_decides m n = Decides-like (name_eq m n) (λ e. name_by m n e.0 e.1) (λ e. (ap (λ (x : Name). x.stem) e, ap (λ (x : Name). x.day) e))
-    (Decides-and (pointwise ◌==◌ m.stem n.stem) (int_eq m.day n.day) (bytes_decides m.stem n.stem) (Decides-int_eq m.day n.day))
+name_decides m n = Decides-like (name_eq m n) (λ e. name_by m n e.0 e.1) (λ e. (ap (λ (x : Name). x.package_name) e, ap (λ (x : Name). x.day) e))
+    (Decides-and (pointwise ◌==◌ m.package_name n.package_name) (int_eq m.day n.day) (bytes_decides m.package_name n.package_name) (Decides-int_eq m.day n.day))
 
 pub name_is : (m n : Name) → name_eq m n ≡ true → m ≡ n
 name_is m n e = (name_decides m n).0 e
@@ -40,12 +40,12 @@ name_cases m n = by (name_eq m n) refl
     by true e = inl (name_is m n e)
     by false e = inr (name_not m n e)
 
-pub stem_cases : (m n : Name) → (m.stem ≡ n.stem) ⊎ (m.stem ≢ n.stem)
-stem_cases m n = by (pointwise ◌==◌ m.stem n.stem) refl
+pub package_name_cases : (m n : Name) → (m.package_name ≡ n.package_name) ⊎ (m.package_name ≢ n.package_name)
+package_name_cases m n = by (pointwise ◌==◌ m.package_name n.package_name) refl
   where
-    by : (b : Bool) → pointwise ◌==◌ m.stem n.stem ≡ b → (m.stem ≡ n.stem) ⊎ (m.stem ≢ n.stem)
-    by true e = inl ((bytes_decides m.stem n.stem).0 e)
-    by false e = inr (not_from_Decides (pointwise ◌==◌ m.stem n.stem) (bytes_decides m.stem n.stem) e)
+    by : (b : Bool) → pointwise ◌==◌ m.package_name n.package_name ≡ b → (m.package_name ≡ n.package_name) ⊎ (m.package_name ≢ n.package_name)
+    by true e = inl ((bytes_decides m.package_name n.package_name).0 e)
+    by false e = inr (not_from_Decides (pointwise ◌==◌ m.package_name n.package_name) (bytes_decides m.package_name n.package_name) e)
 
 pub day_cases : (a b : ℤ) → (a ≤ℤ b) ⊎ (b <ℤ a)
 day_cases a b = grind (arith, ints)
@@ -54,7 +54,7 @@ day_decides : (a b : ℤ) → Decides (int_lt a b) (a <ℤ b)
 day_decides a b = (λ e. grind (arith, ints), λ lt. grind (arith, ints))
 
 earlier_decides : (m n : Name) → Decides (is_earlier m n) (IsEarlier m n)
-earlier_decides m n = Decides-and (pointwise ◌==◌ m.stem n.stem) (int_lt m.day n.day) (bytes_decides m.stem n.stem) (day_decides m.day n.day)
+earlier_decides m n = Decides-and (pointwise ◌==◌ m.package_name n.package_name) (int_lt m.day n.day) (bytes_decides m.package_name n.package_name) (day_decides m.day n.day)
 
 pub earlier_is : (m n : Name) → is_earlier m n ≡ true → IsEarlier m n
 earlier_is m n e = (earlier_decides m n).0 e

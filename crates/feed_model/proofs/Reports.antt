@@ -13,19 +13,19 @@ active_by : (c : Content) (h : History) (r : Record) → IsContent c h → recor
 active_by c h r is found active = subst (IsState h r.name) active (of_record c h r.name r is found).state
 
 -- an active record of the package
-pub report_some : (c : Content) (h : History) (stem : List ℕ) (r : Record) → IsContent c h → record_of c r.name ≡ Some r → r.state ≡ Active → r.name.stem ≡ stem
-    → Reports h stem (Some r.name)
-report_some c h stem r is found active same = (same, active_by c h r is found active)
+pub report_some : (c : Content) (h : History) (package_name : List ℕ) (r : Record) → IsContent c h → record_of c r.name ≡ Some r → r.state ≡ Active → r.name.package_name ≡ package_name
+    → Reports h package_name (Some r.name)
+report_some c h package_name r is found active same = (same, active_by c h r is found active)
 
 -- no active record of the package
-pub report_none : (c : Content) (h : History) (stem : List ℕ) → IsContent c h → ((a : Record) → record_of c a.name ≡ Some a → a.state ≡ Active → a.name.stem ≢ stem)
-    → Reports h stem None
-report_none c h stem is none = λ m same good. latest m same good (λ p. latest p.0 (sym p.2.0 ∙ same) p.1.0 (not_passed_active h p.0 p.1))
+pub report_none : (c : Content) (h : History) (package_name : List ℕ) → IsContent c h → ((a : Record) → record_of c a.name ≡ Some a → a.state ≡ Active → a.name.package_name ≢ package_name)
+    → Reports h package_name None
+report_none c h package_name is none = λ m same good. latest m same good (λ p. latest p.0 (sym p.2.0 ∙ same) p.1.0 (not_passed_active h p.0 p.1))
   where
-    latest : (m : Name) → m.stem ≡ stem → IsGood h m → ¬ (¬ (IsPassed h m))
+    latest : (m : Name) → m.package_name ≡ package_name → IsGood h m → ¬ (¬ (IsPassed h m))
     latest m same good free =
         let r = record_good c h is m good free in
-        none r.0 (record_of-own c m r.0 r.1) r.2 (ap (λ (x : Name). x.stem) (name-record_of c m r.0 r.1) ∙ same)
+        none r.0 (record_of-own c m r.0 r.1) r.2 (ap (λ (x : Name). x.package_name) (name-record_of c m r.0 r.1) ∙ same)
 
 -- the bytes of a record that has all of them are its file
 pub file_of_record : (c : Content) (h : History) (r : Record) (text : List ℕ) → IsContent c h → record_of c r.name ≡ Some r → length text ≡ r.size
@@ -38,7 +38,7 @@ same_day : (a b : ℤ) → a ≤ℤ b → b ≤ℤ a → a ≡ b
 same_day a b le ge = grind (arith, ints)
 
 -- two active releases of a package are one
-pub active_one : (h : History) (m n : Name) → m.stem ≡ n.stem → IsActive h m → IsActive h n → m ≡ n
+pub active_one : (h : History) (m n : Name) → m.package_name ≡ n.package_name → IsActive h m → IsActive h n → m ≡ n
 active_one h m n same a b = name_by m n same (same_day m.day n.day (b.1 m same a.0) (a.1 n (sym same) b.0))
 
 -- a package has one report

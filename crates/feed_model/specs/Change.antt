@@ -53,7 +53,7 @@ changed n f (r ∷ rs) = if name_eq r.name n then f r ∷ rs else r ∷ changed 
 
 -- the first release is of an earlier day of the same package
 abbrev pub is_earlier : Name → Name → Bool
-is_earlier m n = pointwise ◌==◌ m.stem n.stem && int_lt m.day n.day
+is_earlier m n = pointwise ◌==◌ m.package_name n.package_name && int_lt m.day n.day
 
 -- the content without the package's records of earlier days
 abbrev pub without_earlier : Name → Content → Content

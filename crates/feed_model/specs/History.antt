@@ -78,11 +78,11 @@ IsBad h n = (text : List ℕ) × IsFile h n text × (fault_of text ≢ None)
 
 -- the release has the latest day of all complete and good releases of its package, whichever was completed last
 abbrev pub IsActive : History → Name → Type 0
-IsActive h n = IsGood h n × ((m : Name) → m.stem ≡ n.stem → IsGood h m → m.day ≤ℤ n.day)
+IsActive h n = IsGood h n × ((m : Name) → m.package_name ≡ n.package_name → IsGood h m → m.day ≤ℤ n.day)
 
 -- the active release of a package; none exactly if no release of the package is complete and good
 abbrev pub Reports : History → List ℕ → Option Name → Type 0
-Reports h stem o = MatchOption o ((m : Name) → m.stem ≡ stem → IsGood h m → ⊥) (λ n. (n.stem ≡ stem) × IsActive h n)
+Reports h package_name o = MatchOption o ((m : Name) → m.package_name ≡ package_name → IsGood h m → ⊥) (λ n. (n.package_name ≡ package_name) × IsActive h n)
 
 -- the active release of its package is later; the release itself may never have been offered
 abbrev pub IsPassed : History → Name → Type 0

@@ -14,8 +14,8 @@ pub fn contents_move()
 
 /// Without those offers, the same release is reported for each package.
 pub fn reports_stay()
-    ensures { (h : History) (stem : List ℕ) (o : Option Name)
-        → Reports h stem o ↔ Reports (without_refused h) stem o }
+    ensures { (h : History) (package_name : List ℕ) (o : Option Name)
+        → Reports h package_name o ↔ Reports (without_refused h) package_name o }
 {}
 
 /// Without those offers, each release has the same size, the same bytes and the same file, and is held or not as

@@ -5,41 +5,42 @@ use Rattle.std.proofs.lemmas.List.{append_cancel_right, length-append, take-appe
 use Rattle.std.proofs.Math.Seq.{take-append_seam, drop-append_seam}
 use Rattle.feed_dates.specs.Days.{IsDateOf, OneDayForDate, OneDateForDay}
 use Rattle.feed_dates.proofs.Dates.{one_day}
-use Rattle.feed_names.specs.ReleaseName.{Name, IsStem, EndsInDate, IsName, EndsInTxt, text_of}
+use Rattle.feed_names.specs.ReleaseName.{Name, IsPackageName, EndsInDate, IsName, EndsInTxt, text_of}
 
 -- a date has ten bytes
 length-date : (n : ℤ) (text : List ℕ) → IsDateOf n text → length text ≡ 10
 length-date n text h = ap length h.spelled
 
 -- how long the text before `.txt` is
-pub length-dated : (front stem : List ℕ) (n : ℤ) → EndsInDate front stem n → length front ≡ length stem + 11
-length-dated front stem n h = omega (arith, ap length h.spelled, length-append stem (95 ∷ h.date), length-date n h.date h.is_date)
+pub length-dated : (front package_name : List ℕ) (n : ℤ) → EndsInDate front package_name n → length front ≡ length package_name + 11
+length-dated front package_name n h = omega (arith, ap length h.spelled, length-append package_name (95 ∷ h.date), length-date n h.date h.is_date)
 
--- the stem is all but the last eleven bytes of it
-pub stem-take : (front stem : List ℕ) (n : ℤ) → EndsInDate front stem n → take (length front - 11) front ≡ stem
-stem-take front stem n h =
-    let long : length front - 11 ≡ length stem = omega (arith, length-dated front stem n h) in
-    rw long (rw h.spelled (take-append_seam stem (95 ∷ h.date)))
+-- the package_name is all but the last eleven bytes of it
+pub package_name-take : (front package_name : List ℕ) (n : ℤ) → EndsInDate front package_name n → take (length front - 11) front ≡ package_name
+package_name-take front package_name n h =
+    let long : length front - 11 ≡ length package_name = omega (arith, length-dated front package_name n h) in
+    rw long (rw h.spelled (take-append_seam package_name (95 ∷ h.date)))
 
 -- and the date those after the underscore
-pub date-drop : (front stem : List ℕ) (n : ℤ) (h : EndsInDate front stem n) → drop (length front - 11) front ≡ 95 ∷ h.date
-date-drop front stem n h =
-    let long : length front - 11 ≡ length stem = omega (arith, length-dated front stem n h) in
-    rw long (rw h.spelled (drop-append_seam stem (95 ∷ h.date)))
+pub date-drop : (front package_name : List ℕ) (n : ℤ) (h : EndsInDate front package_name n) → drop (length front - 11) front ≡ 95 ∷ h.date
+date-drop front package_name n h =
+    let long : length front - 11 ≡ length package_name = omega (arith, length-dated front package_name n h) in
+    rw long (rw h.spelled (drop-append_seam package_name (95 ∷ h.date)))
 
--- two releases with the same stem and day are one
-same_name : (m n : Name) → m.stem ≡ n.stem → m.day ≡ n.day → m ≡ n
-same_name m n stem day = ap (λ (s : List ℕ). let name : Name = record { stem = s; day = m.day } in name) stem ∙ ap (λ (d : ℤ). let name : Name = record { stem = n.stem; day = d } in name) day
+-- two releases with the same package_name and day are one
+same_name : (m n : Name) → m.package_name ≡ n.package_name → m.day ≡ n.day → m ≡ n
+same_name m n package_name day = ap (λ (s : List ℕ). let name : Name = record { package_name = s; day = m.day } in name) package_name
+    ∙ ap (λ (d : ℤ). let name : Name = record { package_name = n.package_name; day = d } in name) day
 
--- a text before `.txt` is the stem and the date of one release, since a date is that of one day
-pub one_name : OneDayForDate → (front : List ℕ) (m n : Name) → EndsInDate front m.stem m.day → EndsInDate front n.stem n.day → m ≡ n
+-- a text before `.txt` is the package_name and the date of one release, since a date is that of one day
+pub one_name : OneDayForDate → (front : List ℕ) (m n : Name) → EndsInDate front m.package_name m.day → EndsInDate front n.package_name n.day → m ≡ n
 one_name law front m n g h =
-    let stems : m.stem ≡ n.stem = sym (stem-take front m.stem m.day g) ∙ stem-take front n.stem n.day h in
-    let dated = sym (date-drop front m.stem m.day g) ∙ date-drop front n.stem n.day h in
+    let stems : m.package_name ≡ n.package_name = sym (package_name-take front m.package_name m.day g) ∙ package_name-take front n.package_name n.day h in
+    let dated = sym (date-drop front m.package_name m.day g) ∙ date-drop front n.package_name n.day h in
     let dates : g.date ≡ h.date = cc in
     same_name m n stems (law g.date m.day n.day g.is_date (rw dates h.is_date))
 
-pub one_split : (front : List ℕ) (m n : Name) → EndsInDate front m.stem m.day → EndsInDate front n.stem n.day → m ≡ n
+pub one_split : (front : List ℕ) (m n : Name) → EndsInDate front m.package_name m.day → EndsInDate front n.package_name n.day → m ≡ n
 one_split front m n g h = one_name one_day front m n g h
 
 pub one_front : (text front rest : List ℕ) → EndsInTxt text front → EndsInTxt text rest → front ≡ rest
@@ -57,14 +58,15 @@ pub ending_cut : (text front : List ℕ) → pointwise nat_eq (drop (length text
 ending_cut text front last cut =
     sym (take-append-drop (length text - 4) text) ∙ ap (λ back. take (length text - 4) text ++ back) (same_text _ _ (sym last)) ∙ ap (λ s. s ++ codes ".txt") (sym cut)
 
--- the stem of a name is all but its last fifteen bytes
-pub name_cut : (text front stem : List ℕ) (n : ℤ) → EndsInTxt text front → EndsInDate front stem n → IsStem stem → IsName text (record { stem = take (length text - 15) text; day = n })
-name_cut text front stem n ends dated is_stem =
-    let long : length text - 15 ≡ length front - 11 = omega (arith, ap length ends, length-append front (codes ".txt"), length-dated front stem n dated) in
+-- the package_name of a name is all but its last fifteen bytes
+pub name_cut : (text front package_name : List ℕ) (n : ℤ) → EndsInTxt text front → EndsInDate front package_name n → IsPackageName package_name
+    → IsName text (record { package_name = take (length text - 15) text; day = n })
+name_cut text front package_name n ends dated is_package_name =
+    let long : length text - 15 ≡ length front - 11 = omega (arith, ap length ends, length-append front (codes ".txt"), length-dated front package_name n dated) in
     let within : length front - 11 ≤ length front = omega arith in
-    let cut : take (length text - 15) text ≡ stem = rw (long, ends, take-append-le (length front - 11) front (codes ".txt") within) (stem-take front stem n dated) in
-    record { front = front; ends = ends; is_dated = rw cut dated; is_stem = rw cut is_stem }
+    let cut : take (length text - 15) text ≡ package_name = rw (long, ends, take-append-le (length front - 11) front (codes ".txt") within) (package_name-take front package_name n dated) in
+    record { front = front; ends = ends; is_dated = rw cut dated; is_package_name = rw cut is_package_name }
 
--- a name's text is spelled by its stem and its day
+-- a name's text is spelled by its package_name and its day
 pub name_is_text : OneDateForDay → (text : List ℕ) (name : Name) → IsName text name → text ≡ text_of name
 name_is_text law text name h = rw (h.ends, h.is_dated.spelled, law name.day h.is_dated.date h.is_dated.is_date) refl

@@ -2,9 +2,7 @@
 #![tactic(auto)]
 
 mod laws;
-mod name_fault;
 mod release_name;
 
 pub use laws::{one_release_for_text, one_text_for_release};
-pub use name_fault::NameFault;
-pub use release_name::ReleaseName;
+pub use release_name::{NameFault, ReleaseName};

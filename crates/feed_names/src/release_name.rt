@@ -1,19 +1,19 @@
 //! `ReleaseName`, a validated file name of the form `PACKAGE_YYYY-MM-DD.txt`.
 ghost use Rattle.std.specs.Prelude.{◌≡◌, ◌↔◌, ℕ, ℤ, List, MatchOption, IsTrue, IfOk, IfErr};
-ghost use Rattle.feed_names.specs.ReleaseName.{EndsInDate, IsEarlier, IsName, IsNameFault, IsStem};
-ghost use Rattle.feed_names.specs.ReleaseName.{is_stem_byte, text_of};
+ghost use Rattle.feed_names.specs.ReleaseName.{EndsInDate, IsEarlier, IsName, IsNameFault, IsPackageName};
+ghost use Rattle.feed_names.specs.ReleaseName.{is_package_byte, text_of};
 
-use crate::name_fault::NameFault;
 use feed_dates::{day_numbers_fit, one_date_for_day, read_date};
 use std::alloc::{AllocError, Global};
 use std::marker::Model;
+use thiserror::Error;
 
 // The length of `_` and the date, without and with `.txt`.
 const DATE_LENGTH: usize = 11;
 
 const TAIL_LENGTH: usize = 15;
 
-const LONGEST_STEM: usize = 100;
+const LONGEST_PACKAGE: usize = 100;
 
 /// The name of a release, such as `Acme_Global_All_2024-01-01.txt`: the package, `_`, the release's day and `.txt`. The
 /// text before the last `_` is not interpreted. It is the key of the package.
@@ -29,11 +29,11 @@ impl Model for ReleaseName {
 
     ghost Value = { Name };
 
-    ghost view = { λ r. record { stem = take (length r.text.items - 15) r.text.items; day = r.day } };
+    ghost view = { λ r. record { package_name = take (length r.text.items - 15) r.text.items; day = r.day } };
 
     ghost invariant = { λ r.
-        let stem = take (length r.text.items - 15) r.text.items in
-        IsName r.text.items (record { stem = stem; day = r.day }) };
+        let package_name = take (length r.text.items - 15) r.text.items in
+        IsName r.text.items (record { package_name = package_name; day = r.day }) };
 }
 
 impl ReleaseName {
@@ -45,10 +45,10 @@ impl ReleaseName {
         let Some(front) = text.strip_suffix(b".txt".as_slice()) else {
             return Err(NameFault::BadEnding);
         };
-        let Some((stem, day)) = split_date(front) else {
+        let Some((package_name, day)) = split_date(front) else {
             return Err(NameFault::BadDate);
         };
-        if !is_stem(stem) {
+        if !is_package_name(package_name) {
             return Err(NameFault::BadStem);
         }
         day_numbers_fit();
@@ -60,8 +60,8 @@ impl ReleaseName {
 
     /// Returns the key of the package: the bytes before `_` and the date.
     pub fn package(&self) -> &[u8]
-        ensures value { result.now ≡ self.now.stem }
-        ensures stem { IsStem self.now.stem }
+        ensures value { result.now ≡ self.now.package_name }
+        ensures package_name { IsPackageName self.now.package_name }
     {
         &self.text[..self.text.len() - TAIL_LENGTH]
     }
@@ -103,30 +103,31 @@ impl ReleaseName {
 // Splits off `_` and a date at the end of a text: what precedes them, and the day of the date.
 fn split_date(front: &[u8]) -> Option<(&[u8], i32)>
     ensures { MatchOption result
-        ((stem : List ℕ) (day : ℤ) → ¬ (EndsInDate front.now stem day))
+        ((package_name : List ℕ) (day : ℤ) → ¬ (EndsInDate front.now package_name day))
         (λ split. EndsInDate front.now split.0.now split.1) }
 {
     let at = front.len().checked_sub(DATE_LENGTH)?;
-    let (stem, dated) = front.split_at(at);
+    let (package_name, dated) = front.split_at(at);
     let date = dated.strip_prefix(b"_".as_slice())?;
     day_numbers_fit();
     match read_date(date) {
-        Some(day) => Some((stem, day)),
+        Some(day) => Some((package_name, day)),
         None => None,
     }
 }
 
-fn is_stem(stem: &[u8]) -> bool
-    ensures { IsTrue result ↔ IsStem stem.now }
+fn is_package_name(package_name: &[u8]) -> bool
+    ensures { IsTrue result ↔ IsPackageName package_name.now }
 {
-    match stem {
+    match package_name {
         [] | [b'.', ..] => false,
-        _ => stem.len() <= LONGEST_STEM && stem.iter().all(|byte| is_stem_byte(*byte)),
+        _ => package_name.len() <= LONGEST_PACKAGE
+            && package_name.iter().all(|byte| is_package_byte(*byte)),
     }
 }
 
-fn is_stem_byte(byte: u8) -> bool
-    ensures { result ≡ is_stem_byte byte }
+fn is_package_byte(byte: u8) -> bool
+    ensures { result ≡ is_package_byte byte }
 {
     byte.is_ascii_alphanumeric() || byte == b'-' || byte == b'_' || byte == b'.'
 }
@@ -151,4 +152,22 @@ impl Eq for ReleaseName {
     ghost use Rattle.std.specs.Cmp.Rules.{comparing};
 
     ghost laws = { Prim.search (comparing, rules) };
+}
+
+/// Why a text is not a release name. The ending is checked first, then the date, then the package_name.
+#[derive(Clone, Copy, Debug, PartialEq, Eq, Error)]
+pub enum NameFault {
+    /// The text before `_`, the date and `.txt` is not 1 to 100 ASCII letters, digits, `-`, `_` and `.`, or it begins
+    /// with `.`.
+    #[error("BadStem")]
+    BadStem,
+    /// The text before `.txt` does not end in `_` and the date of a real day of the years 0001 to 9999.
+    #[error("BadDate")]
+    BadDate,
+    /// The text does not end in `.txt` (lower case).
+    #[error("BadEnding")]
+    BadEnding,
+    /// The text is a name, but there was not enough memory to store it.
+    #[error("Memory")]
+    Memory,
 }

@@ -16,10 +16,10 @@ use Rattle.feed_openurl.specs.Laws.{WrittenIsItself, WrittenIsUnderstood, of_wri
 use Rattle.feed_openurl.specs.Numbers.{number_or, numbers_in}
 use Rattle.feed_openurl.specs.Texts.{IsDateText, IsVolumeText}
 use Rattle.feed_openurl.specs.Tiers.{date_in, date_of, lenient_date_of, lenient_volume_of, strict_date_of, strict_volume_of, volume_in, volume_of}
-use Rattle.feed_openurl.specs.Values.{AreIdentifiers, IsCounted, IsIsbnText, IsIssnText, IsWellFormed, UnderstandingValue, understood_pairs}
+use Rattle.feed_openurl.specs.Values.{AreIdentifiers, IsCounted, IsIsbnText, IsIssnText, IsWellFormed, OpenUrlValue, understood_pairs}
 use Rattle.feed_openurl.specs.Written.{date_pairs, isbn_pairs, issn_pairs, pairs_for, version_pair, volume_pairs, written}
-use Rattle.feed_openurl.specs.declared.fault.Refusal.{Refusal}
-use Rattle.feed_openurl.specs.declared.fault.Refusal.TheVariants as reason
+use Rattle.feed_openurl.specs.declared.fault.OpenUrlFault.{OpenUrlFault}
+use Rattle.feed_openurl.specs.declared.fault.OpenUrlFault.TheVariants as reason
 use Rattle.feed_openurl.specs.declared.key.Key.{Key}
 use Rattle.feed_openurl.specs.declared.key.Tier.{Tier}
 use Rattle.feed_openurl.specs.declared.key.Tier.TheVariants.{Old, Rft}
@@ -88,7 +88,7 @@ module _ (issns isbns : List (List ℕ)) where
 abbrev identifiers : List (List ℕ) → List (List ℕ) → IdentifiersValue
 identifiers issns isbns = record { issns = issns; isbns = isbns }
 
-abbrev looked : List (List ℕ) → List (List ℕ) → Option Refusal → LookedUp
+abbrev looked : List (List ℕ) → List (List ℕ) → Option OpenUrlFault → LookedUp
 looked issns isbns refusal = record { issns = issns; isbns = isbns; refusal = refusal }
 
 -- a pair that is written has the one number that the core reads
@@ -183,7 +183,7 @@ nothing None (Some volume) = nothing_of (map keyed (pairs_for [] [] None (Some v
 nothing (Some date) None = nothing_of (map keyed (pairs_for [] [] (Some date) None)) (ap (λ b. b || false) version_named) refl
 nothing (Some date) (Some volume) = nothing_of (map keyed (pairs_for [] [] (Some date) (Some volume))) (ap (λ b. b || false) version_named) refl
 
-looked_again : (issns isbns : List (List ℕ)) (date volume : Option (List ℕ)) (refusal : Option Refusal) → AreIdentifiers issns isbns → IsCounted issns isbns refusal
+looked_again : (issns isbns : List (List ℕ)) (date volume : Option (List ℕ)) (refusal : Option OpenUrlFault) → AreIdentifiers issns isbns → IsCounted issns isbns refusal
     → looked_up (pairs_for issns isbns date volume) ≡ looked issns isbns (refusal_of_written refusal)
 looked_again issns isbns date volume None are is =
     looked_so issns isbns date volume are
@@ -194,10 +194,10 @@ looked_again [] (isbn ∷ isbns) date volume (Some why) are is = absurd (omega (
 looked_again (issn ∷ issns) isbns date volume (Some why) are is = absurd (omega (arith, is))
 
 -- the parts of an understanding
-abbrev together : LookedUp → Option (List ℕ) → Option (List ℕ) → UnderstandingValue
+abbrev together : LookedUp → Option (List ℕ) → Option (List ℕ) → OpenUrlValue
 together found date volume = record { issns = found.issns; isbns = found.isbns; date = date; volume = volume; refusal = found.refusal }
 
-pairs_again : (u : UnderstandingValue) → IsWellFormed u → understood_pairs (written_pairs u) ≡ of_written u
+pairs_again : (u : OpenUrlValue) → IsWellFormed u → understood_pairs (written_pairs u) ≡ of_written u
 pairs_again u is =
     ap (λ l. together l (date_of (written_pairs u)) (volume_of (written_pairs u))) (looked_again u.issns u.isbns u.date u.volume u.refusal is.identifiers is.counted)
     ∙ ap (λ d. together (looked u.issns u.isbns (refusal_of_written u.refusal)) d (volume_of (written_pairs u))) (date_again u.issns u.isbns u.date u.volume is.date)

@@ -11,9 +11,9 @@ use Rattle.std.proofs.lemmas.List.Elements.{All-append, All-cons, All-from_recur
 use Rattle.form_urlencoded.specs.Form.{IsUnchanged, append_pair, byte_serialize, extend_pairs, is_nonempty, is_unchanged}
 use Rattle.form_urlencoded.proofs.FormLemmas.{byte_serialize-cons, byte_serialize-nil}
 use Rattle.feed_identifiers.specs.Check.{capital, is_check, is_x, weighted_sum}
-use Rattle.feed_identifiers.specs.Isbn.{check_digit, has_prefix, is_isbn_10, is_isbn_13, is_no_hyphen, isbn_13_of, isbn_of_characters, weights_of_thirteen}
+use Rattle.feed_identifiers.specs.Isbn.{check_digit, has_prefix, is_isbn_10, is_isbn_13, isbn_13_of, isbn_of_characters, weights_of_thirteen}
+use Rattle.feed_bytes.specs.Trim.{is_no_hyphen, skip_spaces, trimmed}
 use Rattle.feed_identifiers.specs.Issn.{issn_of_characters, issn_of_digits, printed}
-use Rattle.feed_identifiers.specs.Text.{skip_spaces, trimmed}
 use Rattle.feed_dates.specs.Days.{day_of_date, day_of_parts, four_digits, two_digits}
 use Rattle.feed_dates.specs.DayRanges.{days_of, days_of_month, days_of_year, query_days_of, single_day, with_hyphens}
 use Rattle.feed_kbart.specs.Volumes.{volume_of}
@@ -22,7 +22,7 @@ use Rattle.feed_openurl.specs.Texts.{IsDateText, IsVolumeText}
 use Rattle.feed_openurl.specs.Laws.{WrittenIsShort}
 use Rattle.feed_openurl.specs.Values.{IsCounted, IsIsbnText, IsIssnText}
 use Rattle.feed_openurl.specs.Written.{date_pairs, isbn_pairs, issn_pairs, volume_pairs, with_key, written_limit}
-use Rattle.feed_openurl.specs.declared.fault.Refusal.{Refusal}
+use Rattle.feed_openurl.specs.declared.fault.OpenUrlFault.{OpenUrlFault}
 use Rattle.feed_openurl.proofs.Sizes.{written_steps}
 
 -- a text of at most n bytes, and a form writes each of them as it is
@@ -326,7 +326,7 @@ version_short =
     let value = ap length (serialized (codes "Z39.88-2004") version_value) in
     grind (arith, length-append, name, value)
 
-count_limited : (issns isbns : List (List ℕ)) (refusal : Option Refusal) → IsCounted issns isbns refusal → count issns isbns ≤ identifier_limit
+count_limited : (issns isbns : List (List ℕ)) (refusal : Option OpenUrlFault) → IsCounted issns isbns refusal → count issns isbns ≤ identifier_limit
 count_limited issns isbns None is = is.1
 count_limited issns isbns (Some why) is = omega (arith, is)
 

@@ -3,14 +3,14 @@ use Rattle.std.proofs.Common.{◌≡◌, ℕ, List, [], ◌∷◌, ◌++◌, tru
 use Rattle.std.specs.Prelude.{◌&&◌, not, is_some}
 use Rattle.std.specs.List.{flat_map}
 use Rattle.std.specs.Str.{chars, is_utf8}
-use Rattle.feed_identifiers.specs.Text.{trimmed}
+use Rattle.feed_bytes.specs.Trim.{trimmed}
 use Rattle.feed_openurl.specs.Citations.{OfferValue, cited, name_offers_by, offer, offer_text, offers_by, offers_for, offers_of, pair_offers, part_of, part_offers}
 use Rattle.feed_openurl.specs.Dropped.{is_other}
 use Rattle.feed_openurl.specs.Keys.{key_of}
 use Rattle.feed_openurl.specs.Laws.{BlankIsUncited, DroppedIsUncited, IsUncited}
 use Rattle.feed_openurl.specs.Shown.{shown}
-use Rattle.feed_openurl.specs.declared.part.Part.{Part}
-use Rattle.feed_openurl.specs.declared.part.Part.TheVariants as part
+use Rattle.feed_openurl.specs.declared.citation_part.CitationPart.{CitationPart}
+use Rattle.feed_openurl.specs.declared.citation_part.CitationPart.TheVariants as part
 use Rattle.feed_openurl.specs.declared.key.Key.{Key}
 use Rattle.feed_openurl.specs.declared.key.Key.TheVariants as key
 
@@ -27,7 +27,7 @@ nothing_shown : shown [] ≡ []
 unfolding shown is_utf8 chars
 nothing_shown = refl
 
-not_offered : (one : Part) (rank : ℕ) → offer one rank [] ≡ []
+not_offered : (one : CitationPart) (rank : ℕ) → offer one rank [] ≡ []
 not_offered one rank = ap (offer_text one rank) nothing_shown
 
 pages_empty : (rank : ℕ) → part_offers part.Pages rank [] ≡ []
@@ -36,7 +36,7 @@ pages_empty rank =
     ∙ ap (λ (l : List OfferValue). l ++ offer part.LastPage rank []) (not_offered part.Page rank)
     ∙ not_offered part.LastPage rank
 
-part_empty : (one : Part) (rank : ℕ) → part_offers one rank [] ≡ []
+part_empty : (one : CitationPart) (rank : ℕ) → part_offers one rank [] ≡ []
 part_empty part.Article rank = not_offered part.Article rank
 part_empty part.Title rank = not_offered part.Title rank
 part_empty part.Author rank = not_offered part.Author rank
@@ -57,7 +57,7 @@ part_empty part.Publisher rank = not_offered part.Publisher rank
 part_empty part.Place rank = not_offered part.Place rank
 part_empty part.Institution rank = not_offered part.Institution rank
 
-found_empty : (found : Option (Part × ℕ)) → offers_for found [] ≡ []
+found_empty : (found : Option (CitationPart × ℕ)) → offers_for found [] ≡ []
 found_empty None = refl
 found_empty (Some (one, rank)) = part_empty one rank
 
@@ -75,8 +75,8 @@ blank_uncited name value blank =
     passed_over (name, value) (ap (λ (v : List ℕ). offers_by (key_of name) name v) blank ∙ key_empty (key_of name) name)
 
 -- a key that nobody reads offers nothing
-dropped_offers : (k : Key) (name value : List ℕ) (found : Option (Part × ℕ)) → part_of name ≡ found → (is_other k && not (is_some found)) ≡ true → offers_by k name value ≡ []
-dropped_offers key.Other name value None is h = ap (λ (f : Option (Part × ℕ)). offers_for f value) is
+dropped_offers : (k : Key) (name value : List ℕ) (found : Option (CitationPart × ℕ)) → part_of name ≡ found → (is_other k && not (is_some found)) ≡ true → offers_by k name value ≡ []
+dropped_offers key.Other name value None is h = ap (λ (f : Option (CitationPart × ℕ)). offers_for f value) is
 dropped_offers key.Other name value (Some found) is h = absurd (let u : false ≡ true = h in cc)
 dropped_offers key.Version name value found is h = absurd (let u : false ≡ true = h in cc)
 dropped_offers key.Format name value found is h = absurd (let u : false ≡ true = h in cc)

@@ -1,6 +1,5 @@
 -- What the core reads of a query is looked up.
-use Rattle.std.proofs.Common.{◌≡◌, ◌≤◌, ℕ, Bool, true, false, ◌||◌, ◌&&◌, List, [], ◌∷◌, map, length}
-use Rattle.std.proofs.Common.{Option, Some, None, Ok, Err, if◌then◌else◌, codes, refl, sym, ap, ◌∙◌}
+use Rattle.std.proofs.Common.{◌≡◌, ◌≤◌, ℕ, Bool, true, false, ◌||◌, ◌&&◌, List, [], ◌∷◌, map, length, Option, Some, None, Ok, Err, if◌then◌else◌, codes, refl, sym, ap, ◌∙◌}
 use Rattle.std.specs.Prelude.{nat_lt, option_map}
 use Rattle.std.specs.Option.{option_and_then}
 use Rattle.std.specs.List.{cons_option, filter_map, flat_map, list_any}
@@ -26,7 +25,7 @@ use Rattle.feed_openurl.specs.Laws.{AnsweredIsContained, AreAmong, ContainsAnswe
 use Rattle.feed_openurl.specs.Numbers.{number_or}
 use Rattle.feed_openurl.specs.Tiers.{date_in, volume_in}
 use Rattle.feed_openurl.specs.Values.{understood_pairs}
-use Rattle.feed_openurl.specs.declared.fault.Refusal.TheVariants as reason
+use Rattle.feed_openurl.specs.declared.fault.OpenUrlFault.TheVariants as reason
 use Rattle.feed_openurl.specs.declared.key.Tier.TheVariants.{Old, Rft}
 use Rattle.feed_openurl.specs.declared.number.Number.{Number}
 use Rattle.feed_openurl.specs.declared.number.Number.TheVariants.{Isbn, Issn}

@@ -7,13 +7,13 @@ use Rattle.feed_dates.specs.DayRanges.{query_days_of}
 use Rattle.feed_dates.specs.declared.day_range.DayRange.{DayRange}
 use Rattle.feed_kbart.specs.Volumes.{volume_of}
 use Rattle.feed_openurl.specs.Queries.{asked_as, asked_by, query_for}
-use Rattle.feed_openurl.specs.Values.{AreIdentifiers, UnderstandingValue}
+use Rattle.feed_openurl.specs.Values.{AreIdentifiers, OpenUrlValue}
 use Rattle.feed_openurl.proofs.Written.{set_of_ascending}
 
 abbrev query_of_parts : List (List ℕ) → List (List ℕ) → Option DayRange → Option ℕ → QueryValue
 query_of_parts issns isbns days volume = record { issns = issns; isbns = isbns; days = days; volume = volume }
 
-pub query_is : (u : UnderstandingValue) (query : QueryValue) (issns isbns : List (List ℕ)) (days : Option DayRange) (volume : Option ℕ)
+pub query_is : (u : OpenUrlValue) (query : QueryValue) (issns isbns : List (List ℕ)) (days : Option DayRange) (volume : Option ℕ)
     → query ≡ query_with issns isbns days volume → issns ≡ u.issns → isbns ≡ u.isbns → AreIdentifiers u.issns u.isbns
     → days ≡ option_and_then query_days_of u.date → volume ≡ option_and_then volume_of u.volume → query ≡ query_for u
 query_is u query issns isbns days volume is same_issns same_isbns are same_days same_volume =
@@ -24,5 +24,5 @@ query_is u query issns isbns days volume is same_issns same_isbns are same_days 
     ∙ ap (λ d. query_of_parts u.issns u.isbns d volume) same_days
     ∙ ap (query_of_parts u.issns u.isbns (option_and_then query_days_of u.date)) same_volume
 
-pub asked_is : (u : UnderstandingValue) (query : QueryValue) → query ≡ query_for u → u.refusal ≡ None → Ok query ≡ asked_by u
+pub asked_is : (u : OpenUrlValue) (query : QueryValue) → query ≡ query_for u → u.refusal ≡ None → Ok query ≡ asked_by u
 asked_is u query is none = ap Ok is ∙ sym (ap (λ o. asked_as o (query_for u)) none)

@@ -13,8 +13,8 @@ use Rattle.feed_openurl.specs.Identifiers.{reason_by, reason_without, refused, w
 use Rattle.feed_openurl.specs.Keys.{keyed}
 use Rattle.feed_openurl.specs.Kinds.{formats_of, names_format, names_other_format, names_other_version}
 use Rattle.feed_openurl.specs.Laws.{OrderIsFree}
-use Rattle.feed_openurl.specs.declared.fault.Refusal.{Refusal}
-use Rattle.feed_openurl.specs.declared.fault.Refusal.TheVariants as reason
+use Rattle.feed_openurl.specs.declared.fault.OpenUrlFault.{OpenUrlFault}
+use Rattle.feed_openurl.specs.declared.fault.OpenUrlFault.TheVariants as reason
 use Rattle.feed_openurl.specs.declared.key.Key.{Key}
 use Rattle.feed_openurl.specs.declared.number.Number.{Number}
 use Rattle.feed_openurl.proofs.Members.{same_set}
@@ -83,7 +83,7 @@ module _ (before after : List Pair) (first second : Pair) where
     same_looked_up : looked_up these ≡ looked_up those
     same_looked_up =
         ap (λ (f : IdentifiersValue). if are_none f then refused (reason_without (map keyed these)) else within_limit f) same_identifiers
-        ∙ ap (λ (r : Refusal). if are_none (identifiers_of those) then refused r else within_limit (identifiers_of those)) same_reason
+        ∙ ap (λ (r : OpenUrlFault). if are_none (identifiers_of those) then refused r else within_limit (identifiers_of those)) same_reason
 
 pub order_free : SetsAscend → SetHasExactlyItsIdentifiers → OrderIsFree
 order_free ascend exact before after first second = same_looked_up before after first second ascend exact

@@ -1,6 +1,5 @@
 -- A pair whose key nobody reads, and keys that may name people.
-use Rattle.std.proofs.Common.{◌≡◌, ℕ, Bool, true, false, ◌||◌, ◌&&◌, List, [], ◌∷◌, ◌++◌, map, take, drop, length, Option, Some, None, if◌then◌else◌}
-use Rattle.std.proofs.Common.{codes, refl, sym, ap, ◌∙◌}
+use Rattle.std.proofs.Common.{◌≡◌, ℕ, Bool, true, false, ◌||◌, ◌&&◌, List, [], ◌∷◌, ◌++◌, map, take, drop, length, Option, Some, None, if◌then◌else◌, codes, refl, sym, ap, ◌∙◌}
 use Rattle.std.specs.Prelude.{is_some, nat_le, not, option_map}
 use Rattle.std.specs.Char.{to_ascii_lowercase}
 use Rattle.std.specs.List.{cons_option, filter_map, flat_map, list_any}
@@ -9,10 +8,10 @@ use Rattle.std.proofs.lemmas.List.{length-map, take-map}
 use Rattle.std.proofs.lemmas.Slice.Eq.{bytes_eq-Decides}
 use Rattle.feed_identifiers.specs.Isbn.{isbn_of}
 use Rattle.feed_identifiers.specs.Issn.{issn_of}
-use Rattle.feed_identifiers.specs.Text.{trimmed}
+use Rattle.feed_bytes.specs.Trim.{trimmed}
 use Rattle.feed_answer.specs.Pairs.{book_format, first, has_key, isbn_of_pair, issn_of_pair, issn_of_urn, journal_format}
 use Rattle.feed_openurl.specs.Citations.{named, named_after, part_of}
-use Rattle.feed_openurl.specs.declared.part.Part.{Part}
+use Rattle.feed_openurl.specs.declared.citation_part.CitationPart.{CitationPart}
 use Rattle.feed_openurl.specs.Core.{core_date, core_volume, date_of_pair, volume_of_pair}
 use Rattle.feed_openurl.specs.Dropped.{is_dropped, is_other}
 use Rattle.feed_openurl.specs.Identifiers.{IdentifiersValue, LookedUp, are_none, identifiers_among, identifiers_of, looked_up, number_or_others, number_text}
@@ -23,9 +22,9 @@ use Rattle.feed_openurl.specs.Laws.{DroppedIsUnread, PeopleAreDropped, names_peo
 use Rattle.feed_openurl.specs.Numbers.{number_or}
 use Rattle.feed_openurl.specs.Texts.{date_text_of, volume_text_of}
 use Rattle.feed_openurl.specs.Tiers.{date_in, date_of, lenient_date_of, lenient_volume_of, strict_date_of, strict_volume_of, volume_in, volume_of}
-use Rattle.feed_openurl.specs.Values.{UnderstandingValue, understood_pairs, with_dates}
-use Rattle.feed_openurl.specs.declared.fault.Refusal.{Refusal}
-use Rattle.feed_openurl.specs.declared.fault.Refusal.TheVariants as reason
+use Rattle.feed_openurl.specs.Values.{OpenUrlValue, understood_pairs, with_dates}
+use Rattle.feed_openurl.specs.declared.fault.OpenUrlFault.{OpenUrlFault}
+use Rattle.feed_openurl.specs.declared.fault.OpenUrlFault.TheVariants as reason
 use Rattle.feed_openurl.specs.declared.key.Key.{Key}
 use Rattle.feed_openurl.specs.declared.key.Key.TheVariants as key
 use Rattle.feed_openurl.specs.declared.key.Tier.{Tier}
@@ -114,7 +113,7 @@ module _ (pair : Pair) (unread : key_of pair.0 ≡ key.Other) where
     looked_same =
         ap (λ (f : List Number). if are_none (identifiers_among f) then refused (reason_without (map keyed all)) else within_limit (identifiers_among f))
         (numbers_passed pair before after no_numbers)
-        ∙ ap (λ (r : Refusal). if are_none (identifiers_of rest) then refused r else within_limit (identifiers_of rest)) reason_same
+        ∙ ap (λ (r : OpenUrlFault). if are_none (identifiers_of rest) then refused r else within_limit (identifiers_of rest)) reason_same
 
     first_same : (read : Key × List ℕ → Option (List ℕ)) → read (key.Other, pair.1) ≡ None
         → first (filter_map read (map keyed all)) ≡ first (filter_map read (map keyed rest))
@@ -193,7 +192,7 @@ dropped_if name c e apart other none =
     let m = mended name in
     let asks : key_of name ≡ key.Other = ap (λ (o : Option (List ℕ)). key_with o m) (no_rft m c e apart) ∙ other in
     let cites : part_of name ≡ None = ap (λ (o : Option (List ℕ)). named_after o m) (no_rft m c e apart) ∙ none in
-    ap (λ (k : Key). is_other k && not (is_some (part_of name))) asks ∙ ap (λ (o : Option (Part × ℕ)). not (is_some o)) cites
+    ap (λ (k : Key). is_other k && not (is_some (part_of name))) asks ∙ ap (λ (o : Option (CitationPart × ℕ)). not (is_some o)) cites
 
 either : {P : Type 0} (a b : Bool) → (a ≡ true → P) → (b ≡ true → P) → (a || b) ≡ true → P
 either true b first second h = first refl

@@ -1,6 +1,5 @@
 -- The identifiers that are looked up for a query parse, ascend, and are within the limit.
-use Rattle.std.proofs.Common.{◌≡◌, ◌<◌, ℕ, Bool, true, false, ◌&&◌, ◌||◌, List, [], ◌∷◌, ◌++◌, take, drop, Option, Some, None, if◌then◌else◌}
-use Rattle.std.proofs.Common.{codes, refl, map, arith}
+use Rattle.std.proofs.Common.{◌≡◌, ◌<◌, ℕ, Bool, true, false, ◌&&◌, ◌||◌, List, [], ◌∷◌, ◌++◌, take, drop, Option, Some, None, if◌then◌else◌, codes, refl, map, arith}
 use Rattle.std.specs.Prelude.{IfSome, fold, nat_lt, option_map}
 use Rattle.std.specs.BTreeSet.{insert_key}
 use Rattle.std.specs.List.{All, concat, cons_option, filter_map, flat_map, list_any}
@@ -13,17 +12,16 @@ use Rattle.feed_identifiers.specs.Laws.{PrintedFormParses}
 use Rattle.feed_answer.specs.IdentifierSet.{IsAscending, bytes_cmp, identifier_set}
 use Rattle.feed_answer.specs.Laws.{SetsAscend}
 use Rattle.feed_answer.specs.Pairs.{has_key, has_prefix, is_empty, isbn_of_pair, issn_of_pair, issn_of_urn}
-use Rattle.feed_openurl.specs.Identifiers.{IdentifiersValue, LookedUp, are_none, as_isbn, as_issn, core_number, count, identifier_limit}
+use Rattle.feed_openurl.specs.Identifiers.{IdentifiersValue, LookedUp, are_none, as_isbn, as_issn, core_number, count, identifier_limit, numbers_of_pair, reason_without, refused, within_limit}
 use Rattle.feed_openurl.specs.Identifiers.{identifiers_among, identifiers_of, looked_up, number_or_others, number_text, numbers_in_text}
-use Rattle.feed_openurl.specs.Identifiers.{numbers_of_pair, reason_without, refused, within_limit}
 use Rattle.feed_openurl.specs.Keys.{keyed}
 use Rattle.feed_openurl.specs.Numbers.{first_number, first_spaced_isbn, found_or, is_ismn, isbn_number, is_number, number_of_word, number_onto, number_or}
 use Rattle.feed_openurl.specs.Numbers.{isbn_of_words, issn_of_halves, numbers_after, numbers_in, spaced_isbn, spaced_issn, taken, words_from}
 use Rattle.feed_openurl.specs.Volumes.{begins_with_digit}
 use Rattle.feed_openurl.specs.Plain.{plain}
 use Rattle.feed_openurl.specs.Values.{AreIdentifiers, IsCounted, IsIsbnText, IsIssnText}
-use Rattle.feed_openurl.specs.declared.fault.Refusal.{Refusal}
-use Rattle.feed_openurl.specs.declared.fault.Refusal.TheVariants as reason
+use Rattle.feed_openurl.specs.declared.fault.OpenUrlFault.{OpenUrlFault}
+use Rattle.feed_openurl.specs.declared.fault.OpenUrlFault.TheVariants as reason
 use Rattle.feed_openurl.specs.declared.number.Number.{Number}
 use Rattle.feed_openurl.specs.declared.number.Number.TheVariants.{Isbn, Issn}
 
@@ -185,7 +183,7 @@ module _ (ascend : SetsAscend) (issn_law : PrintedFormParses issn_of) (isbn_law 
     set_valid IsIsbnText (filter_map as_isbn found) (isbns_parse issn_law isbn_law found all),
   )
 
-  refused_valid : (why : Refusal) → IsLookedUp (refused why)
+  refused_valid : (why : OpenUrlFault) → IsLookedUp (refused why)
   refused_valid why =
       (identifiers_of_valid (record { issns = []; isbns = [] }) (set_valid IsIssnText [] (All-nil IsIssnText), set_valid IsIsbnText [] (All-nil IsIsbnText)), refl)
 

@@ -28,9 +28,9 @@ use Rattle.feed_openurl.specs.Core.{core_date, core_volume, date_of_pair, volume
 use Rattle.feed_openurl.specs.Identifiers.{count, identifier_limit}
 use Rattle.feed_openurl.specs.Laws.{WrittenIsAccepted}
 use Rattle.feed_openurl.specs.Texts.{IsDateText, IsVolumeText, date_text_of, volume_text_of}
-use Rattle.feed_openurl.specs.Values.{AreIdentifiers, IsCounted, IsIsbnText, IsIssnText, IsWellFormed, UnderstandingValue}
+use Rattle.feed_openurl.specs.Values.{AreIdentifiers, IsCounted, IsIsbnText, IsIssnText, IsWellFormed, OpenUrlValue}
 use Rattle.feed_openurl.specs.Written.{date_pairs, isbn_pairs, issn_pairs, pairs_for, version_pair, volume_pairs, with_key, written}
-use Rattle.feed_openurl.specs.declared.fault.Refusal.{Refusal}
+use Rattle.feed_openurl.specs.declared.fault.OpenUrlFault.{OpenUrlFault}
 use Rattle.feed_openurl.proofs.Bounds.{IsShort, date_is_short, date_key, isbn_is_short, isbn_key, issn_is_short, issn_key, kept_bytes, short_written, trimmed_kept}
 use Rattle.feed_openurl.proofs.Bounds.{version_key, version_value, volume_is_short, volume_key}
 use Rattle.feed_openurl.proofs.Kept.{core_days, core_number}
@@ -164,7 +164,7 @@ some_are [] [] e = absurd (omega (arith, e))
 some_are [] (isbn ∷ isbns) e = refl
 some_are (issn ∷ issns) isbns e = refl
 
-not_empty : (issns isbns : List (List ℕ)) (refusal : Option Refusal) → IsCounted issns isbns refusal → refusal ≡ None
+not_empty : (issns isbns : List (List ℕ)) (refusal : Option OpenUrlFault) → IsCounted issns isbns refusal → refusal ≡ None
     → (0 < count issns isbns) × (count issns isbns ≤ identifier_limit)
 not_empty issns isbns None is none = is
 not_empty issns isbns (Some why) is none = absurd (cc)
@@ -218,11 +218,11 @@ last_bytes (Some date) volume first second =
     All-cons AreBytes (codes "rft.date", date) (volume_pairs volume) (kept_bytes (codes "rft.date") date_key, kept_bytes date (date_is_short date first).kept)
     (volume_bytes volume second)
 
-abbrev pub written_pairs : UnderstandingValue → List Pair
+abbrev pub written_pairs : OpenUrlValue → List Pair
 written_pairs u = pairs_for u.issns u.isbns u.date u.volume
 
 -- the text that is written has these pairs
-pub written_parses : (u : UnderstandingValue) → IsWellFormed u → form.parse (written u) ≡ written_pairs u
+pub written_parses : (u : OpenUrlValue) → IsWellFormed u → form.parse (written u) ≡ written_pairs u
 written_parses u is =
     round_trip (written_pairs u)
     (All-cons AreBytes version_pair (issn_pairs u.issns ++ (isbn_pairs u.isbns ++ (date_pairs u.date ++ volume_pairs u.volume)))
@@ -271,7 +271,7 @@ volume_written issns isbns date volume is =
     ap first (none_read volume_of_pair refl (λ t. refl) (λ t. refl) issns isbns (date_pairs date ++ volume_pairs volume)) ∙ volume_last date volume is
 
 -- what the core asks for
-asked_for : (u : UnderstandingValue) → IsWellFormed u
+asked_for : (u : OpenUrlValue) → IsWellFormed u
     → asked (written_pairs u) u.issns u.isbns
     ≡ record { issns = u.issns; isbns = u.isbns; days = option_and_then query_days_of u.date; volume = option_and_then volume_of u.volume }
 asked_for u is =

@@ -2,13 +2,13 @@
 use Rattle.std.specs.Prelude.{ℕ, Bool, ◌==◌, List, Option, codes}
 use Rattle.std.specs.List.{find}
 use Rattle.std.specs.Str.{bytes_eq}
-use Rattle.feed_openurl.specs.declared.part.Part.{Part}
-use Rattle.feed_openurl.specs.declared.part.Part.TheVariants.{Article, Title, Author, Date, Volume, Issue, Page, Doi, Pmid, Genre}
-use Rattle.feed_openurl.specs.declared.part.Part.TheVariants.{LastName, FirstName, LastPage, Pages, Series, Edition, Publisher, Place, Institution}
-use Rattle.feed_openurl.specs.declared.part.TheConstants.{PARTS}
+use Rattle.feed_openurl.specs.declared.citation_part.CitationPart.{CitationPart}
+use Rattle.feed_openurl.specs.declared.citation_part.CitationPart.TheVariants.{Article, Title, Author, Date, Volume, Issue, Page, Doi, Pmid, Genre}
+use Rattle.feed_openurl.specs.declared.citation_part.CitationPart.TheVariants.{LastName, FirstName, LastPage, Pages, Series, Edition, Publisher, Place, Institution}
+use Rattle.feed_openurl.specs.declared.citation_part.TheConstants.{PARTS}
 
 -- the name of a part
-abbrev pub name_of : Part → List ℕ
+abbrev pub name_of : CitationPart → List ℕ
 name_of Article = codes "article"
 name_of Title = codes "title"
 name_of Author = codes "author"
@@ -30,7 +30,7 @@ name_of Place = codes "place"
 name_of Institution = codes "inst"
 
 -- the place of a part among all parts
-abbrev pub place_of : Part → ℕ
+abbrev pub place_of : CitationPart → ℕ
 place_of Article = 0
 place_of Title = 1
 place_of Author = 2
@@ -52,13 +52,13 @@ place_of Place = 17
 place_of Institution = 18
 
 -- two parts are the same
-abbrev pub same_part : Part → Part → Bool
+abbrev pub same_part : CitationPart → CitationPart → Bool
 same_part one other = place_of one == place_of other
 
 -- a part has this name
-abbrev pub is_called : List ℕ → Part → Bool
+abbrev pub is_called : List ℕ → CitationPart → Bool
 is_called name part = bytes_eq name (name_of part)
 
 -- the part of this name
-abbrev pub part_named : List ℕ → Option Part
+abbrev pub part_named : List ℕ → Option CitationPart
 part_named name = find (is_called name) PARTS

@@ -1,19 +1,19 @@
--- The citation of a query: of each part, the first value of the best key, and all authors (Z39.88-2004, the matrices of
--- journals, books and dissertations; OpenURL 0.1; Dublin Core).
+-- The citation of an OpenURL: of each part, the first value of the best key, and all authors (Z39.88-2004, the matrices
+-- of journals, books and dissertations; OpenURL 0.1; Dublin Core).
 use Rattle.std.specs.Prelude.{ℕ, Bool, ◌||◌, ◌&&◌, not, ◌==◌, ◌+◌, ◌++◌, ◌∷◌, nat_lt, List, [], Option, Some, None, if◌then◌else◌, option_map, fold, map, take, drop, codes, slice_get}
 use Rattle.std.specs.List.{flat_map}
 use Rattle.form_urlencoded.specs.Form as form
-use Rattle.feed_identifiers.specs.Text.{trimmed}
+use Rattle.feed_bytes.specs.Trim.{trimmed}
 use Rattle.feed_answer.specs.Pairs.{is_empty}
 use Rattle.feed_openurl.specs.CitationParts.{place_of, same_part}
 use Rattle.feed_openurl.specs.Fronts.{front_len}
 use Rattle.feed_openurl.specs.Keys.{after_prefix, is_name, key_of, mended, or_else}
 use Rattle.feed_openurl.specs.Links.{bare_pmid_of, doi_of, pmid_of}
 use Rattle.feed_openurl.specs.Shown.{shown}
-use Rattle.feed_openurl.specs.declared.part.Part.{Part}
-use Rattle.feed_openurl.specs.declared.part.Part.TheVariants.{Article, Title, Author, Date, Volume, Issue, Page, Doi, Pmid, Genre}
-use Rattle.feed_openurl.specs.declared.part.Part.TheVariants.{LastName, FirstName, LastPage, Pages, Series, Edition, Publisher, Place, Institution}
-use Rattle.feed_openurl.specs.declared.part.TheConstants.{PARTS}
+use Rattle.feed_openurl.specs.declared.citation_part.CitationPart.{CitationPart}
+use Rattle.feed_openurl.specs.declared.citation_part.CitationPart.TheVariants.{Article, Title, Author, Date, Volume, Issue, Page, Doi, Pmid, Genre}
+use Rattle.feed_openurl.specs.declared.citation_part.CitationPart.TheVariants.{LastName, FirstName, LastPage, Pages, Series, Edition, Publisher, Place, Institution}
+use Rattle.feed_openurl.specs.declared.citation_part.TheConstants.{PARTS}
 use Rattle.feed_openurl.specs.declared.key.Key.{Key}
 use Rattle.feed_openurl.specs.declared.key.Key.TheVariants as key
 use Rattle.feed_openurl.specs.declared.key.Tier.{Tier}
@@ -24,7 +24,7 @@ abbrev pub CitationValue : Type 0
 CitationValue = List (List ℕ)
 
 -- the text of a part
-abbrev pub text_at : CitationValue → Part → List ℕ
+abbrev pub text_at : CitationValue → CitationPart → List ℕ
 text_at citation part = or_else (slice_get citation (place_of part)) []
 
 -- the rank of a key: those of OpenURL 1.0 before those of 0.1, and then by how closely the key names the part; the least is
@@ -34,7 +34,7 @@ rank Rft order = order
 rank Old order = 30 + order
 
 -- a title
-abbrev pub title_part : List ℕ → Option (Part × ℕ)
+abbrev pub title_part : List ℕ → Option (CitationPart × ℕ)
 title_part name =
     if is_name name (codes "atitle") then Some (Article, 0)
     else if is_name name (codes "jtitle") || is_name name (codes "btitle") then Some (Title, 0)
@@ -44,7 +44,7 @@ title_part name =
     else None
 
 -- an author: one whole name a value, or the parts of the name of the first author
-abbrev pub author_part : List ℕ → Option (Part × ℕ)
+abbrev pub author_part : List ℕ → Option (CitationPart × ℕ)
 author_part name =
     if is_name name (codes "au") then Some (Author, 0)
     else if is_name name (codes "aulast") then Some (LastName, 1)
@@ -55,7 +55,7 @@ author_part name =
     else None
 
 -- a place in a journal or a book; a DOI or a PMID that has a key of its own comes after one that is a name
-abbrev pub number_part : List ℕ → Option (Part × ℕ)
+abbrev pub number_part : List ℕ → Option (CitationPart × ℕ)
 number_part name =
     if is_name name (codes "issue") then Some (Issue, 0)
     else if is_name name (codes "spage") then Some (Page, 0)
@@ -66,7 +66,7 @@ number_part name =
     else None
 
 -- what a work is, and where it was published
-abbrev pub work_part : List ℕ → Option (Part × ℕ)
+abbrev pub work_part : List ℕ → Option (CitationPart × ℕ)
 work_part name =
     if is_name name (codes "genre") then Some (Genre, 0)
     else if is_name name (codes "series") then Some (Series, 0)
@@ -77,23 +77,23 @@ work_part name =
     else if is_name name (codes "inst") then Some (Institution, 0)
     else None
 
-abbrev pub or_part : Option (Part × ℕ) → Option (Part × ℕ) → Option (Part × ℕ)
+abbrev pub or_part : Option (CitationPart × ℕ) → Option (CitationPart × ℕ) → Option (CitationPart × ℕ)
 or_part (Some found) other = Some found
 or_part None other = other
 
 -- the part that a name has, and the order of its key
-abbrev pub ordered : List ℕ → Option (Part × ℕ)
+abbrev pub ordered : List ℕ → Option (CitationPart × ℕ)
 ordered name = or_part (title_part name) (or_part (author_part name) (or_part (number_part name) (work_part name)))
 
 -- the same with the rank of the key
-abbrev pub named : Tier → List ℕ → Option (Part × ℕ)
+abbrev pub named : Tier → List ℕ → Option (CitationPart × ℕ)
 named tier name = option_map (λ found. (found.0, rank tier found.1)) (ordered name)
 
-abbrev pub named_after : Option (List ℕ) → List ℕ → Option (Part × ℕ)
+abbrev pub named_after : Option (List ℕ) → List ℕ → Option (CitationPart × ℕ)
 named_after (Some rest) name = named Rft rest
 named_after None name = named Old name
 
-abbrev pub part_of : List ℕ → Option (Part × ℕ)
+abbrev pub part_of : List ℕ → Option (CitationPart × ℕ)
 part_of key = named_after (after_prefix (codes "rft.") (mended key)) (mended key)
 
 -- a byte of a page: not a hyphen, a comma or a space, which are between two pages, as in `10-15`
@@ -115,18 +115,18 @@ next_page pages = first_page (drop (front_len is_between_pages (behind_page page
 
 -- a text that is offered for a part
 pub record OfferValue : Type 0 where
-  pub part : Part
+  pub part : CitationPart
   pub rank : ℕ
   pub text : List ℕ
 
 -- a text that shows nothing is not offered
-abbrev pub offer_text : Part → ℕ → List ℕ → List OfferValue
+abbrev pub offer_text : CitationPart → ℕ → List ℕ → List OfferValue
 offer_text part rank text = if is_empty text then [] else record { part = part; rank = rank; text = text } ∷ []
 
-abbrev pub offer : Part → ℕ → List ℕ → List OfferValue
+abbrev pub offer : CitationPart → ℕ → List ℕ → List OfferValue
 offer part rank value = offer_text part rank (shown value)
 
-abbrev pub offer_some : Part → ℕ → Option (List ℕ) → List OfferValue
+abbrev pub offer_some : CitationPart → ℕ → Option (List ℕ) → List OfferValue
 offer_some part rank (Some value) = offer part rank value
 offer_some part rank None = []
 
@@ -135,13 +135,13 @@ abbrev pub pages_offers : ℕ → List ℕ → List OfferValue
 pages_offers rank value = offer Pages rank value ++ (offer Page rank (first_page value) ++ offer LastPage rank (next_page value))
 
 -- what a value of this part and this rank says of a citation
-abbrev pub part_offers : Part → ℕ → List ℕ → List OfferValue
+abbrev pub part_offers : CitationPart → ℕ → List ℕ → List OfferValue
 part_offers Pages rank value = pages_offers rank value
 part_offers Doi rank value = offer_some Doi rank (doi_of value)
 part_offers Pmid rank value = offer_some Pmid rank (bare_pmid_of value)
 part_offers part rank value = offer part rank value
 
-abbrev pub offers_for : Option (Part × ℕ) → List ℕ → List OfferValue
+abbrev pub offers_for : Option (CitationPart × ℕ) → List ℕ → List OfferValue
 offers_for (Some found) value = part_offers found.0 found.1 value
 offers_for None value = []
 
@@ -161,7 +161,7 @@ offers_by _ name value = []
 abbrev pub pair_offers : List ℕ × List ℕ → List OfferValue
 pair_offers pair = offers_by (key_of pair.0) pair.0 (trimmed pair.1)
 
--- what the pairs of a query say of a citation
+-- what the pairs of an OpenURL say of a citation
 abbrev pub offers_of : List (List ℕ × List ℕ) → List OfferValue
 offers_of pairs = flat_map pair_offers pairs
 
@@ -174,13 +174,13 @@ abbrev pub no_choice : ChoiceValue
 no_choice = record { rank = 0; text = [] }
 
 -- an offer for the part replaces one of a later rank
-abbrev pub taken : Part → ChoiceValue → OfferValue → ChoiceValue
+abbrev pub taken : CitationPart → ChoiceValue → OfferValue → ChoiceValue
 taken part choice offered =
     if same_part part offered.part && (is_empty choice.text || nat_lt offered.rank choice.rank)
     then record { rank = offered.rank; text = offered.text } else choice
 
 -- the first offer of the best rank
-abbrev pub best : Part → List OfferValue → ChoiceValue
+abbrev pub best : CitationPart → List OfferValue → ChoiceValue
 best part offers = fold (taken part) no_choice offers
 
 -- two texts with a mark between them, or the one that there is
@@ -212,7 +212,7 @@ pages_text offers =
     else (best Pages offers).text
 
 -- the text of a part, by all offers
-abbrev pub part_text : List OfferValue → Part → List ℕ
+abbrev pub part_text : List OfferValue → CitationPart → List ℕ
 part_text offers Author = author_text offers
 part_text offers Pages = pages_text offers
 part_text offers part = (best part offers).text
@@ -220,10 +220,10 @@ part_text offers part = (best part offers).text
 abbrev pub cited : List OfferValue → CitationValue
 cited offers = map (part_text offers) PARTS
 
--- the citation of the pairs of a query
+-- the citation of the pairs of an OpenURL
 abbrev pub citation_of_pairs : List (List ℕ × List ℕ) → CitationValue
 citation_of_pairs pairs = cited (offers_of pairs)
 
--- the citation of a query
+-- the citation of an OpenURL
 unfoldable pub citation_of : List ℕ → CitationValue
 citation_of text = citation_of_pairs (form.parse text)

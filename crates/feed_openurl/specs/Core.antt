@@ -1,8 +1,8 @@
--- The date and the volume that the core reads from the pairs of a query, whatever its length (Z39.88-2004, key/value
+-- The date and the volume that the core reads from the pairs of an OpenURL, whatever its length (Z39.88-2004, key/value
 -- formats).
 use Rattle.std.specs.Prelude.{ℕ, List, Option, None, if◌then◌else◌, codes}
 use Rattle.std.specs.List.{filter_map}
-use Rattle.feed_identifiers.specs.Text.{trimmed}
+use Rattle.feed_bytes.specs.Trim.{trimmed}
 use Rattle.feed_answer.specs.Pairs.{first, has_key}
 use Rattle.feed_openurl.specs.Texts.{date_text_of, volume_text_of}
 

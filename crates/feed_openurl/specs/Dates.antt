@@ -5,7 +5,7 @@ use Rattle.std.specs.Prelude.{min, List, [], ◌∷◌, ◌++◌, length, take, 
 use Rattle.std.specs.Char.{is_ascii_digit}
 use Rattle.std.specs.List.{cons_option, list_any}
 use Rattle.std.specs.Str.{bytes_eq}
-use Rattle.feed_identifiers.specs.Text.{trimmed}
+use Rattle.feed_bytes.specs.Trim.{trimmed}
 use Rattle.feed_openurl.specs.Fronts.{front_len}
 use Rattle.feed_openurl.specs.Keys.{is_name, or_text}
 use Rattle.feed_openurl.specs.Texts.{date_text_of}

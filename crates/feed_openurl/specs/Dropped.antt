@@ -1,4 +1,4 @@
--- The keys of a query that nobody reads.
+-- The keys of an OpenURL that nobody reads.
 use Rattle.std.specs.Prelude.{◌≡◌, ◌&&◌, not, ℕ, Bool, true, false, List, [], ◌∷◌, map, filter, is_some, replicate, IsPermutation}
 use Rattle.std.specs.List.{flat_map}
 use Rattle.std.specs.Ordering.{nat_cmp, is_lt}

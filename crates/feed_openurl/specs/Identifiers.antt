@@ -1,21 +1,21 @@
--- The identifiers that are looked up for a query: those of each key of its citation.
+-- The identifiers that are looked up for an OpenURL: those of each key of its citation.
 use Rattle.std.specs.Prelude.{◌+◌, ◌&&◌, not, nat_lt, ℕ, Bool, List, [], ◌∷◌, length, map, Option, Some, None, option_map, if◌then◌else◌, codes}
 use Rattle.std.specs.List.{filter_map, flat_map, list_any}
-use Rattle.feed_identifiers.specs.Text.{trimmed}
+use Rattle.feed_bytes.specs.Trim.{trimmed}
 use Rattle.feed_answer.specs.IdentifierSet.{identifier_set}
 use Rattle.feed_answer.specs.Pairs.{is_empty, isbn_of_pair, issn_of_pair}
 use Rattle.feed_openurl.specs.Keys.{after_in, after_prefix, keyed, or_text}
 use Rattle.feed_openurl.specs.Kinds.{formats_of, names_other_format, names_other_version}
 use Rattle.feed_openurl.specs.Numbers.{number_or, numbers_in}
-use Rattle.feed_openurl.specs.declared.fault.Refusal.{Refusal}
-use Rattle.feed_openurl.specs.declared.fault.Refusal.TheVariants as reason
+use Rattle.feed_openurl.specs.declared.fault.OpenUrlFault.{OpenUrlFault}
+use Rattle.feed_openurl.specs.declared.fault.OpenUrlFault.TheVariants as reason
 use Rattle.feed_openurl.specs.declared.kind.FormatNames.{FormatNames}
 use Rattle.feed_openurl.specs.declared.key.Key.{Key}
 use Rattle.feed_openurl.specs.declared.key.Key.TheVariants.{Name, Number}
 use Rattle.feed_openurl.specs.declared.number.Number as number
 use Rattle.feed_openurl.specs.declared.number.Number.TheVariants as numbers
 
--- the most identifiers of a query that are looked up
+-- the most identifiers of an OpenURL that are looked up
 abbrev pub identifier_limit : ℕ
 identifier_limit = 64
 
@@ -71,7 +71,7 @@ abbrev pub as_isbn : number.Number → Option (List ℕ)
 as_isbn (numbers.Issn issn) = None
 as_isbn (numbers.Isbn isbn) = Some isbn
 
--- the identifiers of a query
+-- the identifiers of an OpenURL
 pub record IdentifiersValue : Type 0 where
   pub issns : List (List ℕ)
   pub isbns : List (List ℕ)
@@ -81,7 +81,7 @@ abbrev pub identifiers_among : List number.Number → IdentifiersValue
 identifiers_among found =
     record { issns = identifier_set (filter_map as_issn found); isbns = identifier_set (filter_map as_isbn found) }
 
--- the identifiers of a query: those of all its pairs, whatever its formats are
+-- the identifiers of an OpenURL: those of all its pairs, whatever its formats are
 abbrev pub identifiers_of : List (List ℕ × List ℕ) → IdentifiersValue
 identifiers_of pairs = identifiers_among (flat_map numbers_of_pair pairs)
 
@@ -93,9 +93,9 @@ are_none found = is_empty found.issns && is_empty found.isbns
 pub record LookedUp : Type 0 where
   pub issns : List (List ℕ)
   pub isbns : List (List ℕ)
-  pub refusal : Option Refusal
+  pub refusal : Option OpenUrlFault
 
-abbrev pub refused : Refusal → LookedUp
+abbrev pub refused : OpenUrlFault → LookedUp
 refused reason = record { issns = []; isbns = []; refusal = Some reason }
 
 -- more than the limit are refused
@@ -104,17 +104,17 @@ within_limit found =
     if nat_lt identifier_limit (count found.issns found.isbns) then refused reason.TooMany
     else record { issns = found.issns; isbns = found.isbns; refusal = None }
 
--- why a query without identifiers is refused: for its version, or else for its format
-abbrev pub reason_by : FormatNames → Refusal
+-- why an OpenURL without identifiers is refused: for its version, or else for its format
+abbrev pub reason_by : FormatNames → OpenUrlFault
 reason_by formats = if formats.book && not formats.journal then reason.NoIsbn else reason.NoIssn
 
-abbrev pub reason_without : List (Key × List ℕ) → Refusal
+abbrev pub reason_without : List (Key × List ℕ) → OpenUrlFault
 reason_without values =
     if list_any names_other_version values then reason.Version
     else if list_any names_other_format values then reason.OtherFormat
     else reason_by (formats_of values)
 
--- what is looked up for a query
+-- what is looked up for an OpenURL
 abbrev pub looked_up : List (List ℕ × List ℕ) → LookedUp
 looked_up pairs =
     if are_none (identifiers_of pairs) then refused (reason_without (map keyed pairs)) else within_limit (identifiers_of pairs)

@@ -1,8 +1,8 @@
--- The keys of a query by which something is looked up: those of OpenURL 1.0 (Z39.88-2004, the matrices of journals and
--- books), and those of OpenURL 0.1.
+-- The keys of an OpenURL that are looked up: those of OpenURL 1.0 (Z39.88-2004, the matrices of journals and books),
+-- and those of OpenURL 0.1.
 use Rattle.std.specs.Prelude.{◌||◌, ◌&&◌, nat_le, ℕ, Bool, true, false, List, Option, Some, None, if◌then◌else◌, take, drop, length, codes}
 use Rattle.std.specs.Str.{str_eq_ignore_ascii_case}
-use Rattle.feed_identifiers.specs.Text.{trimmed}
+use Rattle.feed_bytes.specs.Trim.{trimmed}
 use Rattle.feed_openurl.specs.declared.key.Key.{Key}
 use Rattle.feed_openurl.specs.declared.key.Key.TheVariants.{Version, Format, Number, Name, Date, Volume, Other}
 use Rattle.feed_openurl.specs.declared.key.Tier.{Tier}

@@ -1,9 +1,9 @@
--- The version and the formats that a query names, as proxies and older sources write them.
+-- The version and the formats that an OpenURL names, as proxies and older sources write them.
 use Rattle.std.specs.Prelude.{ℕ, Bool, true, false, ◌&&◌, not, List, codes}
 use Rattle.std.specs.List.{list_any}
 use Rattle.std.specs.Str.{str_eq_ignore_ascii_case}
 use Rattle.form_urlencoded.specs.Form as form
-use Rattle.feed_identifiers.specs.Text.{trimmed}
+use Rattle.feed_bytes.specs.Trim.{trimmed}
 use Rattle.feed_answer.specs.Pairs.{book_format, journal_format}
 use Rattle.feed_openurl.specs.declared.kind.FormatNames.{FormatNames}
 use Rattle.feed_openurl.specs.declared.key.Key.{Key}
@@ -41,6 +41,6 @@ abbrev pub names_other_format : Key × List ℕ → Bool
 names_other_format value =
     is_format value && not (is_text (codes "") value.1) && not (is_text journal_format value.1) && not (is_text book_format value.1)
 
--- the formats that a query names
+-- the formats that an OpenURL names
 abbrev pub formats_of : List (Key × List ℕ) → FormatNames
 formats_of values = record { journal = list_any (names_format journal_format) values; book = list_any (names_format book_format) values }

@@ -1,4 +1,4 @@
--- Laws of queries as they are understood.
+-- Laws of OpenURLs as they are understood.
 use Rattle.std.specs.Prelude.{◌≡◌, ◌≤◌, ℕ, Bool, length, List, [], ◌∷◌, ◌++◌, true, Option, Some, None, Ok, IfSome, codes}
 use Rattle.std.specs.List.{list_any}
 use Rattle.form_urlencoded.specs.Form as form
@@ -8,30 +8,30 @@ use Rattle.feed_dates.specs.DayRanges.{query_days_of}
 use Rattle.feed_kbart.specs.Volumes.{volume_of}
 use Rattle.feed_answer.specs.Queries.{query_of}
 use Rattle.feed_answer.specs.QueryValue.{QueryValue}
-use Rattle.feed_identifiers.specs.Text.{trimmed}
+use Rattle.feed_bytes.specs.Trim.{trimmed}
 use Rattle.feed_openurl.specs.Citations.{citation_of_pairs}
 use Rattle.feed_openurl.specs.Dropped.{is_dropped}
 use Rattle.feed_openurl.specs.Identifiers.{count, identifier_limit, identifiers_of, looked_up}
 use Rattle.feed_openurl.specs.Keys.{is_name, mended}
 use Rattle.feed_openurl.specs.Queries.{query_for}
-use Rattle.feed_openurl.specs.Values.{IsWellFormed, UnderstandingValue, understood, understood_pairs}
+use Rattle.feed_openurl.specs.Values.{IsWellFormed, OpenUrlValue, understood, understood_pairs}
 use Rattle.feed_openurl.specs.Written.{written, written_limit}
-use Rattle.feed_openurl.specs.declared.fault.Refusal.{Refusal}
-use Rattle.feed_openurl.specs.declared.fault.Refusal.TheVariants.{NoIssn}
+use Rattle.feed_openurl.specs.declared.fault.OpenUrlFault.{OpenUrlFault}
+use Rattle.feed_openurl.specs.declared.fault.OpenUrlFault.TheVariants.{NoIssn}
 
 -- all of some identifiers are among others
 abbrev pub AreAmong : List (List ℕ) → List (List ℕ) → Type 0
 AreAmong some others = (one : List ℕ) → is_among one some ≡ true → is_among one others ≡ true
 
--- what a query that the core answers asks for is looked up: each of its identifiers, its days and its volume
-pub record ContainsAnswer (q : QueryValue) (u : UnderstandingValue) : Type 0 where
+-- what an OpenURL that the core answers asks for is looked up: each of its identifiers, its days and its volume
+pub record ContainsAnswer (q : QueryValue) (u : OpenUrlValue) : Type 0 where
   pub refusal : u.refusal ≡ None
   pub issns : AreAmong q.issns u.issns
   pub isbns : AreAmong q.isbns u.isbns
   pub days : IfSome q.days (λ days. option_and_then query_days_of u.date ≡ Some days)
   pub volume : IfSome q.volume (λ volume. option_and_then volume_of u.volume ≡ Some volume)
 
--- for every query that the core answers, unless it has more identifiers than the limit
+-- for every OpenURL that the core answers, unless it has more identifiers than the limit
 abbrev pub AnsweredIsContained : Type 0
 AnsweredIsContained = (text : List ℕ) (q : QueryValue)
     → query_of text ≡ Ok q → count (identifiers_of (form.parse text)).issns (identifiers_of (form.parse text)).isbns ≤ identifier_limit
@@ -42,7 +42,7 @@ abbrev pub OrderIsFree : Type 0
 OrderIsFree = (before after : List (List ℕ × List ℕ)) (first second : List ℕ × List ℕ)
     → looked_up (before ++ first ∷ second ∷ after) ≡ looked_up (before ++ second ∷ first ∷ after)
 
--- a pair whose key nobody reads changes nothing of how a query is understood
+-- a pair whose key nobody reads changes nothing of how an OpenURL is understood
 abbrev pub DroppedIsUnread : Type 0
 DroppedIsUnread = (key value : List ℕ) → is_dropped key ≡ true
     → (before after : List (List ℕ × List ℕ)) → understood_pairs (before ++ (key, value) ∷ after) ≡ understood_pairs (before ++ after)
@@ -60,30 +60,30 @@ PeopleAreDropped = (key : List ℕ) → names_people key ≡ true → is_dropped
 
 -- the query that is written is short
 abbrev pub WrittenIsShort : Type 0
-WrittenIsShort = (u : UnderstandingValue) → IsWellFormed u → length (written u) ≤ written_limit
+WrittenIsShort = (u : OpenUrlValue) → IsWellFormed u → length (written u) ≤ written_limit
 
--- the core accepts what is written for a query that is not refused, and asks for exactly its identifiers, its date and
--- its volume
+-- the core accepts what is written for an OpenURL that is not refused, and that asks for exactly its identifiers, its
+-- date and its volume
 abbrev pub WrittenIsAccepted : Type 0
 WrittenIsAccepted =
-    (u : UnderstandingValue) → IsWellFormed u → u.refusal ≡ None
+    (u : OpenUrlValue) → IsWellFormed u → u.refusal ≡ None
     → query_of (written u) ≡ Ok (query_for u)
 
--- a query that is refused has nothing to look up once it is written, whatever the reason was
-abbrev pub refusal_of_written : Option Refusal → Option Refusal
+-- an OpenURL that is refused has nothing to look up once it is written, whatever the reason was
+abbrev pub refusal_of_written : Option OpenUrlFault → Option OpenUrlFault
 refusal_of_written (Some refusal) = Some NoIssn
 refusal_of_written None = None
 
 -- an understanding, as it is understood of what is written for it
-abbrev pub of_written : UnderstandingValue → UnderstandingValue
+abbrev pub of_written : OpenUrlValue → OpenUrlValue
 of_written u =
     record { issns = u.issns; isbns = u.isbns; date = u.date; volume = u.volume; refusal = refusal_of_written u.refusal }
 
 -- what is written is understood with the same identifiers, the same date and the same volume
 abbrev pub WrittenIsUnderstood : Type 0
-WrittenIsUnderstood = (u : UnderstandingValue) → IsWellFormed u → understood (written u) ≡ of_written u
+WrittenIsUnderstood = (u : OpenUrlValue) → IsWellFormed u → understood (written u) ≡ of_written u
 
--- a pair does not change the citation, wherever it is in a query
+-- a pair does not change the citation, wherever it is in an OpenURL
 abbrev pub IsUncited : List ℕ × List ℕ → Type 0
 IsUncited pair =
     (before after : List (List ℕ × List ℕ)) → citation_of_pairs (before ++ pair ∷ after) ≡ citation_of_pairs (before ++ after)
@@ -98,4 +98,4 @@ DroppedIsUncited = (key value : List ℕ) → is_dropped key ≡ true → IsUnci
 
 -- what is written for what is written is the same text
 abbrev pub WrittenIsItself : Type 0
-WrittenIsItself = (u : UnderstandingValue) → IsWellFormed u → written (understood (written u)) ≡ written u
+WrittenIsItself = (u : OpenUrlValue) → IsWellFormed u → written (understood (written u)) ≡ written u

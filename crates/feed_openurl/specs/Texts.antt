@@ -3,7 +3,7 @@ use Rattle.std.specs.Prelude.{◌≡◌, ℕ, List, Option, Some, None, if◌the
 use Rattle.feed_kbart.specs.Volumes.{volume_of}
 use Rattle.feed_dates.specs.DayRanges.{query_days_of, with_hyphens}
 
--- the text `YYYY`, `YYYY-MM` or `YYYY-MM-DD` of a date of a query, if the calendar has it
+-- the text `YYYY`, `YYYY-MM` or `YYYY-MM-DD` of a date of an OpenURL, if the calendar has it
 abbrev pub date_text_of : List ℕ → Option (List ℕ)
 date_text_of text = if is_some (query_days_of text) then Some (with_hyphens text) else None
 

@@ -1,7 +1,8 @@
--- The date and the volume of a query: what the core reads, or else a value of an `rft.` key, or else one of OpenURL 0.1.
+-- The date and the volume of an OpenURL: what the core reads, or else a value of an `rft.` key, or else one of OpenURL
+-- 0.1.
 use Rattle.std.specs.Prelude.{ℕ, Bool, List, map, Option, None, if◌then◌else◌}
 use Rattle.std.specs.List.{filter_map}
-use Rattle.feed_identifiers.specs.Text.{trimmed}
+use Rattle.feed_bytes.specs.Trim.{trimmed}
 use Rattle.feed_answer.specs.Pairs.{first}
 use Rattle.feed_openurl.specs.Core.{core_date, core_volume}
 use Rattle.feed_openurl.specs.Dates.{lenient_date}
@@ -51,10 +52,10 @@ lenient_volume_of tier value = if is_volume tier value then lenient_volume (trim
 abbrev pub volume_in : Tier → List (Key × List ℕ) → Option (List ℕ)
 volume_in tier values = or_text (first (filter_map (strict_volume_of tier) values)) (first (filter_map (lenient_volume_of tier) values))
 
--- the date of a query: the core's, or else that of an `rft.` key, or else that of a key of 0.1
+-- the date of an OpenURL: the core's, or else that of an `rft.` key, or else that of a key of 0.1
 abbrev pub date_of : List (List ℕ × List ℕ) → Option (List ℕ)
 date_of pairs = or_text (core_date pairs) (or_text (date_in Rft (map keyed pairs)) (date_in Old (map keyed pairs)))
 
--- the volume of a query
+-- the volume of an OpenURL
 abbrev pub volume_of : List (List ℕ × List ℕ) → Option (List ℕ)
 volume_of pairs = or_text (core_volume pairs) (or_text (volume_in Rft (map keyed pairs)) (volume_in Old (map keyed pairs)))

@@ -1,4 +1,4 @@
--- How a query is understood.
+-- How an OpenURL is understood.
 use Rattle.std.specs.Prelude.{◌≡◌, ◌<◌, ◌≤◌, ℕ, List, Option, Some, None, IfSome}
 use Rattle.std.specs.List.{All}
 use Rattle.form_urlencoded.specs.Form as form
@@ -8,7 +8,7 @@ use Rattle.feed_answer.specs.IdentifierSet.{IsAscending}
 use Rattle.feed_openurl.specs.Identifiers.{LookedUp, count, identifier_limit, looked_up}
 use Rattle.feed_openurl.specs.Texts.{IsDateText, IsVolumeText}
 use Rattle.feed_openurl.specs.Tiers.{date_of, volume_of}
-use Rattle.feed_openurl.specs.declared.fault.Refusal.{Refusal}
+use Rattle.feed_openurl.specs.declared.fault.OpenUrlFault.{OpenUrlFault}
 
 -- the printed form of an ISSN parses as itself, and that of an ISBN
 abbrev pub IsIssnText : List ℕ → Type 0
@@ -24,35 +24,36 @@ pub record AreIdentifiers (issns isbns : List (List ℕ)) : Type 0 where
   pub issns_parse : All IsIssnText issns
   pub isbns_parse : All IsIsbnText isbns
 
--- how a query is understood: the identifiers to look up, the texts of the date and of the volume, or why it is refused
-pub record UnderstandingValue : Type 0 where
+-- how an OpenURL is understood: the identifiers to look up, the texts of the date and of the volume, or why it is
+-- refused
+pub record OpenUrlValue : Type 0 where
   pub issns : List (List ℕ)
   pub isbns : List (List ℕ)
   pub date : Option (List ℕ)
   pub volume : Option (List ℕ)
-  pub refusal : Option Refusal
+  pub refusal : Option OpenUrlFault
 
--- a query that is refused has no identifiers; another has some, and at most the limit
-abbrev pub IsCounted : List (List ℕ) → List (List ℕ) → Option Refusal → Type 0
+-- an OpenURL that is refused has no identifiers; another has some, and at most the limit
+abbrev pub IsCounted : List (List ℕ) → List (List ℕ) → Option OpenUrlFault → Type 0
 IsCounted issns isbns (Some refusal) = count issns isbns ≡ 0
 IsCounted issns isbns None = (0 < count issns isbns) × (count issns isbns ≤ identifier_limit)
 
--- what holds of every query as it is understood
-pub record IsWellFormed (u : UnderstandingValue) : Type 0 where
+-- what holds of every OpenURL as it is understood
+pub record IsWellFormed (u : OpenUrlValue) : Type 0 where
   pub identifiers : AreIdentifiers u.issns u.isbns
   pub counted : IsCounted u.issns u.isbns u.refusal
   pub date : IfSome u.date IsDateText
   pub volume : IfSome u.volume IsVolumeText
 
 -- what is looked up, with a date and a volume
-abbrev pub with_dates : LookedUp → Option (List ℕ) → Option (List ℕ) → UnderstandingValue
+abbrev pub with_dates : LookedUp → Option (List ℕ) → Option (List ℕ) → OpenUrlValue
 with_dates found date volume =
     record { issns = found.issns; isbns = found.isbns; date = date; volume = volume; refusal = found.refusal }
 
--- how the pairs of a query are understood
-abbrev pub understood_pairs : List (List ℕ × List ℕ) → UnderstandingValue
+-- how the pairs of an OpenURL are understood
+abbrev pub understood_pairs : List (List ℕ × List ℕ) → OpenUrlValue
 understood_pairs pairs = with_dates (looked_up pairs) (date_of pairs) (volume_of pairs)
 
--- how a query is understood
-abbrev pub understood : List ℕ → UnderstandingValue
+-- how an OpenURL is understood
+abbrev pub understood : List ℕ → OpenUrlValue
 understood text = understood_pairs (form.parse text)

@@ -1,7 +1,7 @@
--- The OpenURL 1.0 query of a query that is understood (Z39.88-2004, key/value format).
+-- The OpenURL 1.0 query of an OpenURL that is understood (Z39.88-2004, key/value format).
 use Rattle.std.specs.Prelude.{ℕ, List, [], ◌∷◌, ◌++◌, map, Option, Some, None, codes}
 use Rattle.form_urlencoded.specs.Form as form
-use Rattle.feed_openurl.specs.Values.{UnderstandingValue}
+use Rattle.feed_openurl.specs.Values.{OpenUrlValue}
 
 -- a pair with this key
 abbrev pub with_key : List ℕ → List ℕ → List ℕ × List ℕ
@@ -38,5 +38,5 @@ abbrev pub written_of : List (List ℕ) → List (List ℕ) → Option (List ℕ
 written_of issns isbns date volume = form.extend_pairs [] (pairs_for issns isbns date volume)
 
 -- the text of the query for what is understood
-abbrev pub written : UnderstandingValue → List ℕ
+abbrev pub written : OpenUrlValue → List ℕ
 written u = written_of u.issns u.isbns u.date u.volume

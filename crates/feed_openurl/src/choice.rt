@@ -3,8 +3,8 @@ ghost use Rattle.std.specs.Prelude.{◌≡◌};
 ghost use Rattle.feed_openurl.specs.CitationParts.{same_part};
 ghost use Rattle.feed_openurl.specs.Citations.{best};
 
+use crate::citation_part::CitationPart;
 use crate::offer::Offer;
-use crate::part::Part;
 use std::marker::Model;
 
 /// The text that is chosen for a part so far, and its rank. It is empty if there is none.
@@ -24,7 +24,7 @@ impl<'a> Model for Choice<'a> {
 
 impl Offer {
     /// Returns whether it is for this part.
-    pub(crate) fn is_for(&self, part: Part) -> bool
+    pub(crate) fn is_for(&self, part: CitationPart) -> bool
         ensures { result ≡ same_part part self.now.part }
     {
         part.place() == self.part.place()
@@ -41,7 +41,7 @@ impl<'a> Choice<'a> {
     }
 
     // Takes an offer for the part in place of one of a later rank.
-    fn take(&mut self, part: Part, offered: &'a Offer)
+    fn take(&mut self, part: CitationPart, offered: &'a Offer)
         ensures { self.new ≡ taken part self.old offered.now }
     {
         if offered.is_for(part) && (self.text.as_bytes().is_empty() || offered.rank < self.rank) {
@@ -60,7 +60,7 @@ impl<'a> Choice<'a> {
 }
 
 /// Returns the first of the offers for a part that are of the best rank.
-pub(crate) fn best<'a>(part: Part, offers: &'a [Offer]) -> Choice<'a>
+pub(crate) fn best<'a>(part: CitationPart, offers: &'a [Offer]) -> Choice<'a>
     ensures { result ≡ best part offers.now }
 {
     let mut choice = Choice::new();

@@ -1,11 +1,11 @@
-//! The citation of a query: the article, the chapter or the volume that a reader looks for.
+//! The citation of an OpenURL: the article, the chapter or the volume that a reader looks for.
 ghost use Rattle.std.specs.Prelude.{◌≡◌, ◌++◌, ◌∷◌, [], IfOk, OnOk, map, string_bytes};
 ghost use Rattle.feed_openurl.specs.Citations.{author_text, authors, beside, best, pages_text, part_text};
 ghost use Rattle.feed_openurl.specs.Citations.{with_author};
 
 use crate::choice::best;
+use crate::citation_part::{CitationPart, PARTS};
 use crate::offer::{Offer, offers_of};
-use crate::part::{PARTS, Part};
 use feed_answer::{Pair, decode_pairs};
 use std::alloc::{AllocError, Global};
 use std::marker::Model;
@@ -24,7 +24,7 @@ impl Model for PartText {
     ghost view = { λ p. string_bytes p.text };
 }
 
-/// The citation of a query, as it came: UTF-8 without control characters. A text that is absent is empty.
+/// The citation of an OpenURL, as it came: UTF-8 without control characters. A text that is absent is empty.
 #[derive(Drop)]
 pub struct Citation {
     // In the order of the parts.
@@ -65,7 +65,7 @@ fn beside(alloc: Global, mark: &str, one: &str, other: &str) -> Result<String, A
 fn push_author(text: &mut String, rank: u16, offered: &Offer) -> Result<(), AllocError>
     ensures { OnOk result (string_bytes text.new ≡ with_author rank (string_bytes text.old) offered.now) }
 {
-    if offered.is_for(Part::Author) && rank == offered.rank {
+    if offered.is_for(CitationPart::Author) && rank == offered.rank {
         return push_beside(text, "; ", offered.text.as_str());
     }
     Ok(())
@@ -86,36 +86,41 @@ fn authors(alloc: Global, rank: u16, offers: &[Offer]) -> Result<String, AllocEr
 fn author_text(alloc: Global, offers: &[Offer]) -> Result<String, AllocError>
     ensures { IfOk result (λ text. string_bytes text ≡ author_text offers.now) }
 {
-    let all = best(Part::Author, offers);
-    let last = best(Part::LastName, offers);
+    let all = best(CitationPart::Author, offers);
+    let last = best(CitationPart::LastName, offers);
     if all.is_before(&last) {
         return authors(alloc, all.rank, offers);
     }
-    beside(alloc, ", ", last.text, best(Part::FirstName, offers).text)
+    beside(
+        alloc,
+        ", ",
+        last.text,
+        best(CitationPart::FirstName, offers).text,
+    )
 }
 
 // The pages as they came, or else the first one and the last.
 fn pages_text(alloc: Global, offers: &[Offer]) -> Result<String, AllocError>
     ensures { IfOk result (λ text. string_bytes text ≡ pages_text offers.now) }
 {
-    let pages = best(Part::Pages, offers).text;
+    let pages = best(CitationPart::Pages, offers).text;
     if !pages.as_bytes().is_empty() {
         return String::from_str(alloc, pages);
     }
     beside(
         alloc,
         "-",
-        best(Part::Page, offers).text,
-        best(Part::LastPage, offers).text,
+        best(CitationPart::Page, offers).text,
+        best(CitationPart::LastPage, offers).text,
     )
 }
 
-fn part_text(alloc: Global, offers: &[Offer], part: Part) -> Result<String, AllocError>
+fn part_text(alloc: Global, offers: &[Offer], part: CitationPart) -> Result<String, AllocError>
     ensures { IfOk result (λ text. string_bytes text ≡ part_text offers.now part) }
 {
     match part {
-        Part::Author => author_text(alloc, offers),
-        Part::Pages => pages_text(alloc, offers),
+        CitationPart::Author => author_text(alloc, offers),
+        CitationPart::Pages => pages_text(alloc, offers),
         _ => String::from_str(alloc, best(part, offers).text),
     }
 }
@@ -124,7 +129,7 @@ fn push_text(
     alloc: Global,
     texts: &mut Vec<PartText>,
     offers: &[Offer],
-    part: &Part,
+    part: &CitationPart,
 ) -> Result<(), AllocError>
     ensures { OnOk result (texts.new.items ≡ texts.old.items ++ part_text offers.now part.now ∷ []) }
 {
@@ -133,7 +138,11 @@ fn push_text(
     Ok(())
 }
 
-fn texts_of(alloc: Global, offers: &[Offer], parts: &[Part]) -> Result<Vec<PartText>, AllocError>
+fn texts_of(
+    alloc: Global,
+    offers: &[Offer],
+    parts: &[CitationPart],
+) -> Result<Vec<PartText>, AllocError>
     ensures { IfOk result (λ texts. texts.items ≡ map (part_text offers.now) parts.now) }
 {
     let mut texts = Vec::new(alloc);
@@ -155,7 +164,7 @@ impl Citation {
         Ok(Citation { texts })
     }
 
-    /// Reads the citation of the decoded pairs of a query.
+    /// Reads the citation of the decoded pairs of an OpenURL.
     ///
     /// # Errors
     ///
@@ -167,7 +176,7 @@ impl Citation {
         Citation::cited(alloc, &offers)
     }
 
-    /// Reads the citation of a query, of any length.
+    /// Reads the citation of an OpenURL, of any length.
     ///
     /// # Errors
     ///
@@ -181,7 +190,7 @@ impl Citation {
     }
 
     /// Returns the text of a part.
-    pub fn text(&self, part: Part) -> &str
+    pub fn text(&self, part: CitationPart) -> &str
         ensures { result.now ≡ text_at self.now part }
     {
         match self.texts.get(part.place()) {

@@ -1,4 +1,4 @@
-//! The date of a query: what the core reads, or else a value of an `rft.` key, or else one of OpenURL 0.1.
+//! The date of an OpenURL: what the core reads, or else a value of an `rft.` key, or else one of OpenURL 0.1.
 ghost use Rattle.std.specs.Prelude.{◌≡◌, IfOk, map};
 ghost use Rattle.std.specs.List.{filter_map};
 ghost use Rattle.feed_answer.specs.Pairs.{first};
@@ -14,10 +14,10 @@ use crate::lenient_date::lenient_date;
 use crate::plain::plain;
 use crate::value::Value;
 use feed_answer::Pair;
-use feed_identifiers::trim_spaces;
+use feed_bytes::trim_spaces;
 use std::alloc::{AllocError, Global};
 
-/// Returns the date of a query.
+/// Returns the date of an OpenURL.
 pub(crate) fn date_of(
     alloc: Global,
     pairs: &[Pair<'_>],

@@ -1,4 +1,4 @@
-//! The keys of a query that nobody reads.
+//! The keys of an OpenURL that nobody reads.
 ghost use Rattle.std.specs.Prelude.{◌≡◌, ◌++◌, ◌∷◌, [], map, IfOk, OnOk};
 ghost use Rattle.std.specs.List.Sorted.{IsSortedByKey};
 ghost use Rattle.std.specs.Ordering.{nat_cmp};
@@ -88,7 +88,7 @@ fn count_keys(alloc: Global, keys: &[&[u8]]) -> Result<Vec<Dropped>, AllocError>
     Ok(found)
 }
 
-/// Returns the keys of a query that nobody reads, each once with how often it appears, in the order of their bytes.
+/// Returns the keys of an OpenURL that nobody reads, each once with how often it appears, in the order of their bytes.
 pub fn dropped_keys(alloc: Global, text: &[u8]) -> Result<Vec<Dropped>, AllocError>
     ensures { IfOk result (λ found. AreCounted (dropped_in (form.parse text.now)) found.items) }
 {

@@ -1,11 +1,11 @@
-//! The identifiers that are looked up for a query: those of each key of its citation.
+//! The identifiers that are looked up for an OpenURL: those of each key of its citation.
 ghost use Rattle.std.specs.Prelude.{◌≡◌, IfOk, map};
 ghost use Rattle.feed_openurl.specs.Identifiers.{identifiers_of, looked_up, reason_by, reason_without, refused};
 ghost use Rattle.feed_openurl.specs.Identifiers.{within_limit};
 ghost use Rattle.feed_openurl.specs.Keys.{keyed};
 ghost use Rattle.feed_openurl.specs.Kinds.{formats_of};
 
-use crate::fault::Refusal;
+use crate::fault::OpenUrlFault;
 use crate::kind;
 use crate::kind::FormatNames;
 use crate::numbers::numbers_of;
@@ -21,7 +21,7 @@ use std::marker::Model;
 pub(crate) struct LookedUp {
     pub(crate) issns: Vec<Issn>,
     pub(crate) isbns: Vec<Isbn>,
-    pub(crate) refusal: Option<Refusal>,
+    pub(crate) refusal: Option<OpenUrlFault>,
 }
 
 impl Model for LookedUp {
@@ -32,7 +32,7 @@ impl Model for LookedUp {
     ghost view = { λ found. record { issns = found.issns.items; isbns = found.isbns.items; refusal = found.refusal } };
 }
 
-fn refused(alloc: Global, refusal: Refusal) -> LookedUp
+fn refused(alloc: Global, refusal: OpenUrlFault) -> LookedUp
     ensures { result ≡ refused refusal }
 {
     LookedUp {
@@ -47,7 +47,7 @@ fn within_limit(alloc: Global, found: Identifiers) -> LookedUp
     ensures { result ≡ within_limit found }
 {
     if found.are_too_many() {
-        return refused(alloc, Refusal::TooMany);
+        return refused(alloc, OpenUrlFault::TooMany);
     }
     LookedUp {
         issns: found.issns,
@@ -65,25 +65,25 @@ fn formats_of(alloc: Global, values: &[Value<'_>]) -> Result<FormatNames, AllocE
     Ok(FormatNames { journal, book })
 }
 
-fn reason_by(formats: FormatNames) -> Refusal
+fn reason_by(formats: FormatNames) -> OpenUrlFault
     ensures { result ≡ reason_by formats }
 {
     if formats.book && !formats.journal {
-        Refusal::NoIsbn
+        OpenUrlFault::NoIsbn
     } else {
-        Refusal::NoIssn
+        OpenUrlFault::NoIssn
     }
 }
 
-// The reason of a query without identifiers.
-fn reason_without(alloc: Global, values: &[Value<'_>]) -> Result<Refusal, AllocError>
+// The reason of an OpenURL without identifiers.
+fn reason_without(alloc: Global, values: &[Value<'_>]) -> Result<OpenUrlFault, AllocError>
     ensures { IfOk result (λ reason. reason ≡ reason_without values.now) }
 {
     if kind::has_other_version(alloc, values)? {
-        return Ok(Refusal::Version);
+        return Ok(OpenUrlFault::Version);
     }
     if kind::has_other_format(alloc, values)? {
-        return Ok(Refusal::OtherFormat);
+        return Ok(OpenUrlFault::OtherFormat);
     }
     Ok(reason_by(formats_of(alloc, values)?))
 }
@@ -96,7 +96,7 @@ fn identifiers_of(alloc: Global, pairs: &[Pair<'_>]) -> Result<Identifiers, Allo
     identifiers_among(alloc, &numbers)
 }
 
-/// Returns the identifiers of a query, by its pairs and their values.
+/// Returns the identifiers of an OpenURL, by its pairs and their values.
 pub(crate) fn looked_up(
     alloc: Global,
     pairs: &[Pair<'_>],

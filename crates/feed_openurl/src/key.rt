@@ -1,10 +1,10 @@
-//! The keys of a query by which something is looked up: those of OpenURL 1.0 (Z39.88-2004, the matrices of journals and
-//! books), and those of OpenURL 0.1.
+//! The keys of an OpenURL that are looked up: those of OpenURL 1.0 (Z39.88-2004, the matrices of journals and books),
+//! and those of OpenURL 0.1.
 ghost use Rattle.std.specs.Prelude.{◌≡◌, codes, option_copied};
 ghost use Rattle.feed_openurl.specs.Keys.{after_prefix, envelope_key, is_name, mended, referent_key, same_tier};
 ghost use Rattle.feed_openurl.specs.Keys.{without_front};
 
-use feed_identifiers::trim_spaces;
+use feed_bytes::trim_spaces;
 
 /// Whether a key is one of the referent in OpenURL 1.0, such as `rft.issn`, or the same of OpenURL 0.1, such as `issn`.
 #[derive(Clone, Copy)]

@@ -1,16 +1,16 @@
-//! The version and the formats that a query names, as proxies and older sources write them.
+//! The version and the formats that an OpenURL names, as proxies and older sources write them.
 ghost use Rattle.std.specs.Prelude.{◌≡◌, IfOk};
 ghost use Rattle.std.specs.List.{list_any};
 ghost use Rattle.feed_openurl.specs.Kinds.{is_text, names_format, names_other_format, names_other_version};
 
 use crate::value::Value;
 use feed_answer::{BOOK, JOURNAL, decode_text};
-use feed_identifiers::trim_spaces;
+use feed_bytes::trim_spaces;
 use std::alloc::{AllocError, Global};
 
 const VERSION: &str = "Z39.88-2004";
 
-/// The formats that a query names.
+/// The formats that an OpenURL names.
 #[derive(Clone, Copy)]
 pub(crate) struct FormatNames {
     pub(crate) journal: bool,

@@ -1,12 +1,12 @@
-//! Laws of queries as they are understood, each stated as the contract of a function with an empty body.
+//! Laws of OpenURLs as they are understood, each stated as the contract of a function with an empty body.
 ghost use Rattle.feed_openurl.specs.Laws.{AnsweredIsContained, BlankIsUncited, DroppedIsUncited, DroppedIsUnread};
 ghost use Rattle.feed_openurl.specs.Laws.{OrderIsFree, PeopleAreDropped, WrittenIsAccepted, WrittenIsItself};
 ghost use Rattle.feed_openurl.specs.Laws.{WrittenIsShort, WrittenIsUnderstood};
 
 use feed_answer::{set_has_exactly_its_identifiers, sets_ascend};
 
-/// For a query that the core answers, each of its identifiers is looked up, with its days and its volume if it has any,
-/// unless the query has more than `IDENTIFIER_LIMIT` identifiers.
+/// For an OpenURL that the core answers, each of its identifiers is looked up, with its days and its volume if it has
+/// any, unless the OpenURL has more than `IDENTIFIER_LIMIT` identifiers.
 pub fn answered_is_contained()
     ensures { AnsweredIsContained }
 {
@@ -21,7 +21,7 @@ pub fn order_is_free()
     set_has_exactly_its_identifiers();
 }
 
-/// A pair whose key nobody reads changes nothing of how a query is understood.
+/// A pair whose key nobody reads changes nothing of how an OpenURL is understood.
 pub fn dropped_is_unread()
     ensures { DroppedIsUnread }
 {}
@@ -31,8 +31,8 @@ pub fn people_are_dropped()
     ensures { PeopleAreDropped }
 {}
 
-/// The core accepts the query that is written for any query that is not refused, and asks for exactly the identifiers,
-/// the days and the volume that were understood.
+/// The core accepts the query that is written for any OpenURL that is not refused, and it asks for exactly the
+/// identifiers, the days and the volume that were understood.
 pub fn written_is_accepted()
     ensures { WrittenIsAccepted }
 {}
@@ -43,7 +43,7 @@ pub fn written_is_short()
 {}
 
 /// The query that is written is understood with exactly the same identifiers, date and volume. It is refused only if
-/// the query was for which it is written.
+/// the OpenURL was for which it is written.
 pub fn written_is_understood()
     ensures { WrittenIsUnderstood }
 {}

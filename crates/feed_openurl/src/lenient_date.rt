@@ -11,7 +11,7 @@ ghost use Rattle.feed_openurl.specs.Dates.{plausible, year_first_of, year_last, 
 
 use crate::date::DateText;
 use crate::tokens::{Token, tokens};
-use feed_identifiers::trim_spaces;
+use feed_bytes::trim_spaces;
 use std::alloc::{AllocError, Global};
 
 // A year from 1000 to 2099.

@@ -10,7 +10,7 @@ ghost use Rattle.feed_openurl.specs.Links.{bare_pmid_of, begins_suffix, doi_of, 
 ghost use Rattle.feed_openurl.specs.Links.{is_pmid, only_pmid, pmid_of, without_doi, without_slash};
 
 use crate::key::after;
-use feed_identifiers::trim_spaces;
+use feed_bytes::trim_spaces;
 
 // The rest of a name after the name of a scheme of DOIs.
 fn after_doi_name(name: &[u8]) -> Option<&[u8]>

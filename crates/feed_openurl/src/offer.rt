@@ -1,4 +1,4 @@
-//! The texts that the pairs of a query offer for the parts of a citation.
+//! The texts that the pairs of an OpenURL offer for the parts of a citation.
 ghost use Rattle.std.specs.Prelude.{◌≡◌, ◌++◌, ◌≤◌, IfOk, OnOk, is_some, length, option_copied};
 ghost use Rattle.feed_openurl.specs.Fronts.{front_len};
 ghost use Rattle.feed_openurl.specs.Citations.{author_part, behind_page, first_page, is_between_pages, is_in_page};
@@ -6,12 +6,12 @@ ghost use Rattle.feed_openurl.specs.Citations.{name_offers_by, named, next_page,
 ghost use Rattle.feed_openurl.specs.Citations.{offers_by, offers_for, offers_of, ordered, pair_offers, part_of};
 ghost use Rattle.feed_openurl.specs.Citations.{pages_offers, part_offers, rank, title_part, work_part};
 
+use crate::citation_part::CitationPart;
 use crate::key::{Key, Tier, after_rft, is_name, mended};
 use crate::links::{bare_pmid_of, doi_of, pmid_of};
-use crate::part::Part;
 use crate::shown::shown_text;
 use feed_answer::Pair;
-use feed_identifiers::trim_spaces;
+use feed_bytes::trim_spaces;
 use std::alloc::{AllocError, Global};
 use std::marker::Model;
 
@@ -25,88 +25,88 @@ fn rank(tier: Tier, order: u8) -> u16
     }
 }
 
-fn title_part(name: &[u8]) -> Option<(Part, u8)>
+fn title_part(name: &[u8]) -> Option<(CitationPart, u8)>
     ensures { result ≡ title_part name.now }
 {
     if is_name(name, "atitle") {
-        Some((Part::Article, 0))
+        Some((CitationPart::Article, 0))
     } else if is_name(name, "jtitle") || is_name(name, "btitle") {
-        Some((Part::Title, 0))
+        Some((CitationPart::Title, 0))
     } else if is_name(name, "title") {
-        Some((Part::Title, 1))
+        Some((CitationPart::Title, 1))
     } else if is_name(name, "stitle") {
-        Some((Part::Title, 2))
+        Some((CitationPart::Title, 2))
     } else if is_name(name, "source") {
-        Some((Part::Title, 3))
+        Some((CitationPart::Title, 3))
     } else {
         None
     }
 }
 
-fn author_part(name: &[u8]) -> Option<(Part, u8)>
+fn author_part(name: &[u8]) -> Option<(CitationPart, u8)>
     ensures { result ≡ author_part name.now }
 {
     if is_name(name, "au") {
-        Some((Part::Author, 0))
+        Some((CitationPart::Author, 0))
     } else if is_name(name, "aulast") {
-        Some((Part::LastName, 1))
+        Some((CitationPart::LastName, 1))
     } else if is_name(name, "creator") {
-        Some((Part::Author, 2))
+        Some((CitationPart::Author, 2))
     } else if is_name(name, "aufirst") {
-        Some((Part::FirstName, 0))
+        Some((CitationPart::FirstName, 0))
     } else if is_name(name, "auinit") {
-        Some((Part::FirstName, 1))
+        Some((CitationPart::FirstName, 1))
     } else if is_name(name, "auinit1") {
-        Some((Part::FirstName, 2))
+        Some((CitationPart::FirstName, 2))
     } else {
         None
     }
 }
 
-fn number_part(name: &[u8]) -> Option<(Part, u8)>
+fn number_part(name: &[u8]) -> Option<(CitationPart, u8)>
     ensures { result ≡ number_part name.now }
 {
     if is_name(name, "issue") {
-        Some((Part::Issue, 0))
+        Some((CitationPart::Issue, 0))
     } else if is_name(name, "spage") {
-        Some((Part::Page, 0))
+        Some((CitationPart::Page, 0))
     } else if is_name(name, "epage") {
-        Some((Part::LastPage, 0))
+        Some((CitationPart::LastPage, 0))
     } else if is_name(name, "pages") {
-        Some((Part::Pages, 1))
+        Some((CitationPart::Pages, 1))
     } else if is_name(name, "doi") {
-        Some((Part::Doi, 20))
+        Some((CitationPart::Doi, 20))
     } else if is_name(name, "pmid") {
-        Some((Part::Pmid, 20))
+        Some((CitationPart::Pmid, 20))
     } else {
         None
     }
 }
 
-fn work_part(name: &[u8]) -> Option<(Part, u8)>
+fn work_part(name: &[u8]) -> Option<(CitationPart, u8)>
     ensures { result ≡ work_part name.now }
 {
     if is_name(name, "genre") {
-        Some((Part::Genre, 0))
+        Some((CitationPart::Genre, 0))
     } else if is_name(name, "series") {
-        Some((Part::Series, 0))
+        Some((CitationPart::Series, 0))
     } else if is_name(name, "edition") {
-        Some((Part::Edition, 0))
+        Some((CitationPart::Edition, 0))
     } else if is_name(name, "pub") {
-        Some((Part::Publisher, 0))
+        Some((CitationPart::Publisher, 0))
     } else if is_name(name, "publisher") {
-        Some((Part::Publisher, 1))
+        Some((CitationPart::Publisher, 1))
     } else if is_name(name, "place") {
-        Some((Part::Place, 0))
+        Some((CitationPart::Place, 0))
     } else if is_name(name, "inst") {
-        Some((Part::Institution, 0))
+        Some((CitationPart::Institution, 0))
     } else {
         None
     }
 }
 
 // The part that a name has, and the order of its key.
-fn ordered(name: &[u8]) -> Option<(Part, u8)>
+fn ordered(name: &[u8]) -> Option<(CitationPart, u8)>
     ensures { result ≡ ordered name.now }
 {
     if let Some(found) = title_part(name) {
@@ -122,7 +122,7 @@ fn ordered(name: &[u8]) -> Option<(Part, u8)>
 }
 
 // The same with the rank of the key.
-fn named(tier: Tier, name: &[u8]) -> Option<(Part, u16)>
+fn named(tier: Tier, name: &[u8]) -> Option<(CitationPart, u16)>
     ensures { result ≡ named tier name.now }
 {
     let (part, order) = ordered(name)?;
@@ -130,7 +130,7 @@ fn named(tier: Tier, name: &[u8]) -> Option<(Part, u16)>
 }
 
 // The part of a citation that a key has, and its rank.
-fn part_of(key: &[u8]) -> Option<(Part, u16)>
+fn part_of(key: &[u8]) -> Option<(CitationPart, u16)>
     ensures { result ≡ part_of key.now }
 {
     let name = mended(key);
@@ -203,7 +203,7 @@ fn next_page(pages: &[u8]) -> &[u8]
 /// A text that is offered for a part, and its rank.
 #[derive(Drop)]
 pub(crate) struct Offer {
-    pub(crate) part: Part,
+    pub(crate) part: CitationPart,
     pub(crate) rank: u16,
     pub(crate) text: String,
 }
@@ -221,7 +221,7 @@ impl Model for Offer {
 fn push_value(
     alloc: Global,
     offers: &mut Vec<Offer>,
-    part: Part,
+    part: CitationPart,
     rank: u16,
     value: &[u8],
 ) -> Result<(), AllocError>
@@ -238,7 +238,7 @@ fn push_value(
 fn push_some(
     alloc: Global,
     offers: &mut Vec<Offer>,
-    part: Part,
+    part: CitationPart,
     rank: u16,
     value: Option<&[u8]>,
 ) -> Result<(), AllocError>
@@ -260,24 +260,36 @@ fn push_pages(
 ) -> Result<(), AllocError>
     ensures { OnOk result (offers.new.items ≡ offers.old.items ++ pages_offers rank value.now) }
 {
-    push_value(alloc, offers, Part::Pages, rank, value)?;
-    push_value(alloc, offers, Part::Page, rank, first_page(value))?;
-    push_value(alloc, offers, Part::LastPage, rank, next_page(value))
+    push_value(alloc, offers, CitationPart::Pages, rank, value)?;
+    push_value(alloc, offers, CitationPart::Page, rank, first_page(value))?;
+    push_value(
+        alloc,
+        offers,
+        CitationPart::LastPage,
+        rank,
+        next_page(value),
+    )
 }
 
 fn push_part(
     alloc: Global,
     offers: &mut Vec<Offer>,
-    part: Part,
+    part: CitationPart,
     rank: u16,
     value: &[u8],
 ) -> Result<(), AllocError>
     ensures { OnOk result (offers.new.items ≡ offers.old.items ++ part_offers part rank value.now) }
 {
     match part {
-        Part::Pages => push_pages(alloc, offers, rank, value),
-        Part::Doi => push_some(alloc, offers, Part::Doi, rank, doi_of(value)),
-        Part::Pmid => push_some(alloc, offers, Part::Pmid, rank, bare_pmid_of(value)),
+        CitationPart::Pages => push_pages(alloc, offers, rank, value),
+        CitationPart::Doi => push_some(alloc, offers, CitationPart::Doi, rank, doi_of(value)),
+        CitationPart::Pmid => push_some(
+            alloc,
+            offers,
+            CitationPart::Pmid,
+            rank,
+            bare_pmid_of(value),
+        ),
         _ => push_value(alloc, offers, part, rank, value),
     }
 }
@@ -285,7 +297,7 @@ fn push_part(
 fn push_found(
     alloc: Global,
     offers: &mut Vec<Offer>,
-    found: Option<(Part, u16)>,
+    found: Option<(CitationPart, u16)>,
     value: &[u8],
 ) -> Result<(), AllocError>
     ensures { OnOk result (offers.new.items ≡ offers.old.items ++ offers_for found value.now) }
@@ -308,8 +320,8 @@ fn push_name(
         ≡ offers.old.items ++ name_offers_by rank (option_copied doi.entry) value.now) }
 {
     match doi {
-        Some(doi) => push_value(alloc, offers, Part::Doi, rank, doi),
-        None => push_some(alloc, offers, Part::Pmid, rank, pmid_of(value)),
+        Some(doi) => push_value(alloc, offers, CitationPart::Doi, rank, doi),
+        None => push_some(alloc, offers, CitationPart::Pmid, rank, pmid_of(value)),
     }
 }
 
@@ -323,8 +335,8 @@ fn push_by(
     ensures { OnOk result (offers.new.items ≡ offers.old.items ++ offers_by key name.now value.now) }
 {
     match key {
-        Key::Date(tier) => push_value(alloc, offers, Part::Date, rank(tier, 0), value),
-        Key::Volume(tier) => push_value(alloc, offers, Part::Volume, rank(tier, 0), value),
+        Key::Date(tier) => push_value(alloc, offers, CitationPart::Date, rank(tier, 0), value),
+        Key::Volume(tier) => push_value(alloc, offers, CitationPart::Volume, rank(tier, 0), value),
         Key::Name(tier) => push_name(alloc, offers, rank(tier, 0), doi_of(value), value),
         Key::Other => push_found(alloc, offers, part_of(name), value),
         _ => Ok(()),
@@ -344,7 +356,7 @@ fn push_pair(alloc: Global, offers: &mut Vec<Offer>, pair: &Pair<'_>) -> Result<
     )
 }
 
-/// Returns what the pairs of a query offer for the parts of a citation.
+/// Returns what the pairs of an OpenURL offer for the parts of a citation.
 pub(crate) fn offers_of(alloc: Global, pairs: &[Pair<'_>]) -> Result<Vec<Offer>, AllocError>
     ensures { IfOk result (λ offers. offers.items ≡ offers_of pairs.now) }
 {

@@ -9,7 +9,7 @@ use std::alloc::{AllocError, Global};
 use std::collections::BTreeSet;
 use std::marker::Model;
 
-/// The most ISSNs and ISBNs that a query may have.
+/// The most ISSNs and ISBNs that an OpenURL may have.
 pub const IDENTIFIER_LIMIT: usize = 64;
 
 /// ISSNs and ISBNs.

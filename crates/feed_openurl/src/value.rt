@@ -1,4 +1,4 @@
-//! A value of a query, with what its key asks for.
+//! A value of an OpenURL, with what its key asks for.
 ghost use Rattle.std.specs.Prelude.{◌≡◌, IfOk, map, option_copied};
 ghost use Rattle.feed_openurl.specs.Keys.{keyed};
 

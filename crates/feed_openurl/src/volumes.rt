@@ -1,4 +1,4 @@
-//! The volume of a query: what the core reads, or else a value of an `rft.` key, or else one of OpenURL 0.1.
+//! The volume of an OpenURL: what the core reads, or else a value of an `rft.` key, or else one of OpenURL 0.1.
 ghost use Rattle.std.specs.Prelude.{◌≡◌, IfOk, map};
 ghost use Rattle.std.specs.List.{filter_map};
 ghost use Rattle.feed_answer.specs.Pairs.{first};
@@ -6,7 +6,7 @@ ghost use Rattle.feed_openurl.specs.Core.{core_volume, volume_of_pair};
 ghost use Rattle.feed_openurl.specs.Keys.{keyed};
 ghost use Rattle.feed_openurl.specs.Plain.{plain};
 ghost use Rattle.feed_openurl.specs.Keys.{or_text};
-ghost use Rattle.feed_identifiers.specs.Text.{trimmed};
+ghost use Rattle.feed_bytes.specs.Trim.{trimmed};
 ghost use Rattle.feed_openurl.specs.Romans.{roman_volume};
 ghost use Rattle.feed_openurl.specs.Tiers.{lenient_volume, lenient_volume_of, strict_volume_of, volume_in, volume_of};
 ghost use Rattle.feed_openurl.specs.Volumes.{is_year_of, leading_volume, unless_year_of, without_series};
@@ -19,10 +19,10 @@ use crate::roman::roman_volume;
 use crate::value::Value;
 use crate::volume::{VolumeText, leading_volume, without_series};
 use feed_answer::Pair;
-use feed_identifiers::trim_spaces;
+use feed_bytes::trim_spaces;
 use std::alloc::{AllocError, Global};
 
-/// Returns the volume of a query.
+/// Returns the volume of an OpenURL.
 pub(crate) fn volume_of(
     alloc: Global,
     pairs: &[Pair<'_>],

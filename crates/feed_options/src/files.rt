@@ -41,7 +41,7 @@ pub struct DiffOptions<'a> {
     /// The path of the new list.
     pub new: &'a str,
     pub form: ComparisonForm,
-    /// The most rows that the new list may remove and change, in percent of those of the old one.
+    /// The most rows that the new list may remove and change, in percent of the old one's rows.
     pub max_removed: Option<u64>,
     pub max_changed: Option<u64>,
 }

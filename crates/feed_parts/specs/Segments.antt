@@ -2,7 +2,7 @@
 use Rattle.std.specs.Prelude.{◌≡◌, ◌<◌, ◌≤◌, ◌+◌, ◌-◌, ◌^◌, ℕ, List, length, Option, Some, None, IsSome, All, slice_get, slice_index_or}
 use Rattle.feed_model.specs.Content.{Part, byte_in, IsText}
 use Rattle.feed_model.specs.Parts.{AreWithin}
-use Rattle.feed_parts.specs.declared.gaps.Gap.{Gap}
+use Rattle.feed_parts.specs.declared.segments.Gap.{Gap}
 
 -- the greatest 64-bit number; no part extends past it
 abbrev pub last_place : ℕ

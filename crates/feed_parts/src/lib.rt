@@ -1,15 +1,13 @@
 //! The stored bytes of an incomplete file: which bytes of a piece are new, and which places are missing.
 #![tactic(auto)]
 
-mod gaps;
 mod merging;
 mod overlap;
 mod part;
 mod reading;
 mod segments;
 
-pub use gaps::Gap;
 pub use merging::copy_in_order;
 pub use part::{Part, copy_parts};
 pub use reading::{SegmentReader, whole_reader};
-pub use segments::Segments;
+pub use segments::{Gap, Segments};

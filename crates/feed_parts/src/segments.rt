@@ -9,11 +9,10 @@ ghost use Rattle.feed_parts.specs.Piece.{joined, total_length};
 ghost use Rattle.feed_parts.specs.Segments.{AreFew, AreSegments, HasRun, IsFirstGap, IsLastFrom, IsTextOf};
 ghost use Rattle.feed_parts.specs.Shown.{shown_parts};
 
-use crate::gaps::{self, Gap};
 use crate::merging::merge;
-use crate::overlap;
 use crate::part::{Part, are_within, end_of};
 use crate::reading::SegmentReader;
+use crate::{overlap, segments};
 use std::alloc::{AllocError, Global};
 use std::marker::Model;
 
@@ -133,7 +132,7 @@ impl Segments {
         requires { AreWithin size self.now.parts }
         ensures { IsFirstGap (byte_in self.now.parts) size result }
     {
-        gaps::next_gap(&self.parts, size)
+        segments::next_gap(&self.parts, size)
     }
 
     /// Returns whether a piece differs from a stored byte. Does not allocate.
@@ -235,4 +234,28 @@ fn find(parts: &[Part], place: u64, probes: &mut u32) -> Option<usize>
         }
     }
     low.checked_sub(1)
+}
+
+/// Places of a file that no part has: from `first` up to `end`, which is not included.
+#[derive(Clone, Copy, Debug, PartialEq, Eq)]
+pub struct Gap {
+    pub first: u64,
+    pub end: u64,
+}
+
+// Returns the first gap of a file that has these parts.
+pub(crate) fn next_gap(parts: &[Part], size: u64) -> Option<Gap>
+    requires { AreWithin size (shown_parts parts.now) }
+    ensures { IsFirstGap (byte_in (shown_parts parts.now)) size result }
+{
+    let mut first = 0;
+    for part in parts {
+        if first < part.first {
+            let end = part.first;
+            return Some(Gap { first, end });
+        }
+        first = end_of(part);
+    }
+    let end = size;
+    (first < end).then_some(Gap { first, end })
 }

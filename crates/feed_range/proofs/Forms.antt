@@ -11,11 +11,11 @@ use Rattle.std.proofs.Common.{drop_at}
 use Rattle.std.proofs.lemmas.List.{take_at, take-append-drop}
 use Rattle.std.proofs.lemmas.List.Sums.{split_at_first, prefix_len_stops}
 use borrow.Author.Tests.{eqb-true, ltb-true, ne_eqb}
-use Rattle.feed_range.specs.Text.{dash, strip_prefix, split_once, is_number, number_of, capped_number}
-use Rattle.feed_range.specs.Ask.{ask_of, places_of, places_by_form, IsRangeValue, IsOtherValue, AsksByForm}
-use Rattle.feed_range.specs.declared.ask.RangeAsk.TheVariants.{Whole}
-use Rattle.feed_range.proofs.Digits.{both, number_parts}
-use Rattle.feed_range.proofs.Cuts.{lacks-digits, split_once-at}
+use Rattle.feed_bytes.specs.Split.{dash, strip_prefix, split_once, is_number, number_of, capped_number}
+use Rattle.feed_range.specs.RangeAsk.{ask_of, places_of, places_by_form, IsRangeValue, IsOtherValue, AsksByForm}
+use Rattle.feed_range.specs.declared.range_ask.RangeAsk.TheVariants.{Whole}
+use Rattle.feed_bytes.proofs.Digits.{both, number_parts}
+use Rattle.feed_bytes.proofs.Cuts.{lacks-digits, split_once-at}
 
 -- texts that are equal but for their case are equally long
 same_length : (a b : List ℕ) → str_eq_ignore_ascii_case a b ≡ true → length a ≡ length b

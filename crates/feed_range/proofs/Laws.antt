@@ -7,14 +7,14 @@ use Rattle.std.specs.Fmt.{decimal}
 use Rattle.std.proofs.lemmas.Fmt.{decimal_is_IsNumeral}
 use Rattle.std.proofs.Math.Nat.{min-eq_left}
 use borrow.Author.Tests.{ne_eqb, lt-ltb, le-ltb, lt-leb}
-use Rattle.feed_range.specs.Text.{dash, slash, strip_prefix, split_once, number_of, capped_number}
-use Rattle.feed_range.specs.Ask.{ask_of, ask_text}
+use Rattle.feed_bytes.specs.Split.{dash, slash, strip_prefix, split_once, number_of, capped_number}
+use Rattle.feed_range.specs.RangeAsk.{ask_of, ask_text}
 use Rattle.feed_range.specs.Content.{is_star, total_of, part_of, range_of, content_range, content_range_text, range_in_order, FitsIn64Bits}
-use Rattle.feed_range.specs.declared.ask.RangeAsk.TheVariants as ask
+use Rattle.feed_range.specs.declared.range_ask.RangeAsk.TheVariants as ask
 use Rattle.feed_range.specs.declared.content.ContentRange.{ContentRange}
 use Rattle.feed_range.specs.declared.content.ContentRange.TheVariants.{Part, Unsatisfied}
-use Rattle.feed_range.proofs.Digits.{digit_test, numerals, number_of-digits}
-use Rattle.feed_range.proofs.Cuts.{lacks, lacks-append, lacks-digits, split_once-at}
+use Rattle.feed_bytes.proofs.Digits.{digit_test, numerals, number_of-digits}
+use Rattle.feed_bytes.proofs.Cuts.{lacks, lacks-append, lacks-digits, split_once-at}
 
 some-decimal : (n : ℕ) → n < 2 ^ 64 → 0 < length (decimal n)
 some-decimal n small = (decimal_is_IsNumeral n small).0.0

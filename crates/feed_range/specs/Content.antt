@@ -4,7 +4,7 @@ use Rattle.std.specs.Prelude.{nat_le, codes, if◌then◌else◌, Option, Some, 
 use Rattle.std.specs.Option.{option_and_then, option_map, option_map_or}
 use Rattle.std.specs.Str.{bytes_eq}
 use Rattle.std.specs.Fmt.{decimal}
-use Rattle.feed_range.specs.Text.{dash, slash, strip_prefix, split_once, number_of, fits}
+use Rattle.feed_bytes.specs.Split.{dash, slash, strip_prefix, split_once, number_of, fits}
 use Rattle.feed_range.specs.declared.content.ContentRange.{ContentRange}
 use Rattle.feed_range.specs.declared.content.ContentRange.TheVariants.{Part, Unsatisfied}
 use Rattle.feed_range.specs.declared.content.RangeFault.{RangeFault}

@@ -1,4 +1,2 @@
-pub mod Text
-pub mod Parts
-pub mod Ask
+pub mod RangeAsk
 pub mod Content

@@ -1,19 +1,19 @@
-//! The Content-Range field of a reply (RFC 9110, section 14.4).
+//! The Content-Range field of a response (RFC 9110, section 14.4).
 ghost use Rattle.std.specs.Prelude.{◌≡◌, IsTrue, IfOk, OnOk, is_some};
 ghost use Rattle.std.specs.Io.KnownBytes.{Appends};
 ghost use Rattle.std.specs.Option.{option_and_then};
 ghost use Rattle.feed_range.specs.declared.content.ContentRange.{ContentRange};
-ghost use Rattle.feed_range.specs.Text.{number_of};
+ghost use Rattle.feed_bytes.specs.Split.{number_of};
 ghost use Rattle.feed_range.specs.Content.{is_star, total_of, total_in_64_bits, part_in_order, part_of, unsatisfied_of};
 ghost use Rattle.feed_range.specs.Content.{range_of, content_range, content_range_text, range_in_order, FitsIn64Bits};
 ghost use Rattle.feed_range.specs.Content.{IsInOrder};
 
 use super::WriteFault;
-use crate::text::{is_number, parse_number, split_once, strip_prefix};
+use feed_bytes::{is_number, parse_number, split_once, strip_prefix};
 use std::io::Write;
 use thiserror::Error;
 
-/// The range that a reply has, both ends included, and the length of the whole in bytes.
+/// The range that a response has, both ends included, and the length of the whole in bytes.
 #[derive(Clone, Copy, Debug, PartialEq, Eq)]
 pub enum ContentRange {
     /// `first-last/total`, or `first-last/*` if the length is unknown.

@@ -35,7 +35,7 @@ one_reported rs h i d holdings is known lt held =
     let r : ReleaseValue = get_or rs i d in
     let has = holds r.kept.state r.kept.size r.kept.parts r.holdings holdings (known i d lt) held in
     record {
-      reports = reports_at rs h r.kept.name.stem i d is lt (has.0, refl);
+      reports = reports_at rs h r.kept.name.package_name i d is lt (has.0, refl);
       text = has.1;
       file = file_of_record (content_of rs) h r.kept has.1 is (own_at rs i d is.distinct lt) has.2.count has.2.bytes;
       holdings = has.3;

@@ -32,7 +32,7 @@ Ordered actives = IsStrictlySortedBy package_cmp actives
 
 -- the package differs from that of each release in the list
 abbrev IsApart : ActiveValue → List ActiveValue → Type 0
-IsApart a actives = AllByRecursion (λ (b : ActiveValue). a.name.stem ≢ b.name.stem) actives
+IsApart a actives = AllByRecursion (λ (b : ActiveValue). a.name.package_name ≢ b.name.package_name) actives
 
 abbrev AreApart : List ActiveValue → Type 0
 AreApart [] = Unit {0}
@@ -46,7 +46,7 @@ IsAmong n (a ∷ actives) = (a.name ≡ n) ⊎ IsAmong n actives
 -- ---- the order of packages
 
 by_packages : IsTotalOrder package_cmp
-by_packages = on_texts (λ (a : ActiveValue). a.name.stem)
+by_packages = on_texts (λ (a : ActiveValue). a.name.package_name)
 
 not_itself : (a : ActiveValue) → package_cmp a a ≢ Less
 not_itself a e = by (package_cmp a a) e (by_packages.antisymm a a)
@@ -62,12 +62,12 @@ is_less Equal e = absurd (cc)
 is_less Greater e = absurd (cc)
 
 -- of two packages that differ, where the one does not come first, the other does
-other_first : (a b : ActiveValue) → is_package_before b a ≡ false → a.name.stem ≢ b.name.stem → package_cmp a b ≡ Less
+other_first : (a b : ActiveValue) → is_package_before b a ≡ false → a.name.package_name ≢ b.name.package_name → package_cmp a b ≡ Less
 other_first a b e apart = by (package_cmp b a) refl
   where
     by : (o : Ordering) → package_cmp b a ≡ o → package_cmp a b ≡ Less
     by Less is = absurd (let no : true ≡ false = rw is at e in cc)
-    by Equal is = absurd (apart (sym ((bytes_decides b.name.stem a.name.stem).0 (sym (is_eq-slice_cmp b.name.stem a.name.stem) ∙ ap is_eq is))))
+    by Equal is = absurd (apart (sym ((bytes_decides b.name.package_name a.name.package_name).0 (sym (is_eq-slice_cmp b.name.package_name a.name.package_name) ∙ ap is_eq is))))
     by Greater is = by_packages.antisymm a b ∙ ap ordering_reverse is
 
 below_all : (a b : ActiveValue) (actives : List ActiveValue) → package_cmp a b ≡ Less → AllByRecursion (λ c. package_cmp b c ≡ Less) actives
@@ -88,7 +88,7 @@ still_apart : (a : ActiveValue) (others actives : List ActiveValue) → AllByRec
     → AllByRecursion (λ b. IsApart b (insert_active a others)) actives
 still_apart a others [] each apart = tt
 still_apart a others (b ∷ actives) each apart =
-    (put_in (λ c. b.name.stem ≢ c.name.stem) a others (λ e. apart.0 (sym e)) each.0, still_apart a others actives each.1 apart.1)
+    (put_in (λ c. b.name.package_name ≢ c.name.package_name) a others (λ e. apart.0 (sym e)) each.0, still_apart a others actives each.1 apart.1)
 
 all_ordered : (others actives : List ActiveValue) → Ordered others → AllByRecursion (λ b. IsApart b others) actives → AreApart actives → Ordered (inserted others actives)
 all_ordered others [] up each apart = up
@@ -113,15 +113,15 @@ apart_names (r ∷ rs) zero (suc j) d apart lt within = apart_at r.kept.name rs 
 apart_names (r ∷ rs) (suc i) (suc j) d apart lt within = apart_names rs i j d (IsDistinct-tail name_eq r.kept.name (names (content_of rs)) apart) (omega arith) (omega arith)
 
 -- two active releases have two packages
-apart_stems : (rs : List ReleaseValue) (h : History) → IsContent (content_of rs) h → AreKnown rs → (i j : ℕ) (d : ReleaseValue) (a b : HoldingsValue) → i < j → j < length rs
-    → (get_or rs i d).holdings ≡ Some a → (get_or rs j d).holdings ≡ Some b → (get_or rs i d).kept.name.stem ≢ (get_or rs j d).kept.name.stem
-apart_stems rs h is known i j d a b lt within held kept same =
+apart_packages : (rs : List ReleaseValue) (h : History) → IsContent (content_of rs) h → AreKnown rs → (i j : ℕ) (d : ReleaseValue) (a b : HoldingsValue) → i < j → j < length rs
+    → (get_or rs i d).holdings ≡ Some a → (get_or rs j d).holdings ≡ Some b → (get_or rs i d).kept.name.package_name ≢ (get_or rs j d).kept.name.package_name
+apart_packages rs h is known i j d a b lt within held kept same =
     let r : ReleaseValue = get_or rs i d in
     let s : ReleaseValue = get_or rs j d in
     let one = holds r.kept.state r.kept.size r.kept.parts r.holdings a (known i d (omega arith)) held in
     let other = holds s.kept.state s.kept.size s.kept.parts s.holdings b (known j d within) kept in
-    let first = reports_at rs h r.kept.name.stem i d is (omega arith) (one.0, refl) in
-    let second = reports_at rs h s.kept.name.stem j d is within (other.0, refl) in
+    let first = reports_at rs h r.kept.name.package_name i d is (omega arith) (one.0, refl) in
+    let second = reports_at rs h s.kept.name.package_name j d is within (other.0, refl) in
     let alike : r.kept.name ≡ s.kept.name = active_one h r.kept.name s.kept.name same first.1 second.1 in
     let apart : name_eq r.kept.name s.kept.name ≡ false = apart_names rs i j d is.distinct lt within in
     let itself : name_eq r.kept.name s.kept.name ≡ true = subst (λ (n : Name). name_eq r.kept.name n ≡ true) alike (name_self r.kept.name) in
@@ -129,7 +129,7 @@ apart_stems rs h is known i j d a b lt within held kept same =
 
 apart_collected : (rs : List ReleaseValue)
     → ((i j : ℕ) (d : ReleaseValue) (a b : HoldingsValue) → i < j → j < length rs → (get_or rs i d).holdings ≡ Some a → (get_or rs j d).holdings ≡ Some b
-    → (get_or rs i d).kept.name.stem ≢ (get_or rs j d).kept.name.stem)
+    → (get_or rs i d).kept.name.package_name ≢ (get_or rs j d).kept.name.package_name)
     → AreApart (filter_map active_of rs)
 apart_collected [] apart = tt
 apart_collected (r ∷ rs) apart = by r.holdings refl (apart_collected rs (λ i j d a b lt within. apart (suc i) (suc j) d a b (omega arith) (omega arith)))
@@ -137,7 +137,7 @@ apart_collected (r ∷ rs) apart = by r.holdings refl (apart_collected rs (λ i 
     by : (o : Option HoldingsValue) → r.holdings ≡ o → AreApart (filter_map active_of rs) → AreApart (filter_map active_of (r ∷ rs))
     by None e rest = rw e rest
     by (Some holdings) e rest = rw e
-        (collected (λ b. r.kept.name.stem ≢ b.name.stem) rs (λ j d b within held. apart 0 (suc j) d holdings b (omega arith) (omega arith) e held), rest)
+        (collected (λ b. r.kept.name.package_name ≢ b.name.package_name) rs (λ j d b within held. apart 0 (suc j) d holdings b (omega arith) (omega arith) e held), rest)
 
 -- ---- each that is reported
 
@@ -177,7 +177,7 @@ held_by Staged size parts o known e = absurd (cc)
 held_by Broken size parts o known e = absurd (cc)
 held_by Active size parts o known e = (holdings_of known.0, known.3)
 
-among_reported : (rs : List ReleaseValue) (h : History) (n : Name) → IsContent (content_of rs) h → AreKnown rs → Reports h n.stem (Some n) → IsAmong n (actives_of rs)
+among_reported : (rs : List ReleaseValue) (h : History) (n : Name) → IsContent (content_of rs) h → AreKnown rs → Reports h n.package_name (Some n) → IsAmong n (actives_of rs)
 among_reported [] h n is known reported =
     let found = record_good [] h is n reported.1.0 (not_passed_active h n reported.1) in
     absurd (let none : None ≡ Some found.0 = found.1 in cc)
@@ -205,9 +205,9 @@ among_place n (a ∷ actives) (suc k) lt is = inr (among_place n actives k (omeg
 pub reported : (rs : List ReleaseValue) (h : History) → IsContent (content_of rs) h → AreKnown rs → AreReported h (actives_of rs)
 reported rs h is known = record {
   each = each_reported rs h is known;
-  every = λ stem n reports. place_among n (actives_of rs) (among_reported rs h n is known (refl, reports.1));
+  every = λ package_name n reports. place_among n (actives_of rs) (among_reported rs h n is known (refl, reports.1));
   by_package =
-      all_ordered [] (filter_map active_of rs) ordered_none (none_there (filter_map active_of rs)) (apart_collected rs (apart_stems rs h is known));
+      all_ordered [] (filter_map active_of rs) ordered_none (none_there (filter_map active_of rs)) (apart_collected rs (apart_packages rs h is known));
 }
 
 -- ---- one list
@@ -245,7 +245,8 @@ one_list (a ∷ actives) (b ∷ others) up also there back =
     (λ n among. behind b a others actives n also.0 (sym first) among (back n (inr among))))
 
 -- each release of the one list is reported at the other history, and so in the other list
-in_other : (h k : History) (actives others : List ActiveValue) → ((stem : List ℕ) (o : Option Name) → Reports h stem o → Reports k stem o) → AreReported h actives → AreReported k others
+in_other : (h k : History) (actives others : List ActiveValue) → ((package_name : List ℕ) (o : Option Name) → Reports h package_name o → Reports k package_name o) → AreReported h actives
+    → AreReported k others
     → (n : Name) → IsAmong n actives → IsAmong n others
 in_other h k actives others alike here there n among =
     let place = place_among n actives among in
@@ -255,9 +256,9 @@ in_other h k actives others alike here there n among =
     by [] i lt is each = absurd (omega arith)
     by (a ∷ list) i lt is each =
         let told = (each i a lt).reports in
-        let at = there.every n.stem n (alike n.stem (Some n) (subst (λ (m : Name). Reports h m.stem (Some m)) (is a) told)) in
+        let at = there.every n.package_name n (alike n.package_name (Some n) (subst (λ (m : Name). Reports h m.package_name (Some m)) (is a) told)) in
         among_place n others at.0 at.1 at.2
 
 pub listed_alike : (h k : History) (one other : List ActiveValue) → ReportAlike h k → AreReported h one → AreReported k other → names_of one ≡ names_of other
 listed_alike h k one other alike here there = one_list one other here.by_package there.by_package
-    (in_other h k one other (λ stem o. (alike stem o).0) here there) (in_other k h other one (λ stem o. (alike stem o).1) there here)
+    (in_other h k one other (λ package_name o. (alike package_name o).0) here there) (in_other k h other one (λ package_name o. (alike package_name o).1) there here)

@@ -77,20 +77,20 @@ none_later rs n free a found active later =
     by (y ∷ ys) free k lt same = free k y lt (ap (λ (z : Record). z.state) (same y) ∙ active, subst (λ (m : Name). IsEarlier n m) (sym (ap (λ (z : Record). z.name) (same y))) later)
 
 -- what the active release of a package reports
-pub reports_at : (rs : List ReleaseValue) (h : History) (stem : List ℕ) (k : ℕ) (d : ReleaseValue) → IsContent (content_of rs) h → k < length rs → IsActiveOf stem (get_or rs k d)
-    → Reports h stem (Some (get_or rs k d).kept.name)
-reports_at rs h stem k d is lt active = report_some (content_of rs) h stem (get_or rs k d).kept is (own_at rs k d is.distinct lt) active.0 active.1
+pub reports_at : (rs : List ReleaseValue) (h : History) (package_name : List ℕ) (k : ℕ) (d : ReleaseValue) → IsContent (content_of rs) h → k < length rs → IsActiveOf package_name (get_or rs k d)
+    → Reports h package_name (Some (get_or rs k d).kept.name)
+reports_at rs h package_name k d is lt active = report_some (content_of rs) h package_name (get_or rs k d).kept is (own_at rs k d is.distinct lt) active.0 active.1
 
-pub reports_none : (rs : List ReleaseValue) (h : History) (stem : List ℕ) → IsContent (content_of rs) h
-    → ((k : ℕ) (d : ReleaseValue) → k < length rs → IsActiveOf stem (get_or rs k d) → ⊥)
-    → Reports h stem None
-reports_none rs h stem is free = report_none (content_of rs) h stem is
+pub reports_none : (rs : List ReleaseValue) (h : History) (package_name : List ℕ) → IsContent (content_of rs) h
+    → ((k : ℕ) (d : ReleaseValue) → k < length rs → IsActiveOf package_name (get_or rs k d) → ⊥)
+    → Reports h package_name None
+reports_none rs h package_name is free = report_none (content_of rs) h package_name is
     (λ a found active same. let at = place_of rs a.name a found in by rs free at.0 at.1 a at.2 active same)
   where
-    by : (xs : List ReleaseValue) → ((k : ℕ) (d : ReleaseValue) → k < length xs → IsActiveOf stem (get_or xs k d) → ⊥) → (k : ℕ) → k < length xs → (a : Record)
-        → ((d : ReleaseValue) → (get_or xs k d).kept ≡ a) → a.state ≡ Active → a.name.stem ≡ stem → ⊥
+    by : (xs : List ReleaseValue) → ((k : ℕ) (d : ReleaseValue) → k < length xs → IsActiveOf package_name (get_or xs k d) → ⊥) → (k : ℕ) → k < length xs → (a : Record)
+        → ((d : ReleaseValue) → (get_or xs k d).kept ≡ a) → a.state ≡ Active → a.name.package_name ≡ package_name → ⊥
     by [] free k lt a same active stem_is = absurd (omega arith)
-    by (y ∷ ys) free k lt a same active stem_is = free k y lt (ap (λ (z : Record). z.state) (same y) ∙ active, ap (λ (z : Record). z.name.stem) (same y) ∙ stem_is)
+    by (y ∷ ys) free k lt a same active stem_is = free k y lt (ap (λ (z : Record). z.state) (same y) ∙ active, ap (λ (z : Record). z.name.package_name) (same y) ∙ stem_is)
 
 -- a release at this place comes no earlier than the name
 abbrev pub StopsAt : List ReleaseValue → ℕ → Name → Type 0

@@ -11,7 +11,7 @@ use Rattle.feed_model.specs.Parts.{Adds, Reaches}
 use Rattle.feed_model.specs.Handles.{Handles}
 use Rattle.feed_model.proofs.Keeps.{completes_by}
 use Rattle.feed_model.proofs.Arrivals.{piece_stored, piece_broken, piece_activated}
-use Rattle.feed_releases.specs.declared.overlap.Overlap.TheVariants.{New}
+use Rattle.feed_releases.specs.declared.release.Overlap.TheVariants.{New}
 use Rattle.feed_releases.specs.declared.release.growth.Growth.{Growth}
 use Rattle.feed_releases.specs.declared.standing.Standing.{Standing}
 use Rattle.feed_releases.specs.declared.standing.Standing.TheVariants.{Partial, Bad, Good}

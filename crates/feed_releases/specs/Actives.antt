@@ -22,7 +22,7 @@ active_of release = option_map (λ holdings. record { name = release.kept.name; 
 
 -- compares the packages of two releases, by bytes
 abbrev pub package_cmp : ActiveValue → ActiveValue → Ordering
-package_cmp a b = slice_cmp nat_cmp a.name.stem b.name.stem
+package_cmp a b = slice_cmp nat_cmp a.name.package_name b.name.package_name
 
 -- the package of the one is less than that of the other
 abbrev pub is_package_before : ActiveValue → ActiveValue → Bool
@@ -52,7 +52,7 @@ AreKnown releases = (k : ℕ) (d : ReleaseValue) → k < length releases → IsK
 
 -- the release is the active one of its package, and the holdings are those of its complete file
 pub record IsReported (h : History) (active : ActiveValue) : Type 0 where
-  pub reports : Reports h active.name.stem (Some active.name)
+  pub reports : Reports h active.name.package_name (Some active.name)
   pub text : List ℕ
   pub file : IsFile h active.name text
   pub holdings : active.holdings ≡ holdings_of text
@@ -64,7 +64,7 @@ HasActive actives n = (k : ℕ) × (k < length actives) × ((d : ActiveValue) �
 -- the list has exactly the active releases of the history, each once, ordered by package
 pub record AreReported (h : History) (actives : List ActiveValue) : Type 0 where
   pub each : All (IsReported h) actives
-  pub every : (stem : List ℕ) (n : Name) → Reports h stem (Some n) → HasActive actives n
+  pub every : (package_name : List ℕ) (n : Name) → Reports h package_name (Some n) → HasActive actives n
   pub by_package : IsStrictlySortedBy package_cmp actives
 
 -- the names of active releases
@@ -73,7 +73,7 @@ names_of actives = map (λ active. active.name) actives
 
 -- the two histories report the same release for each package
 abbrev pub ReportAlike : History → History → Type 0
-ReportAlike h k = (stem : List ℕ) (o : Option Name) → Reports h stem o ↔ Reports k stem o
+ReportAlike h k = (package_name : List ℕ) (o : Option Name) → Reports h package_name o ↔ Reports k package_name o
 
 -- if two histories report the same releases, their lists are the same
 abbrev pub ListAlike : Type 0

@@ -12,6 +12,6 @@ use Rattle.feed_releases.specs.declared.feed.AnswerFault.TheVariants.{NoRelease,
 -- the package has an active release, whose complete file gives these hits; or it has none; or it has one and memory ran
 -- out
 abbrev pub IsAnswered : History → List ℕ → QueryValue → Result (List HitValue) AnswerFault → Type 0
-IsAnswered h stem query (Ok hits) = (n : Name) × (text : List ℕ) × Reports h stem (Some n) × IsFile h n text × (hits ≡ answer_of (holdings_of text) query)
-IsAnswered h stem query (Err NoRelease) = Reports h stem None
-IsAnswered h stem query (Err Memory) = (n : Name) × Reports h stem (Some n)
+IsAnswered h package_name query (Ok hits) = (n : Name) × (text : List ℕ) × Reports h package_name (Some n) × IsFile h n text × (hits ≡ answer_of (holdings_of text) query)
+IsAnswered h package_name query (Err NoRelease) = Reports h package_name None
+IsAnswered h package_name query (Err Memory) = (n : Name) × Reports h package_name (Some n)

@@ -1,7 +1,7 @@
 -- The model values of events.
 use Rattle.feed_model.specs.History.{Event, Offered, Piece, Lost}
-use Rattle.feed_releases.specs.declared.event.Event as code_event
-use Rattle.feed_releases.specs.declared.event.Event.TheVariants as events
+use Rattle.feed_releases.specs.declared.feed.Event as code_event
+use Rattle.feed_releases.specs.declared.feed.Event.TheVariants as events
 
 -- the model value of an event
 abbrev pub event_of : code_event.Event → Event

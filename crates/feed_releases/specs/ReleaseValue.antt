@@ -11,8 +11,8 @@ use Rattle.feed_model.specs.declared.state.State.TheVariants.{Staged, Broken, Ac
 use Rattle.feed_model.specs.Parts.{DiffersIn, AgreesIn, HasNew, Covers, AreWithin}
 use Rattle.feed_releases.specs.Standing.{IsStandingOf, state_of, reason_of}
 use Rattle.feed_releases.specs.declared.standing.Standing.{Standing}
-use Rattle.feed_releases.specs.declared.overlap.Overlap.{Overlap}
-use Rattle.feed_releases.specs.declared.overlap.Overlap.TheVariants.{Conflict, Kept, New}
+use Rattle.feed_releases.specs.declared.release.Overlap.{Overlap}
+use Rattle.feed_releases.specs.declared.release.Overlap.TheVariants.{Conflict, Kept, New}
 
 -- its record, and its holdings if it is active
 pub record ReleaseValue : Type 0 where
@@ -52,7 +52,7 @@ IsActiveAfter n r = (r.kept.state ≡ Active) × IsEarlier n r.kept.name
 
 -- an active release of the package
 abbrev pub IsActiveOf : List ℕ → ReleaseValue → Type 0
-IsActiveOf stem r = (r.kept.state ≡ Active) × (r.kept.name.stem ≡ stem)
+IsActiveOf package_name r = (r.kept.state ≡ Active) × (r.kept.name.package_name ≡ package_name)
 
 -- how a piece overlaps the stored bytes of a release
 abbrev pub IsOverlapOf : Record → ℕ → List ℕ → Overlap → Type 0

@@ -4,14 +4,8 @@ ghost use Rattle.feed_model.specs.Reply.{max_held};
 ghost use Rattle.feed_releases.specs.ReleaseValue.{content_of};
 ghost use Rattle.feed_releases.specs.Ahead.{IsAhead};
 
-mod offer;
-mod opening;
-mod piece;
-mod reopen;
-
 use crate::actives::{ActiveRelease, actives_of};
 use crate::ahead::Ahead;
-use crate::event::Event;
 use crate::leftovers::{Leftover, free_portion};
 use crate::release::Release;
 use crate::releases::{active_of, find};
@@ -24,6 +18,11 @@ use feed_names::ReleaseName;
 pub use opening::{Opening, OpeningStep};
 use std::alloc::{AllocError, Global};
 use thiserror::Error;
+
+mod offer;
+mod opening;
+mod piece;
+mod reopen;
 
 /// Why a feed could not be opened, with the unchanged keeper.
 #[derive(Drop)]
@@ -324,4 +323,26 @@ impl<K: Keep> Feed<K> {
             }
         }
     }
+}
+
+/// An event of a feed: an offer, a piece, or the loss of a piece.
+#[derive(Clone, Copy)]
+pub enum Event<'a> {
+    /// A release is offered, with the size of its file in bytes.
+    Offered {
+        name: &'a ReleaseName,
+        size: u64,
+    },
+    /// Bytes of a release's file that begin at the place `first`, counted from 0. `total` is the size of the file, if
+    /// the sender gave it.
+    Piece {
+        name: &'a ReleaseName,
+        first: u64,
+        total: Option<u64>,
+        bytes: &'a [u8],
+    },
+    /// A piece of the release was requested and did not arrive. It changes nothing.
+    Lost {
+        name: &'a ReleaseName,
+    },
 }

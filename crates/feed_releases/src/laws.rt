@@ -12,8 +12,8 @@ use feed_model::{releases_stay, reports_stay};
 
 /// Without the offers that were refused as too large, each query has the same answer.
 pub fn answers_stay()
-    ensures { (h : History) (stem : List ℕ) (query : QueryValue) (answer : Result (List HitValue) AnswerFault)
-        → IsAnswered h stem query answer ↔ IsAnswered (without_refused h) stem query answer }
+    ensures { (h : History) (package_name : List ℕ) (query : QueryValue) (answer : Result (List HitValue) AnswerFault)
+        → IsAnswered h package_name query answer ↔ IsAnswered (without_refused h) package_name query answer }
 {
     reports_stay();
     releases_stay();

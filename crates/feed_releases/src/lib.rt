@@ -5,19 +5,16 @@
 mod actives;
 mod ahead;
 mod commit;
-mod event;
 mod feed;
 mod file_check;
 mod laws;
 mod leftovers;
-mod overlap;
 mod release;
 mod releases;
 mod standing;
 mod statuses;
 
 pub use actives::ActiveRelease;
-pub use event::Event;
-pub use feed::{AnswerFault, Feed, OpenFault, Opening, OpeningStep, Point};
+pub use feed::{AnswerFault, Event, Feed, OpenFault, Opening, OpeningStep, Point};
 pub use laws::{answers_stay, list_alike};
 pub use statuses::ReleaseStatus;

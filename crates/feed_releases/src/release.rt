@@ -9,12 +9,8 @@ ghost use Rattle.feed_releases.specs.NextRange.{IsNextOf};
 ghost use Rattle.feed_releases.specs.FileCheck.{IsCheckOf, unread_of};
 ghost use Rattle.feed_releases.specs.ReleaseValue.{IsKnown, IsOverlapOf};
 
-mod growth;
-mod reopen;
-
 use crate::file_check::FileCheck;
 use crate::leftovers::Leftover;
-use crate::overlap::Overlap;
 use crate::standing::Standing;
 use feed_kbart::{BadFile, Holdings};
 use feed_model::State;
@@ -23,6 +19,9 @@ use feed_parts::Segments;
 pub(crate) use reopen::{RecordCheck, RecordStep};
 use std::alloc::Global;
 use std::marker::Model;
+
+mod growth;
+mod reopen;
 
 /// A recorded release in memory: the stored bytes of its file, and the status of the file.
 #[derive(Drop)]
@@ -165,4 +164,15 @@ impl Release {
             Overlap::New
         }
     }
+}
+
+/// The overlap of a piece with the stored bytes of its release.
+#[derive(Clone, Copy)]
+pub(crate) enum Overlap {
+    /// The piece differs from a stored byte.
+    Conflict,
+    /// Every byte of the piece is stored.
+    Kept,
+    /// Some bytes are new, and the others are stored.
+    New,
 }

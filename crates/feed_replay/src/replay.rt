@@ -1,11 +1,12 @@
 //! Reads a script, replays it, and prints the transcript or the first fault.
-use crate::causes::{LONG_SCRIPT, cause_of_line};
 use crate::disk::Disk;
-use feed_command::{Console, DONE, FAILED, REFUSED, read_front};
+use crate::faults::{LONG_SCRIPT, ScriptFault, cause_of_line};
+use crate::line_fault::LineFault;
+use crate::script::{SCRIPT_LIMIT, Script, line_excerpt, read_script};
+use feed_console::{Console, DONE, FAILED, REFUSED, read_front};
 use feed_core::{ReplayFault, Transcript, replay};
 use feed_keep::ListKeep;
 use feed_model::{KeepFault, Refusal};
-use feed_script::{LineFault, SCRIPT_LIMIT, Script, ScriptFault, line_excerpt, read_script};
 use feed_world::{Line, Why};
 use std::alloc::{AllocError, Global};
 use std::io::Write;

@@ -21,4 +21,4 @@ with_new_state = table_query 1 (op2 (Compare Eq Binary) (col 1 1) (col 0 0) ∷ 
 
 -- the release is of the package, and before the day
 abbrev pub goes : List ℕ → ℤ → Row → Bool
-goes stem day row = passes earlier.filter (Text stem ∷ Int day ∷ []) row
+goes package_name day row = passes earlier.filter (Text package_name ∷ Int day ∷ []) row

@@ -47,11 +47,12 @@ less_is m n = by (int_lt m n) (int_lt n m)
     by false false = refl
 
 -- the condition of the statement is that the release is of the package, and earlier
-pub goes_is : (n : Name) (r : Row) → IsReleaseRow r → goes n.stem n.day r ≡ is_earlier (name_in r) n
+pub goes_is : (n : Name) (r : Row) → IsReleaseRow r → goes n.package_name n.day r ≡ is_earlier (name_in r) n
 goes_is n r h =
-    let one : column r 2 ≡ Text (name_in r).stem = ap (λ row. column row 2) h.is in
+    let one : column r 2 ≡ Text (name_in r).package_name = ap (λ row. column row 2) h.is in
     let two : column r 3 ≡ Int (name_in r).day = ap (λ row. column row 3) h.is in
-    rw (one, two, text_equal (name_in r).stem n.stem, int_less (name_in r).day n.day, less_is (name_in r).day n.day) (last (pointwise ◌==◌ (name_in r).stem n.stem) (int_lt (name_in r).day n.day))
+    rw (one, two, text_equal (name_in r).package_name n.package_name, int_less (name_in r).day n.day, less_is (name_in r).day n.day)
+    (last (pointwise ◌==◌ (name_in r).package_name n.package_name) (int_lt (name_in r).day n.day))
   where
     last : (a b : Bool) → (a && (b && true)) ≡ (a && b)
     last true true = refl
@@ -108,9 +109,9 @@ parts_left p rows pieces d r h out =
             absurd (let g : true ≡ false = sym was.1 ∙ ap p (one_text rows it.0 r d was.0 h same) ∙ out in cc)
 
 pub dropped : (n : Name) (rows pieces : List Row) → AreRows rows pieces → IsDistinct same_texts rows
-    → content_in (filter (λ r. not (goes n.stem n.day r)) rows) (filter (λ x. not (is_child (goes n.stem n.day) rows x)) pieces) ≡ without_earlier n (content_in rows pieces)
+    → content_in (filter (λ r. not (goes n.package_name n.day r)) rows) (filter (λ x. not (is_child (goes n.package_name n.day) rows x)) pieces) ≡ without_earlier n (content_in rows pieces)
 dropped n rows pieces are d =
-    let p = goes n.stem n.day in
+    let p = goes n.package_name n.day in
     let test : Record → Bool = λ r. not (is_earlier r.name n) in
     let records = map (record_in pieces) rows in
     let apart = distinct_records pieces rows are.are_releases d in

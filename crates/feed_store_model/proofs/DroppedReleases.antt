@@ -23,19 +23,19 @@ use Rattle.feed_store_model.proofs.Explained.{explained_dropped}
 use Rattle.feed_store_model.proofs.Contents.{dropped, are_left, reasons_left, texted_releases, texted_pieces, texted_reasons}
 
 -- the rows that the condition picks, and what their removal makes
-pub record Deletes (stem : List ℕ) (day : ℤ) (old new : Database) : Type 0 where
+pub record Deletes (package_name : List ℕ) (day : ℤ) (old new : Database) : Type 0 where
   pub keeps : KeepsLayout old new
   pub rows : List Row
-  pub picked : IsAnswer earlier (overlay old.trees []) (Text stem ∷ Int day ∷ []) rows
+  pub picked : IsAnswer earlier (overlay old.trees []) (Text package_name ∷ Int day ∷ []) rows
   pub cascade : Cascade old.trees new.trees (ids_of rows)
 
-module _ (n : Name) (old new : Database) (ours : IsLayout2 old) (it : Deletes n.stem n.day old new) (are : HoldsRecords old) where
+module _ (n : Name) (old new : Database) (ours : IsLayout2 old) (it : Deletes n.package_name n.day old new) (are : HoldsRecords old) where
   abbrev gone : Row → Bool
-  gone = goes n.stem n.day
+  gone = goes n.package_name n.day
 
   left : AreLeft gone old.trees new.trees
   left =
-      let picked = answered 1 earlier.filter earlier.project [] (Text n.stem ∷ Int n.day ∷ []) old.trees it.rows refl it.picked in
+      let picked = answered 1 earlier.filter earlier.project [] (Text n.package_name ∷ Int n.day ∷ []) old.trees it.rows refl it.picked in
       let ids = IsPermutation-map (λ r. id_in (rowid r)) _ it.rows picked in
       removed gone old.trees new.trees (ids_of it.rows) (texted_releases _ _ are.rows) (texted_pieces _ _ are.rows) (texted_reasons _ are.reasons)
       (subst (λ xs. IsPermutation xs (ids_of it.rows)) (map-map (λ r. id_in (rowid r)) _ (filter gone (old.trees 1))) ids)
@@ -54,7 +54,7 @@ module _ (n : Name) (old new : Database) (ours : IsLayout2 old) (it : Deletes n.
       rw (left.releases, left.pieces) (dropped n (old.trees 1) (old.trees 3) are.rows apart) in
       rw (left.reasons, bare) (explained_dropped n (old.trees 1) (old.trees 3) (old.trees 5) are.rows apart)
 
-pub deletes_earlier : (n : Name) (old new : Database) → IsLayout2 old → Deletes n.stem n.day old new → IsChanged (without_earlier n) old new
+pub deletes_earlier : (n : Name) (old new : Database) → IsLayout2 old → Deletes n.package_name n.day old new → IsChanged (without_earlier n) old new
 deletes_earlier n old new ours it = record {
   ours = still_ours old new ours it.keeps;
   listed = listed n old new ours it;

@@ -102,26 +102,26 @@ explained_left n left reasons (r ∷ rs) all = by (not (is_earlier r.name n)) re
         ∙ ap (λ l. explained_by reasons r ∷ l) more
 
 pub explained_dropped : (n : Name) (rows pieces reasons : List Row) → AreRows rows pieces → IsDistinct same_texts rows
-    → explained (filter (λ x. not (is_child (goes n.stem n.day) rows x)) reasons) (without_earlier n (content_in rows pieces))
+    → explained (filter (λ x. not (is_child (goes n.package_name n.day) rows x)) reasons) (without_earlier n (content_in rows pieces))
     ≡ without_earlier n (explained reasons (content_in rows pieces))
 explained_dropped n rows pieces reasons are d =
     explained_left n _ reasons (content_in rows pieces) (all_records _ pieces rows (λ r h stays. kept r h (all_has IsReleaseRow rows r are.are_releases h) stays))
   where
     p : Row → Bool
-    p = goes n.stem n.day
+    p = goes n.package_name n.day
 
     kept : (r : Row) → Has rows r → IsReleaseRow r → not (is_earlier (name_in r) n) ≡ true
-        → reason_in (filter (λ x. not (is_child (goes n.stem n.day) rows x)) reasons) (text_of (name_in r)) ≡ reason_in reasons (text_of (name_in r))
-    kept r h row stays = reason_left (λ x. not (is_child (goes n.stem n.day) rows x)) reasons (text_of (name_in r)) (λ x is. by x is (is_child (goes n.stem n.day) rows x) refl)
+        → reason_in (filter (λ x. not (is_child (goes n.package_name n.day) rows x)) reasons) (text_of (name_in r)) ≡ reason_in reasons (text_of (name_in r))
+    kept r h row stays = reason_left (λ x. not (is_child (goes n.package_name n.day) rows x)) reasons (text_of (name_in r)) (λ x is. by x is (is_child (goes n.package_name n.day) rows x) refl)
       where
-        by : (x : Row) → is_of (text_of (name_in r)) x ≡ true → (b : Bool) → is_child (goes n.stem n.day) rows x ≡ b → not b ≡ true
+        by : (x : Row) → is_of (text_of (name_in r)) x ≡ true → (b : Bool) → is_child (goes n.package_name n.day) rows x ≡ b → not b ≡ true
         by x is false e = refl
         by x is true e =
-            let it = some_has (λ o. is_of (text_in o) x) (filter (goes n.stem n.day) rows) e in
-            let was = has_filtered (goes n.stem n.day) rows it.0 it.1 in
+            let it = some_has (λ o. is_of (text_in o) x) (filter (goes n.package_name n.day) rows) e in
+            let was = has_filtered (goes n.package_name n.day) rows it.0 it.1 in
             let same : text_in it.0 ≡ text_in r = sym ((bytes_decides (text_in x) (text_in it.0)).0 it.2)
             ∙ (bytes_decides (text_in x) (text_of (name_in r))).0 is ∙ sym (release_text r row) in
-            let gone : goes n.stem n.day r ≡ true = sym (ap (goes n.stem n.day) (one_text rows it.0 r d was.0 h same)) ∙ was.1 in
+            let gone : goes n.package_name n.day r ≡ true = sym (ap (goes n.package_name n.day) (one_text rows it.0 r d was.0 h same)) ∙ was.1 in
             absurd (let g : false ≡ true = ap not (sym gone ∙ goes_is n r row) ∙ stays in cc)
 
 -- ---- the reasons in another order, and one more

@@ -40,7 +40,7 @@ text_in row = bytes (column row 1)
 
 -- the name formed by the package and the day
 abbrev pub name_in : Row → Name
-name_in row = record { stem = bytes (column row 2); day = id_in (column row 3) }
+name_in row = record { package_name = bytes (column row 2); day = id_in (column row 3) }
 
 -- the part of a row: its first place and its bytes
 abbrev pub part_in : Row → Part
@@ -123,7 +123,7 @@ stored_content db = explained (db.trees 5) (content_without_reasons db)
 -- a row of a release; the rowid comes before the columns
 abbrev pub release_row : ℤ → Name → ℕ → State → Row
 release_row id n size state =
-    Int id ∷ Text (text_of n) ∷ Text n.stem ∷ Int n.day ∷ Int (pos size) ∷ Int (pos (number_of state)) ∷ []
+    Int id ∷ Text (text_of n) ∷ Text n.package_name ∷ Int n.day ∷ Int (pos size) ∷ Int (pos (number_of state)) ∷ []
 
 -- a row of a part
 abbrev pub piece_row : ℤ → List ℕ → Part → Row

@@ -18,8 +18,8 @@ use Rattle.feed_model.specs.Content.{Part, Record, names}
 use Rattle.feed_keep.specs.declared.record.Record as code
 use Rattle.feed_parts.specs.Shown.{shown_parts}
 use Rattle.feed_keep.specs.Shown.{shown, shown_record}
-use Rattle.feed_store_checks.specs.Order.{AreNamesAscending}
-use Rattle.feed_store_checks.proofs.Ascending.{name_cmp, names_shown, text_cmp, up_pairs}
+use Rattle.feed_keep.specs.CheckOrder.{AreNamesAscending}
+use Rattle.feed_keep.proofs.Ascending.{name_cmp, names_shown, text_cmp, up_pairs}
 use Rattle.feed_store_read.specs.Pieces.{if_named}
 
 -- ---- texts

@@ -24,7 +24,7 @@ use Rattle.feed_store_model.proofs.Explained.{all_records, explained_same, reaso
 use Rattle.feed_store_model.proofs.Unique.{distinct_reasons}
 use Rattle.feed_store_read.specs.Reasons.{AreReasonsOf, with_row_reason}
 use Rattle.feed_store_read.proofs.Joined.{id_cmp, id_total, ids_apart, rows_apart}
-use Rattle.feed_store_checks.proofs.Strict.{apart_moved}
+use Rattle.feed_keep.proofs.Strict.{apart_moved}
 
 pub are_proper : (db : Database) (ids : List ℤ) (old new : Content) → AreReasonsOf db ids old new → IsDistinct int_eq ids → AreReasons (db.trees 5)
 are_proper db ids old new it apart = record {

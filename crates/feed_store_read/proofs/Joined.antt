@@ -33,13 +33,13 @@ use Rattle.feed_store_model.proofs.Insertion.{IsUp, sort_same}
 use Rattle.feed_store_model.proofs.Order.{part_laws, part_stops, parts_sort, record_laws, record_stops, records_sort, same_first, same_text}
 use Rattle.feed_store_model.proofs.Unique.{distinct_places, distinct_texts}
 use Rattle.feed_store_read.specs.declared.releases.Releases.{Releases}
-use Rattle.feed_store_checks.specs.Order.{AreNamesAscending, ArePartsAscending}
+use Rattle.feed_keep.specs.CheckOrder.{AreNamesAscending, ArePartsAscending}
 use Rattle.feed_store_read.specs.Pieces.{ArePlacesInOrder, with_rows}
 use Rattle.feed_store_read.specs.Releases.{AreReleases}
 use Rattle.feed_store_read.specs.Selected.{AreSelected}
-use Rattle.feed_store_checks.proofs.Ascending.{name_cmp, name_total, text_cmp}
+use Rattle.feed_keep.proofs.Ascending.{name_cmp, name_total, text_cmp}
 use Rattle.feed_store_read.proofs.Ascending.{text_itself}
-use Rattle.feed_store_checks.proofs.Strict.{all_by, apart_moved, strict_map, strict_of}
+use Rattle.feed_keep.proofs.Strict.{all_by, apart_moved, strict_map, strict_of}
 
 -- ---- lists without ties, and their maps
 

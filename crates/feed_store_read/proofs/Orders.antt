@@ -13,10 +13,10 @@ use Rattle.feed_parts.specs.Shown.{shown_parts}
 use Rattle.feed_keep.specs.declared.record.Record as code
 use Rattle.feed_keep.specs.Order.{AreNamesInOrder, ArePartsInOrder, IsInOrder}
 use Rattle.feed_keep.specs.Shown.{shown, shown_record}
-use Rattle.feed_store_checks.specs.Order.{AreNamesAscending, ArePartsAscending}
-use Rattle.feed_store_checks.proofs.Ascending.{name_cmp, name_total, up_pairs}
+use Rattle.feed_keep.specs.CheckOrder.{AreNamesAscending, ArePartsAscending}
+use Rattle.feed_keep.proofs.Ascending.{name_cmp, name_total, up_pairs}
 use Rattle.feed_store_read.proofs.Ascending.{text_itself}
-use Rattle.feed_store_checks.proofs.Strict.{apart_of}
+use Rattle.feed_keep.proofs.Strict.{apart_of}
 
 differ : (m n : Name) → eq_by_cmp name_cmp m n ≡ false → name_eq m n ≡ false
 differ m n apart = by (name_eq m n) refl

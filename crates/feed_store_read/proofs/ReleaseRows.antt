@@ -19,14 +19,14 @@ as_release row id r is named limit bare none = subst (λ (l : Row). IsReleaseOf 
 })
 
 -- what the columns of a release's row say
-pub record IsSaid (text stem : List ℕ) (day : ℤ) (size : ℕ) : Type 0 where
-  pub named : IsName text (record { stem = stem; day = day })
+pub record IsSaid (text package_name : List ℕ) (day : ℤ) (size : ℕ) : Type 0 where
+  pub named : IsName text (record { package_name = package_name; day = day })
   pub limit : size ≤ max_file
 
-pub release_says : (row : Row) (id day : ℤ) (text stem : List ℕ) (size state : ℕ)
-    → row ≡ Int id ∷ Text text ∷ Text stem ∷ Int day ∷ Int (pos size) ∷ Int (pos state) ∷ [] → IsReleaseRow row → IsSaid text stem day size
-release_says row id day text stem size state is h =
-    let it : IsReleaseRow (Int id ∷ Text text ∷ Text stem ∷ Int day ∷ Int (pos size) ∷ Int (pos state) ∷ []) = subst IsReleaseRow is h in
-    let n : Name = record { stem = stem; day = day } in
+pub release_says : (row : Row) (id day : ℤ) (text package_name : List ℕ) (size state : ℕ)
+    → row ≡ Int id ∷ Text text ∷ Text package_name ∷ Int day ∷ Int (pos size) ∷ Int (pos state) ∷ [] → IsReleaseRow row → IsSaid text package_name day size
+release_says row id day text package_name size state is h =
+    let it : IsReleaseRow (Int id ∷ Text text ∷ Text package_name ∷ Int day ∷ Int (pos size) ∷ Int (pos state) ∷ []) = subst IsReleaseRow is h in
+    let n : Name = record { package_name = package_name; day = day } in
     let same : text ≡ text_of n = ap (λ (l : Row). bytes (column l 1)) it.is in
     record { named = subst (λ t. IsName t n) (sym same) it.named; limit = it.limit }

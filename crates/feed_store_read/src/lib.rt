@@ -2,10 +2,8 @@
 #![tactic(auto)]
 
 mod columns;
-mod piece_row;
 mod pieces;
 mod reading;
-mod reason_row;
 mod reasons;
 mod records;
 mod release_row;

@@ -5,12 +5,12 @@ ghost use Rattle.sqlite.specs.State.{IsUnchanged};
 ghost use Rattle.feed_model.specs.Content.{names};
 ghost use Rattle.feed_keep.specs.Shown.{shown};
 ghost use Rattle.feed_store_model.specs.Live.{IsLive};
-ghost use Rattle.feed_store_model.specs.Tables.{HoldsReleases, IsTabled, IsPieceRow};
-ghost use Rattle.feed_store_checks.specs.Order.{AreNamesAscending};
+ghost use Rattle.feed_store_model.specs.Tables.{HoldsReleases, IsTabled, IsPieceRow, piece_row};
+ghost use Rattle.feed_keep.specs.CheckOrder.{AreNamesAscending};
 ghost use Rattle.feed_store_read.specs.Pieces.{ArePieces, ShowPieces, IsTakenIfProper};
 ghost use Rattle.feed_store_read.specs.Releases.{AreReleases, WritesNothing};
 
-use crate::piece_row::piece_in_row;
+use crate::columns::{blob_at, integer_at, number_at, text_at};
 use crate::records::add_part;
 use crate::releases::Releases;
 use feed_keep::Record;
@@ -68,4 +68,29 @@ fn take_piece(
     };
     ids.push(piece.id)?;
     Ok(add_part(alloc, records, piece.text, piece.first, piece.bytes)?)
+}
+
+/// A row of the table of parts: its rowid, the name of its release, the place of its first byte, and its bytes.
+#[derive(Clone, Copy)]
+pub struct PartRow<'a> {
+    pub id: i64,
+    pub text: &'a [u8],
+    pub first: u64,
+    pub bytes: &'a [u8],
+}
+
+/// Parses a row. Returns `None` if this product does not write such a row.
+pub fn piece_in_row(row: &Row) -> Option<PartRow<'_>>
+    ensures { MatchOption result (¬ (IsPieceRow row.now)) (λ p. row.now ≡ piece_row p.id p.text.now
+        (record { first = p.first; bytes = p.bytes.now })) }
+{
+    if row.column_count() != 4 {
+        return None;
+    }
+    Some(PartRow {
+        id: integer_at(row, 0)?,
+        text: text_at(row, 1)?,
+        first: number_at(row, 2)?,
+        bytes: blob_at(row, 3)?,
+    })
 }

@@ -10,15 +10,14 @@ ghost use Rattle.feed_keep.specs.Shown.{shown};
 ghost use Rattle.feed_store_model.specs.Live.{IsLive};
 ghost use Rattle.feed_store_model.specs.Tables.{HoldsReleases, HoldsRecords, IsLayout2, IsTabled};
 ghost use Rattle.feed_store_model.specs.Tables.{stored_content, content_without_reasons};
-ghost use Rattle.feed_store_checks.specs.Order.{AreNamesAscending};
+ghost use Rattle.feed_keep.specs.CheckOrder.{AreNamesAscending};
 ghost use Rattle.feed_store_read.specs.Releases.{LeavesRows, WritesNothing};
 ghost use Rattle.feed_store_read.specs.Selected.{AreSelected, AreRecordsOf, AreRecordsWithoutReasons};
 
 use crate::pieces::select_pieces;
 use crate::reasons::select_reasons;
 use crate::releases::{Releases, select_releases};
-use feed_keep::Record;
-use feed_store_checks::{are_names_ascending, are_places_ascending, sort_distinct};
+use feed_keep::{Record, are_names_ascending, are_places_ascending, sort_distinct};
 use sqlite::{Alter, Connection, Error, ErrorCode};
 use std::alloc::Global;
 

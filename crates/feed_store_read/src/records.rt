@@ -6,7 +6,7 @@ ghost use Rattle.std.specs.List.{HoldsAt};
 ghost use Rattle.feed_names.specs.ReleaseName.{text_of};
 ghost use Rattle.feed_model.specs.Content.{names};
 ghost use Rattle.feed_keep.specs.Shown.{shown};
-ghost use Rattle.feed_store_checks.specs.Order.{AreNamesAscending};
+ghost use Rattle.feed_keep.specs.CheckOrder.{AreNamesAscending};
 ghost use Rattle.feed_store_read.specs.Pieces.{given_to};
 
 use feed_keep::Record;

@@ -19,7 +19,7 @@ use std::alloc::Global;
 struct Columns<'a> {
     id: i64,
     text: &'a [u8],
-    stem: &'a [u8],
+    package_name: &'a [u8],
     day: i64,
     size: u64,
     state: u64,
@@ -57,7 +57,7 @@ pub fn release_in_row(alloc: Global, row: &Row) -> Result<Option<(i64, Record)>,
 // Returns the columns of a row that has values of the right kinds.
 fn columns_in(row: &Row) -> Option<Columns<'_>>
     ensures { MatchOption result (¬ (IsReleaseRow row.now)) (λ c. row.now ≡ Int c.id ∷ Text c.text.now
-        ∷ Text c.stem.now ∷ Int c.day ∷ Int (pos c.size) ∷ Int (pos c.state) ∷ []) }
+        ∷ Text c.package_name.now ∷ Int c.day ∷ Int (pos c.size) ∷ Int (pos c.state) ∷ []) }
 {
     if row.column_count() != 6 {
         return None;
@@ -65,7 +65,7 @@ fn columns_in(row: &Row) -> Option<Columns<'_>>
     Some(Columns {
         id: integer_at(row, 0)?,
         text: text_at(row, 1)?,
-        stem: text_at(row, 2)?,
+        package_name: text_at(row, 2)?,
         day: integer_at(row, 3)?,
         size: number_at(row, 4)?,
         state: number_at(row, 5)?,
@@ -100,10 +100,10 @@ fn name_of(alloc: Global, text: &[u8]) -> Result<Option<ReleaseName>, Error>
 
 // Returns whether the columns have the package and the day of the name, and a size within the limit.
 fn is_of(name: &ReleaseName, columns: &Columns<'_>) -> bool
-    ensures { IsTrue result ↔ (columns.now.stem.now ≡ name.now.stem) × (columns.now.day ≡ name.now.day)
+    ensures { IsTrue result ↔ (columns.now.package_name.now ≡ name.now.package_name) × (columns.now.day ≡ name.now.day)
         × (columns.now.size ≤ max_file) }
 {
-    name.package() == columns.stem
+    name.package() == columns.package_name
         && i64::from(name.day()) == columns.day
         && columns.size <= FILE_LIMIT as u64
 }

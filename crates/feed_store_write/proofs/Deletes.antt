@@ -26,10 +26,10 @@ delete_plain : IsPlain (understood layout_2_schema delete_releases_text)
 unfolding understood everything
 delete_plain = (refl, refl)
 
-pub deletes : (old new : State) (stem : List ℕ) (day : ℤ) (count : ℕ) → old.now.schema ≡ layout_2_schema
-    → Executes delete_releases_text (Text stem ∷ Int day ∷ []) old new (Ok count) → Deletes stem day old.now new.now
-deletes old new stem day count has h =
-    let params = Text stem ∷ Int day ∷ [] in
+pub deletes : (old new : State) (package_name : List ℕ) (day : ℤ) (count : ℕ) → old.now.schema ≡ layout_2_schema
+    → Executes delete_releases_text (Text package_name ∷ Int day ∷ []) old new (Ok count) → Deletes package_name day old.now new.now
+deletes old new package_name day count has h =
+    let params = Text package_name ∷ Int day ∷ [] in
     let command = command.Delete 1 (record { lets = []; body = earlier }) in
     let w = runs_as delete_releases_text params old new layout_2_schema has command delete_is delete_plain count h in
     let text = statement_of delete_releases_text (understood layout_2_schema delete_releases_text) in

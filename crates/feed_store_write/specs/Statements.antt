@@ -28,7 +28,7 @@ pub data Statement : Type 0 where
 
 -- the values of the parameters of each kind of statement
 abbrev pub release_params : Name → ℕ → State → Row
-release_params n size s = Text (text_of n) ∷ Text n.stem ∷ Int n.day ∷ Int (pos size) ∷ Int (pos (number_of s)) ∷ []
+release_params n size s = Text (text_of n) ∷ Text n.package_name ∷ Int n.day ∷ Int (pos size) ∷ Int (pos (number_of s)) ∷ []
 
 abbrev pub part_params : Name → Part → Row
 part_params n p = Text (text_of n) ∷ Int (pos p.first) ∷ Blob p.bytes ∷ []
@@ -40,7 +40,7 @@ abbrev pub state_params : Name → State → Row
 state_params n s = Text (text_of n) ∷ Int (pos (number_of s)) ∷ []
 
 abbrev pub earlier_params : Name → Row
-earlier_params n = Text n.stem ∷ Int n.day ∷ []
+earlier_params n = Text n.package_name ∷ Int n.day ∷ []
 
 -- the numbers store the reason, if it can be stored
 abbrev pub AreNumbersOf : BadFile → ℕ → ℕ → Type 0

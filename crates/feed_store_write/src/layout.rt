@@ -9,7 +9,7 @@ ghost use Rattle.feed_store_write.specs.Texts.{insert_version_text, layout_text,
 ghost use Rattle.sqlite.specs.Held.{state};
 ghost use Rattle.sqlite.specs.State.{HasCleanDisk};
 
-use crate::running::run;
+use crate::statements::run;
 use sqlite::{Alter, Connection, Error, ErrorCode, Transaction};
 
 /// Creates the tables in an empty database, with the number of the layout, in one transaction: all of them or nothing.

@@ -6,7 +6,6 @@ mod beside;
 mod changes;
 mod layout;
 mod number;
-mod running;
 mod schema;
 mod statements;
 mod upgrading;

@@ -5,18 +5,20 @@ ghost use Rattle.feed_model.specs.Reply.{max_file};
 ghost use Rattle.feed_parts.specs.Shown.{shown_part, shown_parts};
 ghost use Rattle.feed_store_model.specs.Records.{bare, with_part, with_parts, with_reason, with_state};
 ghost use Rattle.feed_store_model.specs.Tables.{IsStored, number_of, reason_at};
-ghost use Rattle.feed_store_write.specs.Effects.{IsContentChange, IsContentChangeIf, IsReasonChangeIf};
+ghost use Rattle.feed_store_write.specs.Effects.{IsContentChange, IsContentChangeIf, IsReasonChangeIf, IsRunOnOk};
 ghost use Rattle.feed_store_write.specs.Effects.{IsMadeOnOk, StaysInside};
 ghost use Rattle.feed_store_write.specs.Statements.{AddPart, AddReason, AddRelease, DeleteEarlier, HaveRunOnOk};
 ghost use Rattle.feed_store_write.specs.Statements.{SetState};
+ghost use Rattle.sqlite_value.specs.declared.value.Value.TheVariants.{Text};
+ghost use Rattle.sqlite_value.specs.Value.{owned};
 
-use crate::running::{as_text, run};
 use feed_kbart::BadFile;
 use feed_model::State;
 use feed_names::ReleaseName;
 use feed_parts::Part;
 use sqlite::types::ToSql;
 use sqlite::{Alter, Error, ErrorCode, Transaction};
+use sqlite_value::value::ValueRef;
 
 /// Inserts a release without parts.
 pub fn insert_release<S: Alter>(
@@ -159,4 +161,24 @@ fn numbers_of(why: BadFile) -> (u32, u32)
         BadFile::MissingLabel(label) => (4, u32::from(label.place())),
         BadFile::LabelTwice(label) => (5, u32::from(label.place())),
     }
+}
+
+/// Runs a statement and ignores the count of its rows. A transaction that has ended rejects it.
+pub fn run<S: Alter>(
+    tx: &mut Transaction<'_, S>,
+    sql: &str,
+    params: &[ValueRef<'_>],
+) -> Result<(), Error>
+    ensures ran { IsRunOnOk S.Store sql.now params.now tx.old.conn.now tx.new.conn.now result }
+    ensures inside { StaysInside S.Store tx.old.conn tx.new.conn }
+{
+    tx.execute(sql, params)?;
+    Ok(())
+}
+
+/// Returns the bytes of a text as a value.
+pub fn as_text(bytes: &[u8]) -> ValueRef<'_>
+    ensures { owned result ≡ Text bytes.now }
+{
+    ValueRef::Text(bytes)
 }

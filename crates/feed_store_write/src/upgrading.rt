@@ -11,8 +11,7 @@ ghost use Rattle.sqlite.specs.Held.{state};
 ghost use Rattle.sqlite.specs.State.{HasCleanDisk};
 
 use crate::layout::create_reason;
-use crate::running::run;
-use crate::statements::insert_reason;
+use crate::statements::{insert_reason, run};
 use feed_keep::Record;
 use sqlite::{Alter, Connection, Error, ErrorCode, Transaction};
 

@@ -12,8 +12,8 @@ mod text_check;
 mod text_reader;
 mod utf8;
 
-pub use crate::fault::TextFault;
-pub use crate::records::{read_record, record_reader};
-pub use crate::text_check::TextCheck;
-pub use crate::text_reader::{Given, TextReader, check_text};
-pub use crate::utf8::Utf8Check;
+pub use fault::TextFault;
+pub use records::{read_record, record_reader};
+pub use text_check::TextCheck;
+pub use text_reader::{Given, TextReader, check_text};
+pub use utf8::Utf8Check;

@@ -24,7 +24,7 @@ pub fn record_reader<R: Read + Drop>(alloc: Global, source: R) -> Result<Reader<
         .quoting(false)
         .flexible(true)
         .from_reader(alloc, source);
-    // By default the reader would keep two copies of the first record, for callers that ask for a header row.
+    // By default the reader would keep two copies of the first record, for callers that want a header row.
     match reader.set_byte_headers(ByteRecord::new(alloc)) {
         Ok(()) => Ok(reader),
         Err(_) => Err(AllocError),

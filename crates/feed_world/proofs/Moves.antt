@@ -57,10 +57,10 @@ reopen w event v i x k done line loud at f (inr r) = move w event v i x false k 
 
 -- what is asked at the node
 abbrev pub Reported : World → List ℕ → Line → World → Node → Type 0
-Reported w stem line v x = (v ≡ w) × (o : Option Name) × Reports x.history stem o × (line ≡ report_line o)
+Reported w package_name line v x = (v ≡ w) × (o : Option Name) × Reports x.history package_name o × (line ≡ report_line o)
 
 abbrev pub Asked : World → List ℕ → List ℕ → Line → World → Node → Type 0
-Asked w stem query line v x = (v ≡ w) × IsAsked x.history stem query line
+Asked w package_name query line v x = (v ≡ w) × IsAsked x.history package_name query line
 
 stays_at : (w : World) (line : Line) (v : World) (i : ℕ) (Here : Node → Type 0) → ((x : Node) → Here x → v ≡ w)
     → (IsRefused whys.NoNode w line v) ⊎ ((x : Node) × (node_at w.nodes i ≡ Some x) × ((IsRefused whys.Down w line v) ⊎ ((x.up ≡ true) × Here x))) → v ≡ w
@@ -109,9 +109,13 @@ moves w (StopAfter i sent) line v h = by (sent_to i sent w line v (λ x event. (
         ((answer : Answer) × IsRight x.history event answer × Reopens i ((event, answer) ∷ x.history) Stopped w line v)) → Moves w (StopAfter i sent) v
     by (inl e) = inl (record { world = e; known = λ n bs e. absurd (cc) })
     by (inr r) = reopen w (StopAfter i sent) v i r.0 ((r.2, r.4.0) ∷ r.0.history) Stopped line (λ node quiet. quiet) r.1 (inr (r.2, r.4.0, arriving_true w.shelf sent r.2 r.3, r.4.1, refl)) r.4.2
-moves w (Report i stem) line v h = inl (record { world = stays_at w line v i (Reported w stem line v) (λ x q. q.0) (asked_at i w line v (Reported w stem line v) h); known = λ n bs e. absurd (cc) })
-moves w (Ask i stem query) line v h =
-    inl (record { world = stays_at w line v i (Asked w stem query line v) (λ x q. q.0) (asked_at i w line v (Asked w stem query line v) h); known = λ n bs e. absurd (cc) })
+moves w (Report i package_name) line v h = inl (record {
+  world = stays_at w line v i (Reported w package_name line v) (λ x q. q.0) (asked_at i w line v (Reported w package_name line v) h);
+  known = λ n
+      bs e. absurd (cc);
+})
+moves w (Ask i package_name query) line v h =
+    inl (record { world = stays_at w line v i (Asked w package_name query line v) (λ x q. q.0) (asked_at i w line v (Asked w package_name query line v) h); known = λ n bs e. absurd (cc) })
 
 -- ---- what a step keeps
 
@@ -157,8 +161,8 @@ stays_file w (Tell i sent) v n s none = refl
 stays_file w (Restart i) v n s none = refl
 stays_file w (StopBefore i sent) v n s none = refl
 stays_file w (StopAfter i sent) v n s none = refl
-stays_file w (Report i stem) v n s none = refl
-stays_file w (Ask i stem query) v n s none = refl
+stays_file w (Report i package_name) v n s none = refl
+stays_file w (Ask i package_name query) v n s none = refl
 
 loud_file : (event : WorldEvent) (n : Name) (i : ℕ) → ((node : ℕ) → IsQuiet node event → i ≢ node) → file_of (event ∷ []) n ≡ None
 loud_file (Publish m bytes) n i loud = absurd (loud i tt refl)
@@ -166,8 +170,8 @@ loud_file (Tell i sent) n k loud = refl
 loud_file (Restart i) n k loud = refl
 loud_file (StopBefore i sent) n k loud = refl
 loud_file (StopAfter i sent) n k loud = refl
-loud_file (Report i stem) n k loud = refl
-loud_file (Ask i stem query) n k loud = refl
+loud_file (Report i package_name) n k loud = refl
+loud_file (Ask i package_name query) n k loud = refl
 
 -- the files after a step
 pub shelf_step : (w : World) (event : WorldEvent) (v : World) (n : Name) → Moves w event v → file_on v.shelf n ≡ or_else (file_on w.shelf n) (file_of (event ∷ []) n)

@@ -130,13 +130,13 @@ pub good_kept : (h k : History) (n : Name) → Keeps h k → IsGood h n → IsGo
 good_kept h k n s g = (g.0, file_kept h k n g.0 s g.1, g.2)
 
 -- where a release was active, a later report names it or one of a later day
-pub later_report : (h k : History) (key : List ℕ) (n : Name) (o : Option Name) → Keeps h k → Reports h key (Some n) → Reports k key o → (m : Name) × (o ≡ Some m) × (m.stem ≡ key)
+pub later_report : (h k : History) (key : List ℕ) (n : Name) (o : Option Name) → Keeps h k → Reports h key (Some n) → Reports k key o → (m : Name) × (o ≡ Some m) × (m.package_name ≡ key)
     × (n.day ≤ℤ m.day)
 later_report h k key n None s x y = absurd (y n x.0 (good_kept h k n s x.1.0))
 later_report h k key n (Some m) s x y = (m, refl, y.0, y.1.1 n (x.0 ∙ sym y.0) (good_kept h k n s x.1.0))
 
 -- histories that have the same of each release of a package report the same of it
-good_alike : (h k : History) (key : List ℕ) (n : Name) → HasAlike h k key → n.stem ≡ key → IsGood h n → IsGood k n
+good_alike : (h k : History) (key : List ℕ) (n : Name) → HasAlike h k key → n.package_name ≡ key → IsGood h n → IsGood k n
 good_alike h k key n s e g = (g.0, (sym (s.size n e) ∙ g.1.0, λ place lt. sym (s.bytes n e place) ∙ g.1.1 place lt), g.2)
 
 turned : (h k : History) (key : List ℕ) → HasAlike h k key → HasAlike k h key
@@ -151,7 +151,7 @@ reports_alike h k key o p s x y = reports_one k key o p (reports_as h k key o s 
 
 -- a whole release that is the latest of the good published files of its package is active
 pub latest_active : (shelf : Shelf) (h : History) (n : Name) (file : List ℕ) → IsOver shelf h → IsWhole h n → file_on shelf n ≡ Some file → fault_of file ≡ None
-    → ((m : Name) (f : List ℕ) → m.stem ≡ n.stem → file_on shelf m ≡ Some f → fault_of f ≡ None → m.day ≤ℤ n.day) → IsActive h n
+    → ((m : Name) (f : List ℕ) → m.package_name ≡ n.package_name → file_on shelf m ≡ Some f → fault_of f ≡ None → m.day ≤ℤ n.day) → IsActive h n
 latest_active shelf h n file o w at good latest =
     let same : w.0 ≡ file = same_some (file_on shelf n) w.0 file (file_published shelf h n w.0 o w.1) at in
     ((w.0, w.1, ap fault_of same ∙ good), λ m e g. latest m g.0 e (file_published shelf h m g.0 o g.1) g.2)

@@ -35,8 +35,8 @@ file_of-cons (Tell i sent) es n = refl
 file_of-cons (Restart i) es n = refl
 file_of-cons (StopBefore i sent) es n = refl
 file_of-cons (StopAfter i sent) es n = refl
-file_of-cons (Report i stem) es n = refl
-file_of-cons (Ask i stem query) es n = refl
+file_of-cons (Report i package_name) es n = refl
+file_of-cons (Ask i package_name query) es n = refl
 
 -- the published files are those of the events
 pub shows_files : (u v : World) (es : List WorldEvent) (ls : List Line) (n : Name) → Shows u es ls v → file_on v.shelf n ≡ or_else (file_on u.shelf n) (file_of es n)

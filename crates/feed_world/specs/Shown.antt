@@ -22,8 +22,8 @@ shown_event (events.Lose i n) = Tell i (Lose n)
 shown_event (events.Restart i) = Restart i
 shown_event (events.StopBefore i what) = StopBefore i (shown_sent what)
 shown_event (events.StopAfter i what) = StopAfter i (shown_sent what)
-shown_event (events.Report i stem) = Report i stem.items
-shown_event (events.Ask i stem query) = Ask i stem.items query.items
+shown_event (events.Report i package_name) = Report i package_name.items
+shown_event (events.Ask i package_name query) = Ask i package_name.items query.items
 
 -- the model value of a line
 abbrev pub shown_line : code_line.Line → Line

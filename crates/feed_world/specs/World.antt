@@ -22,15 +22,15 @@ pub data Sent : Type 0 where
   Deliver : (name : Name) (first len : ℕ) → Sent
   Lose : (name : Name) → Sent
 
--- an event of the world; a node is identified by its number, counted from 1, and a package by its stem
+-- an event of the world; a node is identified by its number, counted from 1, and a package by its package_name
 pub data WorldEvent : Type 0 where
   Publish : (name : Name) (bytes : List ℕ) → WorldEvent
   Tell : (node : ℕ) (sent : Sent) → WorldEvent
   Restart : (node : ℕ) → WorldEvent
   StopBefore : (node : ℕ) (sent : Sent) → WorldEvent
   StopAfter : (node : ℕ) (sent : Sent) → WorldEvent
-  Report : (node : ℕ) (stem : List ℕ) → WorldEvent
-  Ask : (node : ℕ) (stem : List ℕ) (query : List ℕ) → WorldEvent
+  Report : (node : ℕ) (package_name : List ℕ) → WorldEvent
+  Ask : (node : ℕ) (package_name : List ℕ) (query : List ℕ) → WorldEvent
 
 -- a line of a transcript
 pub data Line : Type 0 where
@@ -158,7 +158,7 @@ OrMemory line right = right ⊎ (line ≡ Refused whys.Memory)
 -- release's complete file, or NoRelease if the package has no active release; or, in place of each, running out of
 -- memory
 abbrev pub IsAsked : History → List ℕ → List ℕ → Line → Type 0
-IsAsked h stem query line = (o : Option Name) × Reports h stem o × OrMemory line
+IsAsked h package_name query line = (o : Option Name) × Reports h package_name o × OrMemory line
     (MatchOption o (line ≡ none_says (query_of query)) (λ n. (file : List ℕ) × IsFile h n file × (line ≡ file_says n file (query_of query))))
 
 -- the event may be shown by this line, and may turn one world into the other. A restart is tried at a node that is down
@@ -179,12 +179,12 @@ Happens w (StopBefore i sent) line v =
 Happens w (StopAfter i sent) line v =
     AtNode i w line v (λ x. Arrives sent w line v (λ event. IfUp x w line v
     ((answer : Answer) × IsRight x.history event answer × Reopens i ((event, answer) ∷ x.history) Stopped w line v)))
-Happens w (Report i stem) line v =
+Happens w (Report i package_name) line v =
     AtNode i w line v (λ x. IfUp x w line v
-    ((v ≡ w) × (o : Option Name) × Reports x.history stem o × (line ≡ report_line o)))
-Happens w (Ask i stem query) line v =
+    ((v ≡ w) × (o : Option Name) × Reports x.history package_name o × (line ≡ report_line o)))
+Happens w (Ask i package_name query) line v =
     AtNode i w line v (λ x. IfUp x w line v
-    ((v ≡ w) × IsAsked x.history stem query line))
+    ((v ≡ w) × IsAsked x.history package_name query line))
 
 -- the events may be shown by these lines, one after another; there are as many lines as events
 abbrev pub Shows : World → List WorldEvent → List Line → World → Type 0

@@ -23,8 +23,9 @@ pub fn histories()
 /// Two nodes that are up, and have recorded the same sizes and kept the same bytes of a package's releases, in any
 /// order, report the same release of it.
 pub fn order_is_free()
-    ensures { (w u v : World) (i j : ℕ) (stem : List ℕ) (x y : Node) (l m : Line) → IsUpAt w i x → IsUpAt w j y
-        → HasAlike x.history y.history stem → Happens w (Report i stem) l u → Happens w (Report j stem) m v
+    ensures { (w u v : World) (i j : ℕ) (package_name : List ℕ) (x y : Node) (l m : Line) → IsUpAt w i x → IsUpAt w j y
+        → HasAlike x.history y.history package_name → Happens w (Report i package_name) l u
+        → Happens w (Report j package_name) m v
         → l ≡ m }
 {}
 
@@ -32,5 +33,5 @@ pub fn order_is_free()
 pub fn latest_is_reported()
     ensures { (count : ℕ) (events : List WorldEvent) (lines : List Line) (w v : World) (i : ℕ) (x : Node) (n : Name)
         (line : Line) → Shows (start count) events lines w → IsUpAt w i x → IsWhole x.history n
-        → IsLatest events n → Happens w (Report i n.stem) line v → line ≡ Active n }
+        → IsLatest events n → Happens w (Report i n.package_name) line v → line ≡ Active n }
 {}

@@ -1,10 +1,12 @@
 //! kbfeed: a feed of holdings lists of serials and books (KBART files) for a fleet of OpenURL link resolvers.
 #![tactic(auto)]
 
-use feed_cli::{name_help, parse};
-use feed_command::{Console, FAILED, Faults, MISUSED, take_stack};
-use feed_database::run_at;
-use feed_file_commands::{answer_file, check_files, compare_files, explain_query, serve_folder};
+mod database_file;
+
+use crate::database_file::run_at;
+use cmd_files::{answer_file, check_files, compare_files, explain_query, serve_folder};
+use cmd_line::{name_help, parse};
+use feed_console::{Console, FAILED, Faults, MISUSED, take_stack};
 use feed_options::Command;
 use feed_replay::replay_input;
 use std::io;

@@ -1,7 +1,7 @@
 //! Replays the script on standard input as `kbfeed replay` does: small enough to be compiled without proof in a minute.
 #![tactic(auto)]
 
-use feed_command::{Console, FAILED, Faults};
+use feed_console::{Console, FAILED, Faults};
 use feed_replay::replay_input;
 use std::io;
 use std::io::BufWriter;

@@ -41,19 +41,19 @@ class Validators(NamedTuple):
 
 
 class Context(ssl.SSLContext):
-    """Takes a connection that ends without the end of TLS for a broken one. The library takes it for a whole reply."""
+    """Takes a connection that ends without the end of TLS for a broken one. To the library the response is whole."""
 
     def wrap_socket(self, *given: Any, **named: Any) -> ssl.SSLSocket:
-        """Wraps a socket. A reply without a length is cut if the end of TLS is missing."""
+        """Wraps a socket. A response without a length is cut if the end of TLS is missing."""
         named["suppress_ragged_eofs"] = False
         return super().wrap_socket(*given, **named)
 
 
 class EachReply(urllib.request.HTTPErrorProcessor):
-    """Returns each reply as it is: nothing follows a redirect by itself, since that would send the key along."""
+    """Returns each response as it is: nothing follows a redirect by itself, since that would send the key along."""
 
     def http_response(self, request: urllib.request.Request, response: http.client.HTTPResponse) -> Any:
-        """Returns the reply."""
+        """Returns the response."""
         return response
 
     https_response = http_response
@@ -110,7 +110,7 @@ def download(url: str, key: Key | None, known: Validators, to: BinaryIO, most: i
 
 
 def followed(url: str, key: Key | None, known: Validators, timeout: int) -> tuple[str, http.client.HTTPResponse]:
-    """Asks for an address and follows its redirects. Returns the last address and its reply."""
+    """Asks for an address and follows its redirects. Returns the last address and its response."""
     sender, asked = opener(), key.with_query(url) if key else url
     for _ in range(REDIRECTS + 1):
         fields = {"User-Agent": "kbfeed-collect", "Accept-Encoding": "gzip",
@@ -145,7 +145,7 @@ def redirected(url: str, location: str, key: Key | None) -> str:
 
 
 def copy_body(url: str, reply: http.client.HTTPResponse, to: BinaryIO, most: int) -> None:
-    """Copies the body of a reply, if it is whole and within the limit."""
+    """Copies the body of a response, if it is whole and within the limit."""
     wanted = reply.length
     if wanted is None and not reply.chunked and url.startswith("http:"):
         raise Refused(f"{host(url)} does not say how long the list is: without https its end cannot be checked")

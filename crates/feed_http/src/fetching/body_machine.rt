@@ -1,4 +1,4 @@
-//! The body of a reply while it arrives (RFC 9112, section 6.3).
+//! The body of a response while it arrives (RFC 9112, section 6.3).
 ghost use Rattle.std.specs.Prelude.{◌≡◌, ℕ, true, false, List, [], length};
 ghost use Rattle.feed_http.specs.ArrivingChunks.{IsWithin};
 ghost use Rattle.feed_http.specs.ArrivingBodies.{HasPassedBody, IsBodyStep, BodyEndsAs};

@@ -1,4 +1,4 @@
-//! The heads of a reply while they arrive (RFC 9112, section 4).
+//! The heads of a response while they arrive (RFC 9112, section 4).
 ghost use Rattle.std.specs.Prelude.{◌≡◌, ◌≤◌, ℕ, List, [], length};
 ghost use Rattle.feed_http_heads.specs.Limits.{field_limit};
 ghost use Rattle.feed_http.specs.ArrivingHeads.{ArePassed, IsHeadStep, IsHeadWithin};

@@ -6,8 +6,8 @@ ghost use Rattle.httparse.specs.Spans.{IsHeaderWithin};
 ghost use Rattle.feed_http_heads.specs.Fields.{values_named, has_other_name_or, AreWithin, AreFieldsOf};
 ghost use Rattle.feed_http.specs.Announcements.{is_length_value, common_length, content_length};
 
+use feed_bytes::read_number;
 use feed_http_heads::{Fields, is_named};
-use feed_range::read_number;
 use httparse::spans::HeaderSpan;
 
 fn has_other_name_or_length(buffer: &[u8], header: HeaderSpan, size: u64) -> bool

@@ -10,8 +10,8 @@ pub enum Step {
     Skip(usize),
     /// Take this many at the front, which are the next ones of the body.
     Body(usize),
-    /// Keep them: the reply is complete, and they follow it.
+    /// Keep them: the response is complete, and they follow it.
     Done,
-    /// Stop: the reply has this fault, whatever follows.
+    /// Stop: the response has this fault, whatever follows.
     Fault(HttpFault),
 }

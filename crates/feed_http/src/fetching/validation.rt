@@ -1,4 +1,4 @@
-//! Validating the head of a reply (RFC 9110, sections 8.4, 8.6, 14.4 and 15; RFC 9112, section 6).
+//! Validating the head of a response (RFC 9110, sections 8.4, 8.6, 14.4 and 15; RFC 9112, section 6).
 ghost use Rattle.std.specs.Prelude.{◌≡◌, IfSome};
 ghost use Rattle.feed_range.specs.Content.{IsInOrder};
 ghost use Rattle.httparse.specs.Grammar.{ResponseHead};
@@ -27,7 +27,7 @@ pub enum Framing {
     ToEnd,
 }
 
-/// The result of validating a reply's head: an answer, or which body follows.
+/// The result of validating a response's head: an answer, or which body follows.
 #[derive(Clone, Copy)]
 pub(crate) enum Announcement {
     Missing,
@@ -44,15 +44,15 @@ pub(crate) enum Announcement {
     Whole(Framing),
 }
 
-/// A reply's head, in the buffer into which it was read.
+/// A response's head, in the buffer into which it was read.
 #[derive(Clone, Copy)]
-pub(crate) struct Reply<'b> {
+pub(crate) struct BufferedHead<'b> {
     pub buffer: &'b [u8],
     pub headers: &'b [HeaderSpan],
     pub spans: ResponseSpans,
 }
 
-impl Reply<'_> {
+impl BufferedHead<'_> {
     fn fields(&self) -> Fields<'_>
         requires { IsInBuffer self.now }
         ensures within { AreWithin result }
@@ -172,7 +172,7 @@ impl Reply<'_> {
         validate_whole(self.framing())
     }
 
-    /// Validates the head of a reply to a request with this method. Returns the result, or the first fault.
+    /// Validates the head of a response to a request with this method. Returns the result, or the first fault.
     pub(crate) fn validate(&self, method: Method) -> Result<Announcement, HttpFault>
         requires { IsInBuffer self.now }
         ensures value { (head : ResponseHead) → HasHead self.now head

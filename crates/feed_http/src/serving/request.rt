@@ -1,7 +1,7 @@
 //! Interprets a request on the server: its method, range and target.
 ghost use Rattle.std.specs.Prelude.{◌≡◌, IfOk, IsOkUnless, option_copied};
 ghost use Rattle.httparse.specs.Grammar.{RequestHead};
-ghost use Rattle.feed_range.specs.Ask.{IsInside};
+ghost use Rattle.feed_range.specs.RangeAsk.{IsInside};
 ghost use Rattle.feed_http_heads.specs.Fields.{AreWithin, AreFieldsOf};
 ghost use Rattle.feed_http_heads.specs.Requests.{IsInBuffer, HasHead};
 ghost use Rattle.feed_http.specs.Requests.{is_unsupported, range_value, ask_for, IsNamedBy};

@@ -1,8 +1,8 @@
-//! Sends the bodies of replies.
+//! Sends the bodies of responses.
 ghost use Rattle.std.specs.Prelude.{◌≡◌, ◌≤◌, ◌+◌};
 ghost use Rattle.std.specs.Prelude.{IfSome, IsSomeAnd, IfErr, IsErrOf, length, take, drop, slice_range};
 ghost use Rattle.feed_http.specs.Shelves.{IsCounted};
-ghost use Rattle.feed_http.specs.ServerReplies.{IsSending, IsReplyFault};
+ghost use Rattle.feed_http.specs.ServerResponses.{IsSending, IsResponseFault};
 
 use crate::serving::shelf::Shelf;
 use feed_http_heads::HttpFault;
@@ -25,7 +25,7 @@ fn send_block<W: Write, S: Shelf>(
         IsSomeAnd (files name.now) (λ file. first + len ≤ length file)) }
     ensures sent { IfSome (S.files shelf.old) (λ files. IfSome (files name.now) (λ file.
         IsSending (take len (drop first file)) result (W.contents writer.old) (W.contents writer.new))) }
-    ensures faults { IfErr result IsReplyFault }
+    ensures faults { IfErr result IsResponseFault }
     ensures kept { S.files shelf.new ≡ S.files shelf.old }
     ensures device { IsCounted (IsErrOf result HttpFault.Shelf) (S.failed shelf.old) (S.failed shelf.new) }
 {
@@ -50,7 +50,7 @@ pub(crate) fn send<W: Write, S: Shelf>(
         IsSomeAnd (files name.now) (λ file. end ≤ length file)) }
     ensures sent { IfSome (S.files shelf.old) (λ files. IfSome (files name.now) (λ file.
         IsSending (slice_range file first end) result (W.contents writer.old) (W.contents writer.new))) }
-    ensures faults { IfErr result IsReplyFault }
+    ensures faults { IfErr result IsResponseFault }
     ensures kept { S.files shelf.new ≡ S.files shelf.old }
     ensures device { IsCounted (IsErrOf result HttpFault.Shelf) (S.failed shelf.old) (S.failed shelf.new) }
 {

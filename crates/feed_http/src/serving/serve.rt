@@ -1,22 +1,23 @@
-//! Serves one request: reads its head and writes one reply.
+//! Serves one request: reads its head and writes one response.
 ghost use Rattle.std.specs.Prelude.{◌≡◌, ◌≤◌, ◌+◌, ◌⊎◌};
 ghost use Rattle.std.specs.Prelude.{IfSome, IsSomeAnd, IfErr, IsErrOf, Option, length, slice_range};
 ghost use Rattle.std.specs.Io.KnownBytes.{Keeps};
 ghost use Rattle.httparse.specs.Grammar.{RequestHead};
-ghost use Rattle.feed_range.specs.Ask.{IsInside};
+ghost use Rattle.feed_range.specs.RangeAsk.{IsInside};
 ghost use Rattle.feed_names.specs.ReleaseName.{Name};
 ghost use Rattle.feed_http_heads.specs.Limits.{head_limit, field_limit};
 ghost use Rattle.feed_http_heads.specs.RequestHeads.{BeginsWithHead};
 ghost use Rattle.feed_http_heads.specs.Requests.{IsInBuffer, HasHead};
 ghost use Rattle.feed_http.specs.Requests.{IsNamedBy};
-ghost use Rattle.feed_http.specs.Replies.{IsPartInside};
+ghost use Rattle.feed_http.specs.Responses.{IsPartInside};
 ghost use Rattle.feed_http.specs.Shelves.{IsCounted, IsShelfKept};
-ghost use Rattle.feed_http.specs.ServerReplies.{server_reply, reply_without_file, part_reply, file_reply, IsOutcomeOf};
-ghost use Rattle.feed_http.specs.ServerReplies.{IsRefusalOf};
-ghost use Rattle.feed_http.specs.ServerReplies.{IsReplyFault, IsServingFault, reply_of};
+ghost use Rattle.feed_http.specs.ServerResponses.{server_response, response_without_file, part_response, file_response};
+ghost use Rattle.feed_http.specs.ServerResponses.{IsOutcomeOf};
+ghost use Rattle.feed_http.specs.ServerResponses.{IsRefusalOf};
+ghost use Rattle.feed_http.specs.ServerResponses.{IsResponseFault, IsServingFault, with_body};
 
-use crate::serving::reply_head::ReplyHead;
 use crate::serving::request;
+use crate::serving::response_head::ServerHead;
 use crate::serving::send::send;
 use crate::serving::shelf::Shelf;
 use feed_http_heads::{FIELD_LIMIT, HEAD_LIMIT, HttpFault, Request, read_request};
@@ -27,12 +28,12 @@ use std::alloc::Global;
 use std::io::{Read, Write};
 use std::ops::Range;
 
-fn reply_with<W: Write, S: Shelf>(
+fn response_with<W: Write, S: Shelf>(
     alloc: Global,
     writer: &mut W,
     shelf: &mut S,
     name: &ReleaseName,
-    head: ReplyHead,
+    head: ServerHead,
     places: Range<u64>,
 ) -> Result<u16, HttpFault>
     requires part { IsPartInside head }
@@ -40,9 +41,9 @@ fn reply_with<W: Write, S: Shelf>(
     requires inside { IfSome (S.files shelf.old) (λ files.
         IsSomeAnd (files name.now) (λ file. places.end ≤ length file)) }
     ensures reply { IfSome (S.files shelf.old) (λ files. IfSome (files name.now) (λ file.
-        IsOutcomeOf (reply_of head (slice_range file places.start places.end)) result
+        IsOutcomeOf (with_body head (slice_range file places.start places.end)) result
         (W.contents writer.old) (W.contents writer.new))) }
-    ensures faults { IfErr result IsReplyFault }
+    ensures faults { IfErr result IsResponseFault }
     ensures shelf { IsShelfKept (S.files shelf.old) (S.files shelf.new) (S.failed shelf.old) (S.failed shelf.new)
         result }
 {
@@ -63,25 +64,25 @@ fn serve_part<W: Write, S: Shelf>(
     requires there { IfSome (S.files shelf.old) (λ files.
         IsSomeAnd (files name.now) (λ file. length file ≡ size)) }
     ensures reply { IfSome (S.files shelf.old) (λ files. IfSome (files name.now) (λ file.
-        IsOutcomeOf (part_reply ask file) result (W.contents writer.old) (W.contents writer.new))) }
-    ensures faults { IfErr result IsReplyFault }
+        IsOutcomeOf (part_response ask file) result (W.contents writer.old) (W.contents writer.new))) }
+    ensures faults { IfErr result IsResponseFault }
     ensures shelf { IsShelfKept (S.files shelf.old) (S.files shelf.new) (S.failed shelf.old) (S.failed shelf.new)
         result }
 {
     match ask {
         RangeAsk::Whole => {
-            let head = ReplyHead::Whole { length: size };
-            reply_with(alloc, writer, shelf, name, head, 0..size)
+            let head = ServerHead::Whole { length: size };
+            response_with(alloc, writer, shelf, name, head, 0..size)
         }
         RangeAsk::Part(first, last) => {
-            let head = ReplyHead::Part {
+            let head = ServerHead::Part {
                 first,
                 last,
                 length: size,
             };
-            reply_with(alloc, writer, shelf, name, head, first..last + 1)
+            response_with(alloc, writer, shelf, name, head, first..last + 1)
         }
-        RangeAsk::Unsatisfied => ReplyHead::Unsatisfied { length: size }.write(writer),
+        RangeAsk::Unsatisfied => ServerHead::Unsatisfied { length: size }.write(writer),
     }
 }
 
@@ -94,16 +95,16 @@ fn serve_file<W: Write, S: Shelf>(
 ) -> Result<u16, HttpFault>
     requires { IsInBuffer request.now }
     ensures reply { IfSome (S.files shelf.old) (λ files. (head : RequestHead) → HasHead request.now head
-        → IsOutcomeOf (file_reply head (files name.now)) result (W.contents writer.old) (W.contents writer.new)) }
-    ensures faults { IfErr result IsReplyFault }
+        → IsOutcomeOf (file_response head (files name.now)) result (W.contents writer.old) (W.contents writer.new)) }
+    ensures faults { IfErr result IsResponseFault }
     ensures shelf { IsShelfKept (S.files shelf.old) (S.files shelf.new) (S.failed shelf.old) (S.failed shelf.new)
         result }
 {
     let Some(size) = shelf.size(name)? else {
-        return ReplyHead::NotFound.write(writer);
+        return ServerHead::NotFound.write(writer);
     };
     if request.is_head() {
-        return ReplyHead::Whole { length: size }.write(writer);
+        return ServerHead::Whole { length: size }.write(writer);
     }
     serve_part(
         alloc,
@@ -125,37 +126,37 @@ fn respond<W: Write, S: Shelf>(
     ensures reply { IfSome (S.files shelf.old) (λ files.
         (head : RequestHead) → HasHead request.now head
         → (named : Option Name) → IsNamedBy head.target named
-        → IsOutcomeOf (server_reply files head named) result (W.contents writer.old) (W.contents writer.new)) }
-    ensures reply_without_file { (head : RequestHead) → HasHead request.now head
-        → (named : Option Name) → IsNamedBy head.target named → IfSome (reply_without_file head named) (λ reply.
+        → IsOutcomeOf (server_response files head named) result (W.contents writer.old) (W.contents writer.new)) }
+    ensures response_without_file { (head : RequestHead) → HasHead request.now head
+        → (named : Option Name) → IsNamedBy head.target named → IfSome (response_without_file head named) (λ reply.
         IsOutcomeOf reply result (W.contents writer.old) (W.contents writer.new)) }
-    ensures faults { IfErr result IsReplyFault }
+    ensures faults { IfErr result IsResponseFault }
     ensures shelf { IsShelfKept (S.files shelf.old) (S.files shelf.new) (S.failed shelf.old) (S.failed shelf.new)
         result }
 {
     if request.lacks_host() {
-        return ReplyHead::BadRequest.write(writer);
+        return ServerHead::BadRequest.write(writer);
     }
     if request::is_unsupported(request) {
-        return ReplyHead::NotImplemented.write(writer);
+        return ServerHead::NotImplemented.write(writer);
     }
     let Some(name) = request::name(alloc, request)? else {
-        return ReplyHead::NotFound.write(writer);
+        return ServerHead::NotFound.write(writer);
     };
     serve_file(alloc, writer, shelf, request, &name)
 }
 
-/// Reads the head of one request, writes one reply, and returns its status. May read past the head, and does not read
-/// a body.
+/// Reads the head of one request, writes one response, and returns its status. May read past the head, and does not
+/// read a body.
 ///
-/// The reply is 400 if the head is invalid, longer than 8,192 bytes or has more than 64 fields, or if a request of
+/// The response is 400 if the head is invalid, longer than 8,192 bytes or has more than 64 fields, or if a request of
 /// HTTP/1.1 does not have exactly one Host field; 501 if the method is neither GET nor HEAD, or there is a
 /// Transfer-Encoding field; and 404 if the target does not name a file of the shelf.
 ///
 /// # Errors
 ///
 /// `Read` if the reader fails and `Short` if it ends inside the head; then nothing is written. `Shelf` or `Memory` if
-/// the shelf fails or memory for a name runs out; then nothing is written, or the head of the reply and some of its
+/// the shelf fails or memory for a name runs out; then nothing is written, or the head of the response and some of its
 /// body. `Write` if the writer refuses bytes.
 pub fn serve_one<R: Read, W: Write, S: Shelf>(
     alloc: Global,
@@ -167,12 +168,12 @@ pub fn serve_one<R: Read, W: Write, S: Shelf>(
     ensures reply { IfSome (R.remaining reader.old) (λ text. IfSome (S.files shelf.old) (λ files.
         (head : RequestHead) → BeginsWithHead head_limit field_limit text head
         → (named : Option Name) → IsNamedBy head.target named
-        → IsOutcomeOf (server_reply files head named) result (W.contents writer.old) (W.contents writer.new))) }
+        → IsOutcomeOf (server_response files head named) result (W.contents writer.old) (W.contents writer.new))) }
 
-    // The same for any shelf, if the reply does not need a file.
-    ensures reply_without_file { IfSome (R.remaining reader.old) (λ text.
+    // The same for any shelf, if the response does not need a file.
+    ensures response_without_file { IfSome (R.remaining reader.old) (λ text.
         (head : RequestHead) → BeginsWithHead head_limit field_limit text head
-        → (named : Option Name) → IsNamedBy head.target named → IfSome (reply_without_file head named) (λ reply.
+        → (named : Option Name) → IsNamedBy head.target named → IfSome (response_without_file head named) (λ reply.
         IsOutcomeOf reply result (W.contents writer.old) (W.contents writer.new))) }
 
     // If the bytes do not begin with such a head.
@@ -199,8 +200,8 @@ pub fn serve_one<R: Read, W: Write, S: Shelf>(
             };
             respond(alloc, writer, shelf, &request)
         }
-        Err(HttpFault::BadHead) => ReplyHead::BadRequest.write(writer),
-        Err(HttpFault::HeadTooLong) => ReplyHead::BadRequest.write(writer),
+        Err(HttpFault::BadHead) => ServerHead::BadRequest.write(writer),
+        Err(HttpFault::HeadTooLong) => ServerHead::BadRequest.write(writer),
         Err(fault) => Err(fault),
     }
 }

@@ -3,7 +3,7 @@ ghost use Rattle.std.specs.Prelude.{◌≡◌};
 
 use crate::ahead::{Ahead, take_running};
 use crate::feed::Feed;
-use crate::overlap::Overlap;
+use crate::release::Overlap;
 use crate::releases::{drop_earlier, find, is_passed};
 use feed_keep::Keep;
 use feed_limits::PIECE_LIMIT;

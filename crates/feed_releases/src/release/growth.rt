@@ -13,8 +13,7 @@ ghost use Rattle.feed_releases.specs.FileCheck.{IsCheckOf};
 
 use crate::commit::commit;
 use crate::file_check::{FileCheck, begin};
-use crate::overlap::Overlap;
-use crate::release::Release;
+use crate::release::{Overlap, Release};
 use crate::standing::Standing;
 use feed_kbart::{Holdings, KbartFault, read_parts};
 use feed_keep::Keep;

@@ -13,7 +13,7 @@ use Rattle.feed_fetch.proofs.fetch_loop.fetch_file.Goals as goal
 pub rounds-init : goal.rounds-init
 rounds-init g c = record {
   running = λ e. let new = c.requires.new in cc;
-  extends = extends_none (IsFetchEvent g.D.Dial.replies c.args.host.now c.args.name.now) (λ k. Unit {0}) (content_of c.args.feed.now.releases.items) (λ h. tt);
+  extends = extends_none (IsFetchEvent g.D.Dial.responses c.args.host.now c.args.name.now) (λ k. Unit {0}) (content_of c.args.feed.now.releases.items) (λ h. tt);
   fills = λ file serves fit. run_start c.args.name.now file c.args.fetch.piece c.args.fetch.phase (content_of c.args.feed.now.releases.items) c.requires.new;
 }
 
@@ -29,18 +29,18 @@ returns-in_default-clause-done g c h is =
 
 pub returns-in-Err-clause-extends : goal.returns-in-Err-clause-extends
 returns-in-Err-clause-extends g c =
-    extends_more (IsFetchEvent g.D.Dial.replies c.args.host.now c.args.name.now) (λ k. Unit {0}) (IsStoppedAt c.args.name.now c.in-Err.stop) (content_of c.args.feed.now.releases.items)
+    extends_more (IsFetchEvent g.D.Dial.responses c.args.host.now c.args.name.now) (λ k. Unit {0}) (IsStoppedAt c.args.name.now c.in-Err.stop) (content_of c.args.feed.now.releases.items)
     (content_of c.rounds.feed.releases.items)
     (content_of c.take.new.feed.releases.items)
     c.rounds.invariant.extends
-    (run_extends g.D.Dial.replies c.args.host.now c.args.name.now c.rounds.fetch.piece c.rounds.fetch.phase c.in-Ask.request c.send-reply.result (IsStoppedAt c.args.name.now c.in-Err.stop)
+    (run_extends g.D.Dial.responses c.args.host.now c.args.name.now c.rounds.fetch.piece c.rounds.fetch.phase c.in-Ask.request c.send-reply.result (IsStoppedAt c.args.name.now c.in-Err.stop)
     (content_of c.rounds.feed.releases.items) (content_of c.take.new.feed.releases.items) c.in-Ask.ensures c.send-reply.ensures.reply
     (submitted_extends (IsStoppedAt c.args.name.now c.in-Err.stop) c.args.name.now c.rounds.fetch.phase c.send-reply.result (content_of c.rounds.feed.releases.items)
     (content_of c.take.new.feed.releases.items) c.in-Err.ensures.owed))
 
 pub returns-in-Err-clause-gets : goal.returns-in-Err-clause-gets
 returns-in-Err-clause-gets g c file serves fit =
-    run_stops g.D.Dial.replies c.args.host.now c.args.name.now file c.rounds.fetch.piece c.rounds.counter c.rounds.fetch.phase c.in-Ask.request c.send-reply.result c.in-Err.stop
+    run_stops g.D.Dial.responses c.args.host.now c.args.name.now file c.rounds.fetch.piece c.rounds.counter c.rounds.fetch.phase c.in-Ask.request c.send-reply.result c.in-Err.stop
     (content_of c.args.feed.now.releases.items) (content_of c.rounds.feed.releases.items) (content_of c.take.new.feed.releases.items)
     (record { serves = serves; hosted = c.requires.host; fit = fit; least = c.rounds.fetch.least; most = c.rounds.fetch.most }) c.in-Ask.ensures c.send-reply.ensures.reply
     (taken_of c.args.name.now file c.rounds.fetch.piece c.rounds.fetch.phase c.send-reply.result (Err c.in-Err.stop) (content_of c.rounds.feed.releases.items)
@@ -56,13 +56,13 @@ returns-clause-gets g c file serves fit =
 pub rounds-preserved : goal.rounds-preserved
 rounds-preserved g c = record {
   running = λ e. let offered = c.in_default-take.ensures.phase in cc;
-  extends = extends_any (IsFetchEvent g.D.Dial.replies c.args.host.now c.args.name.now) (λ k. IfErr c.take.result (λ stop. IsStoppedAt c.args.name.now stop k))
+  extends = extends_any (IsFetchEvent g.D.Dial.responses c.args.host.now c.args.name.now) (λ k. IfErr c.take.result (λ stop. IsStoppedAt c.args.name.now stop k))
       (content_of c.args.feed.now.releases.items)
       (content_of c.take.new.feed.releases.items)
-      (extends_more (IsFetchEvent g.D.Dial.replies c.args.host.now c.args.name.now) (λ k. Unit {0}) (λ k. IfErr c.take.result (λ stop. IsStoppedAt c.args.name.now stop k))
+      (extends_more (IsFetchEvent g.D.Dial.responses c.args.host.now c.args.name.now) (λ k. Unit {0}) (λ k. IfErr c.take.result (λ stop. IsStoppedAt c.args.name.now stop k))
       (content_of c.args.feed.now.releases.items)
       (content_of c.rounds.feed.releases.items) (content_of c.take.new.feed.releases.items) c.rounds.invariant.extends
-      (run_extends g.D.Dial.replies c.args.host.now c.args.name.now c.rounds.fetch.piece c.rounds.fetch.phase c.in-Ask.request c.send-reply.result (λ k. IfErr c.take.result
+      (run_extends g.D.Dial.responses c.args.host.now c.args.name.now c.rounds.fetch.piece c.rounds.fetch.phase c.in-Ask.request c.send-reply.result (λ k. IfErr c.take.result
       (λ stop. IsStoppedAt c.args.name.now stop k))
       (content_of c.rounds.feed.releases.items) (content_of c.take.new.feed.releases.items) c.in-Ask.ensures c.send-reply.ensures.reply
       (submitted_extends (λ k. IfErr c.take.result (λ stop. IsStoppedAt c.args.name.now stop k)) c.args.name.now c.rounds.fetch.phase c.send-reply.result (content_of c.rounds.feed.releases.items)
@@ -72,7 +72,7 @@ rounds-preserved g c = record {
       (sym c.in_default-take.ensures.phase)
       (subst (λ (piece : ℕ). IsRun c.args.name.now file piece Offered (c.rounds.counter + 1) (content_of c.args.feed.now.releases.items) (content_of c.take.new.feed.releases.items))
       (sym c.in_default-take.ensures.piece)
-      (run_more g.D.Dial.replies c.args.host.now c.args.name.now file c.rounds.fetch.piece c.rounds.counter c.rounds.fetch.phase c.in-Ask.request c.send-reply.result
+      (run_more g.D.Dial.responses c.args.host.now c.args.name.now file c.rounds.fetch.piece c.rounds.counter c.rounds.fetch.phase c.in-Ask.request c.send-reply.result
       (content_of c.args.feed.now.releases.items)
       (content_of c.rounds.feed.releases.items) (content_of c.take.new.feed.releases.items)
       (record { serves = serves; hosted = c.requires.host; fit = fit; least = c.rounds.fetch.least; most = c.rounds.fetch.most }) c.in-Ask.ensures c.send-reply.ensures.reply

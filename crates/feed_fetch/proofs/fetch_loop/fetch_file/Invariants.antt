@@ -9,7 +9,7 @@ use Rattle.feed_fetch.proofs.fetch_loop.fetch_file.Given as goal
 abbrev pub invariant-rounds : goal.invariant-rounds
 invariant-rounds g l = record {
   running : l.fetch.phase ≡ Stopped → ⊥;
-  extends : IsExtension (IsFetchEvent g.D.Dial.replies l.host l.name) (λ k. Unit {0}) (content_of l.fn.feed.releases.items) (content_of l.feed.releases.items);
-  fills : (file : List ℕ) → ServesFile g.D.Dial.replies l.name file → IsFetchable file
+  extends : IsExtension (IsFetchEvent g.D.Dial.responses l.host l.name) (λ k. Unit {0}) (content_of l.fn.feed.releases.items) (content_of l.feed.releases.items);
+  fills : (file : List ℕ) → ServesFile g.D.Dial.responses l.name file → IsFetchable file
       → IsRun l.name file l.fetch.piece l.fetch.phase l.counter (content_of l.fn.feed.releases.items) (content_of l.feed.releases.items);
 }

@@ -7,13 +7,13 @@ use Rattle.feed_fetch.proofs.requests.request_size.Goals as goal
 
 pub returns-in-Ok-read_reply-clause-reply : goal.returns-in-Ok-read_reply-clause-reply
 returns-in-Ok-read_reply-clause-reply g c =
-    asked g.D.Dial.replies (g.D.Conn.Write.contents c.in-Ok.conn) (g.D.Conn.Write.contents c.write_head_request.new.writer) (g.D.Conn.Read.remaining c.write_head_request.new.writer)
+    asked g.D.Dial.responses (g.D.Conn.Write.contents c.in-Ok.conn) (g.D.Conn.Write.contents c.write_head_request.new.writer) (g.D.Conn.Read.remaining c.write_head_request.new.writer)
     (head_request_text c.args.host.now (text_of c.args.name.now)) Head (Ok c.in-Ok-read_reply.got)
     c.in-Ok.ensures.fresh c.in-Ok-write_head_request.ensures.text (g.met.D.Dial.answers c.write_head_request.new.writer) c.in-Ok-read_reply.ensures.reply
 
 pub returns-clause-reply : goal.returns-clause-reply
 returns-clause-reply g c =
-    refused g.D.Dial.replies (head_request_text c.args.host.now (text_of c.args.name.now)) Head c.in-Err-read_reply.fault
-    (asked g.D.Dial.replies (g.D.Conn.Write.contents c.in-Ok.conn) (g.D.Conn.Write.contents c.write_head_request.new.writer) (g.D.Conn.Read.remaining c.write_head_request.new.writer)
+    refused g.D.Dial.responses (head_request_text c.args.host.now (text_of c.args.name.now)) Head c.in-Err-read_reply.fault
+    (asked g.D.Dial.responses (g.D.Conn.Write.contents c.in-Ok.conn) (g.D.Conn.Write.contents c.write_head_request.new.writer) (g.D.Conn.Read.remaining c.write_head_request.new.writer)
     (head_request_text c.args.host.now (text_of c.args.name.now)) Head (Err c.in-Err-read_reply.fault)
     c.in-Ok.ensures.fresh c.in-Ok-write_head_request.ensures.text (g.met.D.Dial.answers c.write_head_request.new.writer) c.in-Err-read_reply.ensures.reply)

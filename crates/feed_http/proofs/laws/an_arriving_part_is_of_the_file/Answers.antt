@@ -1,4 +1,4 @@
-use Rattle.feed_http.proofs.ReplyLaw.{given_part, part_of_file}
+use Rattle.feed_http.proofs.ResponseLaw.{given_part, part_of_file}
 use Rattle.feed_http.proofs.laws.an_arriving_part_is_of_the_file.Goals as goal
 
 pub returns-clause-given : goal.returns-clause-given

@@ -1,6 +1,6 @@
 use Rattle.std.proofs.Common.{◌≡◌, ◌≤◌, ◌++◌, length, take}
 use Rattle.std.specs.List.{filter}
-use Rattle.feed_identifiers.specs.Isbn.{is_no_hyphen}
+use Rattle.feed_bytes.specs.Trim.{is_no_hyphen}
 use Rattle.feed_identifiers.proofs.isbn.without_hyphens.Given as goal
 
 -- the characters so far are kept, but for the hyphens

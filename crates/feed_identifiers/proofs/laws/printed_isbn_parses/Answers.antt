@@ -1,6 +1,5 @@
 use Rattle.std.specs.List.{filter}
-use Rattle.feed_identifiers.specs.Text.{trimmed}
-use Rattle.feed_identifiers.specs.Isbn.{is_no_hyphen}
+use Rattle.feed_bytes.specs.Trim.{trimmed, is_no_hyphen}
 use Rattle.feed_identifiers.proofs.PrintedIsbn.{isbn_again, made_by}
 use Rattle.feed_identifiers.proofs.laws.printed_isbn_parses.Goals as goal
 

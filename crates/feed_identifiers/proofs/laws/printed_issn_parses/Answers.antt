@@ -1,4 +1,4 @@
-use Rattle.feed_identifiers.specs.Text.{trimmed}
+use Rattle.feed_bytes.specs.Trim.{trimmed}
 use Rattle.feed_identifiers.proofs.PrintedIssn.{issn_again, issn_made}
 use Rattle.feed_identifiers.proofs.laws.printed_issn_parses.Goals as goal
 

@@ -12,7 +12,7 @@ returns-in-Some c =
     rw (parts.front, to_z-of_z (c.day_numbers_fit.ensures c.in-Some.day found.date found.is_date)) found
 
 pub returns-in-None : goal.returns-in-None
-returns-in-None c stem day h =
-    let cut = rw (c.as_slice.ensures, c.split_at.ensures.back, c.in_ok-at.ensures.1, date-drop c.args.front.now stem day h) at c.in_ok-date.ensures.cases in
+returns-in-None c package_name day h =
+    let cut = rw (c.as_slice.ensures, c.split_at.ensures.back, c.in_ok-at.ensures.1, date-drop c.args.front.now package_name day h) at c.in_ok-date.ensures.cases in
     let date : c.in_ok-date.date.now ≡ h.date = cut.1 in
     c.in-None.ensures day (rw date h.is_date)

@@ -3,7 +3,7 @@ use Rattle.std.specs.List.{IsDistinct}
 use Rattle.std.specs.Ordering.{int_eq}
 use Rattle.feed_parts.specs.Shown.{shown_parts}
 use Rattle.feed_keep.specs.declared.record.Record.{Record}
-use Rattle.feed_store_checks.specs.Order.{ArePartsAscending}
+use Rattle.feed_keep.specs.CheckOrder.{ArePartsAscending}
 use Rattle.feed_store_read.proofs.Joined.{all_parts_up, joined, now_listed, piece_ids_apart, release_ids_apart}
 use Rattle.feed_store_model.proofs.Ours.{tables_in}
 use Rattle.feed_store_read.proofs.Orders.{ascending_in_order, names_differ}

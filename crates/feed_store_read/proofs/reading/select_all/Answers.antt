@@ -5,7 +5,7 @@ use Rattle.feed_model.specs.Content.{names}
 use Rattle.feed_keep.specs.Shown.{shown}
 use Rattle.feed_store_model.specs.Tables.{IsTabled}
 use Rattle.feed_store_model.proofs.Ours.{tables_in}
-use Rattle.feed_store_checks.specs.Order.{AreNamesAscending}
+use Rattle.feed_keep.specs.CheckOrder.{AreNamesAscending}
 use Rattle.feed_store_read.specs.Pieces.{ArePieces}
 use Rattle.feed_store_read.proofs.Joined.{names_up}
 use Rattle.feed_store_read.proofs.reading.select_all.Goals as goal

@@ -1,4 +1,4 @@
-use Rattle.feed_store_read.proofs.Names.{no_date, no_stem}
+use Rattle.feed_store_read.proofs.Names.{no_date, no_package_name}
 use Rattle.feed_store_read.proofs.release_row.name_of.Goals as goal
 
 pub returns-in-Err-BadDate : goal.returns-in-Err-BadDate
@@ -9,4 +9,4 @@ returns-in-Err-BadDate c =
 pub returns-in-Err-BadStem : goal.returns-in-Err-BadStem
 returns-in-Err-BadStem c =
     let why = rw c.in-Err-BadStem.field-0-is at c.in-Err-BadStem.ensures.refused in
-    no_stem c.args.text.now why.0 why.1 why.2 why.3 why.4 why.5
+    no_package_name c.args.text.now why.0 why.1 why.2 why.3 why.4 why.5

@@ -9,17 +9,17 @@ use Rattle.feed_store_read.proofs.release_row.release_in_row.Goals as goal
 pub returns-in_default-2 : goal.returns-in_default-2
 returns-in_default-2 c h =
     let columns = c.in-Some.columns in
-    let said = release_says c.args.row.now columns.id columns.day columns.text.now columns.stem.now columns.size columns.state c.in-Some.ensures h in
+    let said = release_says c.args.row.now columns.id columns.day columns.text.now columns.package_name.now columns.size columns.state c.in-Some.ensures h in
     (rw c.in_default-2.is at c.in_ok-name.ensures) _ said.named
 
 pub returns-then-not-is_of : goal.returns-then-not-is_of
 returns-then-not-is_of c h =
     let columns = c.in-Some.columns in
-    let said = release_says c.args.row.now columns.id columns.day columns.text.now columns.stem.now columns.size columns.state c.in-Some.ensures h in
-    let n : Name = record { stem = columns.stem.now; day = columns.day } in
+    let said = release_says c.args.row.now columns.id columns.day columns.text.now columns.package_name.now columns.size columns.state c.in-Some.ensures h in
+    let n : Name = record { package_name = columns.package_name.now; day = columns.day } in
     let named : IsName columns.text.now c.in-Some-2.name = rw c.in-Some-2.is at c.in_ok-name.ensures in
     let same : n ≡ c.in-Some-2.name = c.one_release_for_text.ensures columns.text.now n c.in-Some-2.name said.named named in
-    let yes = c.is_of.ensures.1 (ap (λ (m : Name). m.stem) same, ap (λ (m : Name). m.day) same, said.limit) in
+    let yes = c.is_of.ensures.1 (ap (λ (m : Name). m.package_name) same, ap (λ (m : Name). m.day) same, said.limit) in
     absurd (let e = sym yes ∙ c.if-not-is_of.true in cc)
 
 pub returns : goal.returns

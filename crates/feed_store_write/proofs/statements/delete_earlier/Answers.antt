@@ -20,8 +20,8 @@ returns-clause-made g c clean =
     let inv = c.day.type_inv in
     let fits : FitsSigned w32 c.day.result = search rules in
     let day : to_z w32 (of_z w32 c.day.result) ≡ c.day.result = to_z-of_z fits in
-    made_by delete_releases_text (Text n.stem ∷ Int n.day ∷ []) old new (IsContentChange (without_earlier n)) c.run.result
-    (λ count ran ours. deletes_earlier n old.now new.now ours (deletes old new n.stem n.day count ours.schema ran))
+    made_by delete_releases_text (Text n.package_name ∷ Int n.day ∷ []) old new (IsContentChange (without_earlier n)) c.run.result
+    (λ count ran ours. deletes_earlier n old.now new.now ours (deletes old new n.package_name n.day count ours.schema ran))
     (rw (c.as_text.ensures, c.to_sql.ensures, day, c.package.ensures.value, c.day.ensures) at (c.run.ensures.ran clean))
 
 pub returns-clause-ran : goal.returns-clause-ran

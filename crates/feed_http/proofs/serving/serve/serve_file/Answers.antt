@@ -1,5 +1,5 @@
 use Rattle.std.proofs.Common.{sym, ◌∙◌}
-use Rattle.feed_http.specs.declared.serving.reply_head.ReplyHead.TheVariants.{NotFound, Whole}
+use Rattle.feed_http.specs.declared.serving.response_head.ServerHead.TheVariants.{NotFound, Whole}
 use Rattle.feed_http.proofs.Answering.{written_alone, answered_head, answered_missing, answered_part, has_size}
 use Rattle.feed_http.proofs.serving.serve.serve_file.Goals as goal
 

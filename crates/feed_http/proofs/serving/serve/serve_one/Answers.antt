@@ -25,17 +25,17 @@ pub returns-in-Err-HeadTooLong-clause-reply : goal.returns-in-Err-HeadTooLong-cl
 returns-in-Err-HeadTooLong-clause-reply g c = never_served 8192 64 (g.R.Read.remaining c.args.reader.now) (g.S.Shelf.files c.args.shelf.now) _
     (too_long_never 8192 64 (g.R.Read.remaining c.args.reader.now) (rw c.in-Err-HeadTooLong.field-0-is at c.in-Err-HeadTooLong.ensures.why))
 
-pub returns-in-Ok-clause-reply_without_file : goal.returns-in-Ok-clause-reply_without_file
-returns-in-Ok-clause-reply_without_file g c = by_head_alone 8192 64 (g.R.Read.remaining c.args.reader.now) (g.R.Read.remaining c.read_request.new.reader)
+pub returns-in-Ok-clause-response_without_file : goal.returns-in-Ok-clause-response_without_file
+returns-in-Ok-clause-response_without_file g c = by_head_alone 8192 64 (g.R.Read.remaining c.args.reader.now) (g.R.Read.remaining c.read_request.new.reader)
     (take c.in-Ok.read.filled c.read_request.new.buffer) c.read_request.new.headers c.in-Ok.read.spans _
-    c.in-Ok.ensures.taken c.in-Ok.ensures.head c.respond.ensures.reply_without_file
+    c.in-Ok.ensures.taken c.in-Ok.ensures.head c.respond.ensures.response_without_file
 
-pub returns-in-Err-BadHead-clause-reply_without_file : goal.returns-in-Err-BadHead-clause-reply_without_file
-returns-in-Err-BadHead-clause-reply_without_file g c = never_asked 8192 64 (g.R.Read.remaining c.args.reader.now) _
+pub returns-in-Err-BadHead-clause-response_without_file : goal.returns-in-Err-BadHead-clause-response_without_file
+returns-in-Err-BadHead-clause-response_without_file g c = never_asked 8192 64 (g.R.Read.remaining c.args.reader.now) _
     (invalid_never 8192 64 (g.R.Read.remaining c.args.reader.now) (rw c.in-Err-BadHead.field-0-is at c.in-Err-BadHead.ensures.why))
 
-pub returns-in-Err-HeadTooLong-clause-reply_without_file : goal.returns-in-Err-HeadTooLong-clause-reply_without_file
-returns-in-Err-HeadTooLong-clause-reply_without_file g c = never_asked 8192 64 (g.R.Read.remaining c.args.reader.now) _
+pub returns-in-Err-HeadTooLong-clause-response_without_file : goal.returns-in-Err-HeadTooLong-clause-response_without_file
+returns-in-Err-HeadTooLong-clause-response_without_file g c = never_asked 8192 64 (g.R.Read.remaining c.args.reader.now) _
     (too_long_never 8192 64 (g.R.Read.remaining c.args.reader.now) (rw c.in-Err-HeadTooLong.field-0-is at c.in-Err-HeadTooLong.ensures.why))
 
 pub returns-in-Err-BadHead-clause-refused : goal.returns-in-Err-BadHead-clause-refused

@@ -1,7 +1,6 @@
 use Rattle.std.proofs.Common.{sym}
 use Rattle.std.specs.List.{filter}
-use Rattle.feed_identifiers.specs.Text.{trimmed}
-use Rattle.feed_identifiers.specs.Isbn.{is_no_hyphen}
+use Rattle.feed_bytes.specs.Trim.{trimmed, is_no_hyphen}
 use Rattle.feed_identifiers.proofs.PrintedIsbn.{made_by}
 use Rattle.feed_identifiers.proofs.isbn.Isbn.parse.Goals as goal
 

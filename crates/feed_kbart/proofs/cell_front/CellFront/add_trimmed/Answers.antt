@@ -1,5 +1,5 @@
 use Rattle.std.proofs.Common.{◌≡◌, ◌<◌, ◌++◌, ◌∙◌, [], ap, append_assoc, drop, length, sym}
-use Rattle.feed_identifiers.specs.Text.{skip_spaces, trimmed_back}
+use Rattle.feed_bytes.specs.Trim.{skip_spaces, trimmed_back}
 use Rattle.feed_kbart.specs.CellFronts.{following}
 use Rattle.feed_kbart.proofs.Headers.{nil_of, not_nil}
 use Rattle.feed_kbart.proofs.Trimming.{back-whole, kept-blank, kept-some, skip-append}

@@ -1,7 +1,7 @@
 use Rattle.std.proofs.Common.{◌≡◌, ◌∙◌, [], arith, rules, length, sym, slice_index_or}
 use Rattle.std.proofs.lemmas.List.Edits.{map_over_more}
 use Rattle.std.proofs.lemmas.List.{get_or_default}
-use Rattle.feed_identifiers.specs.Text.{trimmed}
+use Rattle.feed_bytes.specs.Trim.{trimmed}
 use Rattle.feed_kbart.specs.Labels.{label_count}
 use Rattle.feed_kbart.specs.HeaderLabels.{found_of, with_field}
 use Rattle.feed_kbart.specs.declared.label.Label.TheVariants as label

@@ -8,15 +8,15 @@ returns-in_default-split_date-clause-refused c =
     let cut = rw c.as_slice.ensures at c.in-Some.ensures.cases in
     (c.in-Some.front.now, ending_cut c.args.text.now c.in-Some.front.now cut.0 cut.1, c.in_default-split_date.ensures)
 
-pub returns-then-not-is_stem-clause-refused : goal.returns-then-not-is_stem-clause-refused
-returns-then-not-is_stem-clause-refused c =
+pub returns-then-not-is_package_name-clause-refused : goal.returns-then-not-is_package_name-clause-refused
+returns-then-not-is_package_name-clause-refused c =
     let cut = rw c.as_slice.ensures at c.in-Some.ensures.cases in (
       c.in-Some.front.now,
-      c.in-Some-split_date.stem.now,
+      c.in-Some-split_date.package_name.now,
       c.in-Some-split_date.day,
       ending_cut c.args.text.now c.in-Some.front.now cut.0 cut.1,
       c.in-Some-split_date.ensures,
-      λ stem. let holds = c.is_stem.ensures.1 stem in cc,
+      λ package_name. let holds = c.is_package_name.ensures.1 package_name in cc,
     )
 
 pub invariant_of-result : goal.invariant_of-result
@@ -25,7 +25,7 @@ invariant_of-result c =
     let ends = ending_cut c.args.text.now c.in-Some.front.now cut.0 cut.1 in
     let dated = c.in-Some-split_date.ensures in
     rw (c.in-Ok.ensures.items, to_z-of_z (c.day_numbers_fit.ensures c.in-Some-split_date.day dated.date dated.is_date))
-    (name_cut c.args.text.now c.in-Some.front.now c.in-Some-split_date.stem.now c.in-Some-split_date.day ends dated (c.is_stem.ensures.0 c.if-not-is_stem.false))
+    (name_cut c.args.text.now c.in-Some.front.now c.in-Some-split_date.package_name.now c.in-Some-split_date.day ends dated (c.is_package_name.ensures.0 c.if-not-is_package_name.false))
 
 pub returns-in-Ok-clause-named : goal.returns-in-Ok-clause-named
 returns-in-Ok-clause-named c =
@@ -33,16 +33,16 @@ returns-in-Ok-clause-named c =
     let ends = ending_cut c.args.text.now c.in-Some.front.now cut.0 cut.1 in
     let dated = c.in-Some-split_date.ensures in
     rw (c.in-Ok.ensures.items, to_z-of_z (c.day_numbers_fit.ensures c.in-Some-split_date.day dated.date dated.is_date))
-    (name_cut c.args.text.now c.in-Some.front.now c.in-Some-split_date.stem.now c.in-Some-split_date.day ends dated (c.is_stem.ensures.0 c.if-not-is_stem.false))
+    (name_cut c.args.text.now c.in-Some.front.now c.in-Some-split_date.package_name.now c.in-Some-split_date.day ends dated (c.is_package_name.ensures.0 c.if-not-is_package_name.false))
 
 pub returns-in-Err-clause-refused : goal.returns-in-Err-clause-refused
 returns-in-Err-clause-refused c =
     let cut = rw c.as_slice.ensures at c.in-Some.ensures.cases in (
-      record { stem = c.in-Some-split_date.stem.now; day = c.in-Some-split_date.day },
+      record { package_name = c.in-Some-split_date.package_name.now; day = c.in-Some-split_date.day },
       record {
         front = c.in-Some.front.now;
         ends = ending_cut c.args.text.now c.in-Some.front.now cut.0 cut.1;
         is_dated = c.in-Some-split_date.ensures;
-        is_stem = c.is_stem.ensures.0 c.if-not-is_stem.false;
+        is_package_name = c.is_package_name.ensures.0 c.if-not-is_package_name.false;
       },
     )

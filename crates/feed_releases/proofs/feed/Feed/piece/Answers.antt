@@ -2,7 +2,7 @@ use Rattle.std.proofs.Common.{◌<◌, ◌+◌, length, refl, arith}
 use Rattle.feed_model.specs.Content.{record_of}
 use Rattle.feed_model.specs.Parts.{Reaches}
 use Rattle.feed_model.proofs.Pieces.{piece_older, piece_unknown, piece_wrong_size, piece_outside, piece_conflict, piece_repeated}
-use Rattle.feed_releases.specs.declared.overlap.Overlap.TheVariants.{New}
+use Rattle.feed_releases.specs.declared.release.Overlap.TheVariants.{New}
 use Rattle.feed_releases.specs.ReleaseValue.{content_of, IsOverlapOf}
 use Rattle.feed_releases.proofs.Answering.{idle, small, sized, other_size, one_record, reaches}
 use Rattle.feed_releases.proofs.Finding.{later_at, none_later}

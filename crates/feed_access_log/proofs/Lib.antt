@@ -1,4 +1,0 @@
-pub mod EscapedTexts
-pub mod LineParts
-pub mod LastParts
-pub mod LinesWritten

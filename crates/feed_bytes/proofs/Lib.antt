@@ -1,0 +1,4 @@
+mod Skipped
+pub mod Digits
+pub mod PartsCut
+pub mod Cuts

@@ -1,0 +1,4 @@
+pub mod Trim
+pub mod Split
+pub mod Parts
+pub mod Hexadecimal

@@ -1,6 +1,0 @@
-use Rattle.feed_diff.proofs.Merging.{ArePairedSoFar, news_upto, olds_upto}
-use Rattle.feed_diff.specs.declared.order.By.TheVariants.{Content}
-use Rattle.feed_diff.proofs.unchanged.take_apart.Given as goal
-
-abbrev pub invariant-loop-pair : goal.invariant-loop-pair
-invariant-loop-pair l = ArePairedSoFar Content (olds_upto l.fn.first l.pair-index) (news_upto l.fn.first l.pair-index) l.kept.items l.old.items l.new.items

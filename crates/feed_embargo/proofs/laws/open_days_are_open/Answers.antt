@@ -1,5 +1,0 @@
-use Rattle.feed_embargo.proofs.Opened.{opened_is}
-use Rattle.feed_embargo.proofs.laws.open_days_are_open.Goals as goal
-
-pub returns : goal.returns
-returns c = opened_is

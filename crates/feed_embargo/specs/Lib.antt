@@ -1,5 +1,0 @@
-pub mod Today
-pub mod Embargo
-pub mod Form
-pub mod Availability
-pub mod Laws

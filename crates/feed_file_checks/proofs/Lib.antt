@@ -1,2 +1,0 @@
-mod ReplyHeads
-mod PartChecks

@@ -1,9 +1,0 @@
-use Rattle.std.proofs.Common.{◌≡◌, ◌≤◌, ◌++◌, ℕ, List, length, take}
-use Rattle.std.specs.Io.KnownBytes.{Consumes}
-use Rattle.feed_http.specs.ArrivingReplies.{HasPassedReply}
-use Rattle.feed_http.proofs.fetching.reply.read_reply.Given as goal
-
-abbrev pub invariant-reads : goal.invariant-reads
-invariant-reads g l = (l.filled ≤ length l.buffer) × (length l.buffer ≡ 8192) × (l.machine.method ≡ l.fn.method)
-    × ((passed : List ℕ) × HasPassedReply l.machine passed l.body.items
-    × Consumes (g.R.Read.remaining l.fn.reader) (g.R.Read.remaining l.reader) (passed ++ take l.filled l.buffer))

@@ -1,9 +1,0 @@
-use Rattle.std.proofs.Common.{◌≡◌, length}
-use Rattle.feed_identifiers.specs.Text.{skip_spaces}
-use Rattle.feed_identifiers.proofs.text.trim_spaces_start.Given as goal
-
-abbrev pub invariant-loop-tail : goal.invariant-loop-tail
-invariant-loop-tail l = skip_spaces l.rest ≡ skip_spaces l.fn.text
-
-abbrev pub decreases-loop-tail : goal.decreases-loop-tail
-decreases-loop-tail l = length l.rest

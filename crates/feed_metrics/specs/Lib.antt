@@ -1,6 +1,0 @@
-pub mod Counts
-pub mod Histograms
-pub mod Labels
-pub mod Pieces
-pub mod Texts
-pub mod Laws

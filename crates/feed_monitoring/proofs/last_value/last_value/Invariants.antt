@@ -1,7 +1,0 @@
-use Rattle.std.proofs.Common.{◌≡◌, take}
-use Rattle.feed_access_log.specs.Forwarded.{last_of}
-use Rattle.feed_monitoring.proofs.LastFields.{values_in}
-use Rattle.feed_monitoring.proofs.last_value.last_value.Given as goal
-
-abbrev pub invariant-loop-header : goal.invariant-loop-header
-invariant-loop-header l = l.value ≡ last_of (values_in l.fields.buffer.now l.name (take l.header-index l.fields.headers.now))

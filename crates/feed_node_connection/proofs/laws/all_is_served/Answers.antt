@@ -1,5 +1,0 @@
-use Rattle.feed_node_connection.proofs.States.{all_served}
-use Rattle.feed_node_connection.proofs.laws.all_is_served.Goals as goal
-
-pub returns : goal.returns
-returns g c = all_served (g.R.Respond.wanted c.args._responder.now, g.R.Respond.replies c.args._responder.now)

@@ -1,5 +1,0 @@
-use Rattle.feed_node_machine.proofs.Feeds.{files_published}
-use Rattle.feed_node_machine.proofs.laws.published_files_are_kept.Goals as goal
-
-pub returns : goal.returns
-returns c = files_published

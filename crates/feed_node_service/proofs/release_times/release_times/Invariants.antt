@@ -1,6 +1,0 @@
-use Rattle.std.proofs.Common.{◌≡◌, take, map}
-use Rattle.feed_node_service.specs.Reports.{time_of, active_time}
-use Rattle.feed_node_service.proofs.release_times.release_times.Given as goal
-
-abbrev pub invariant-loop-active : goal.invariant-loop-active
-invariant-loop-active l = map time_of l.times.items ≡ map active_time (take l.active-index l.actives)

@@ -1,5 +1,0 @@
-use Rattle.feed_node_table.specs.Tables.{IsFirstBelow}
-use Rattle.feed_node_table.proofs.table.Table.first_to_close.Given as goal
-
-abbrev pub invariant-loop-key : goal.invariant-loop-key
-invariant-loop-key g l = IsFirstBelow l.shortage l.self l.key l.first

@@ -1,4 +1,0 @@
-pub mod Connections
-pub mod Logs
-pub mod Peers
-pub mod Tables

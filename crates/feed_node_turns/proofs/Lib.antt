@@ -1,4 +1,0 @@
-mod Flags
-mod Served
-mod Without
-pub mod Ready

@@ -1,4 +1,0 @@
-pub mod RowValue
-pub mod Rows
-pub mod Words
-pub mod Laws

@@ -1,5 +1,0 @@
-use Rattle.feed_range.proofs.Laws.{ask_of-ask_text}
-use Rattle.feed_range.proofs.ask.ask_reads_back.Goals as goal
-
-pub returns : goal.returns
-returns c = ask_of-ask_text

@@ -1,9 +1,0 @@
-use Rattle.std.proofs.Common.{◌≡◌, ◌++◌, drop}
-use Rattle.feed_resolver_hits.specs.Tallying.{no_hits}
-use Rattle.feed_resolver.specs.AnswerTexts.{texts_from}
-use Rattle.feed_resolver.proofs.answers.put_texts.Given as goal
-
-abbrev pub invariant-loop-active : goal.invariant-loop-active
-invariant-loop-active l =
-    l.out.items ++ texts_from l.context.site.library l.context.actives.today l.lookup l.tally (drop l.active-index l.context.actives.actives)
-    ≡ l.fn.out.items ++ texts_from l.context.site.library l.context.actives.today l.lookup no_hits l.context.actives.actives

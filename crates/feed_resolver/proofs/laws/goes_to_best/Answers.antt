@@ -1,5 +1,0 @@
-use Rattle.feed_resolver.proofs.Requests.{goes_to_best}
-use Rattle.feed_resolver.proofs.laws.goes_to_best.Goals as goal
-
-pub returns : goal.returns
-returns c = goes_to_best

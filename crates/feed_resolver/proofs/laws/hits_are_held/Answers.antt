@@ -1,5 +1,0 @@
-use Rattle.feed_resolver.proofs.Held.{hits_are}
-use Rattle.feed_resolver.proofs.laws.hits_are_held.Goals as goal
-
-pub returns : goal.returns
-returns c = hits_are

@@ -1,5 +1,0 @@
-use Rattle.feed_resolver.proofs.Requests.{redirects_sole_hit}
-use Rattle.feed_resolver.proofs.laws.redirects_sole_hit.Goals as goal
-
-pub returns : goal.returns
-returns c = redirects_sole_hit

@@ -1,5 +1,0 @@
-use Rattle.feed_resolver.proofs.SameTags.{same_inputs}
-use Rattle.feed_resolver.proofs.laws.same_inputs_same_bytes.Goals as goal
-
-pub returns : goal.returns
-returns c = same_inputs

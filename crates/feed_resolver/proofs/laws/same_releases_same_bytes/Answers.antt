@@ -1,5 +1,0 @@
-use Rattle.feed_resolver.proofs.SameBytes.{same_bytes}
-use Rattle.feed_resolver.proofs.laws.same_releases_same_bytes.Goals as goal
-
-pub returns : goal.returns
-returns c = same_bytes

@@ -1,5 +1,0 @@
-use Rattle.feed_resolver.proofs.SameTags.{same_tag}
-use Rattle.feed_resolver.proofs.laws.same_releases_same_tag.Goals as goal
-
-pub returns : goal.returns
-returns c = same_tag

@@ -1,7 +1,0 @@
-use Rattle.std.proofs.Common.{◌≡◌, ◌++◌, take}
-use Rattle.std.specs.List.{flat_map}
-use Rattle.feed_resolver_hits.specs.AnswerJson.{part_member}
-use Rattle.feed_resolver_hits.proofs.answer_json.put_parts.Given as goal
-
-abbrev pub invariant-loop-part : goal.invariant-loop-part
-invariant-loop-part l = l.out.items ≡ l.fn.out.items ++ flat_map (part_member l.citation) (take l.part-index l.parts)

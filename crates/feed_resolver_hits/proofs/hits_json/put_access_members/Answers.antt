@@ -1,8 +1,0 @@
-use Rattle.std.proofs.lemmas.Result.{on_ok_weaker}
-use Rattle.feed_resolver_hits.proofs.Written.{access_written}
-use Rattle.feed_resolver_hits.proofs.hits_json.put_access_members.Goals as goal
-
-pub returns : goal.returns
-returns c = on_ok_weaker c.put_all.result
-    (access_written c.args.out.now.items c.put_all.new.out.items c.embargo.result.now c.access.result.now c.args.row.now c.args.words.now c.args.end.now c.embargo.ensures c.access.ensures)
-    c.put_all.ensures

@@ -1,7 +1,0 @@
-use Rattle.std.proofs.Common.{◌≡◌, ◌++◌, drop}
-use Rattle.feed_resolver_reply.specs.JsonLists.{items_from}
-use Rattle.feed_resolver_hits.specs.HitsJson.{hit_object}
-use Rattle.feed_resolver_hits.proofs.hits_json.put_objects.Given as goal
-
-abbrev pub invariant-loop-place : goal.invariant-loop-place
-invariant-loop-place l = l.out.items ++ items_from (hit_object l.end) l.place (drop l.place l.hits) ≡ l.fn.out.items ++ items_from (hit_object l.end) 0 l.hits

@@ -1,5 +1,0 @@
-use Rattle.feed_resolver_hits.proofs.AnswerTexts.{answer_read}
-use Rattle.feed_resolver_hits.proofs.laws.answer_is_json.Goals as goal
-
-pub returns : goal.returns
-returns c = answer_read

@@ -1,5 +1,0 @@
-use Rattle.feed_resolver_hits.proofs.BestLinks.{best_is}
-use Rattle.feed_resolver_hits.proofs.laws.best_link_ranks_highest.Goals as goal
-
-pub returns : goal.returns
-returns c = best_is

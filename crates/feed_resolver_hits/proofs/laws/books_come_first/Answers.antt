@@ -1,5 +1,0 @@
-use Rattle.feed_resolver_hits.proofs.BooksFirst.{books_first}
-use Rattle.feed_resolver_hits.proofs.laws.books_come_first.Goals as goal
-
-pub returns : goal.returns
-returns c = books_first

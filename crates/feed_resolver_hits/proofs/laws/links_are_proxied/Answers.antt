@@ -1,7 +1,0 @@
-use Rattle.std.proofs.Common.{refl}
-use Rattle.feed_site.specs.Proxies.{proxied}
-use Rattle.feed_resolver_hits.proofs.laws.links_are_proxied.Goals as goal
-
-pub returns : goal.returns
-unfolding proxied
-returns c = λ site today query name hit. refl

@@ -1,5 +1,0 @@
-use Rattle.feed_resolver_hits.proofs.PlacesAsked.{at_places}
-use Rattle.feed_resolver_hits.proofs.laws.looks_are_at_places.Goals as goal
-
-pub returns : goal.returns
-returns c = at_places

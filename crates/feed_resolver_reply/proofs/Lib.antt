@@ -1,5 +1,0 @@
-pub mod HeadsRead
-pub mod EscapedTexts
-pub mod JsonTexts
-pub mod Written
-pub mod Utf8Texts

@@ -1,6 +1,0 @@
-use Rattle.std.proofs.Common.{◌≡◌, ◌++◌, take}
-use Rattle.feed_resolver_reply.specs.Escapes.{escaped_bytes}
-use Rattle.feed_resolver_reply.proofs.escape.put_escaped_bytes.Given as goal
-
-abbrev pub invariant-loop-byte : goal.invariant-loop-byte
-invariant-loop-byte l = l.out.items ≡ l.fn.out.items ++ escaped_bytes (take l.byte-index l.text)

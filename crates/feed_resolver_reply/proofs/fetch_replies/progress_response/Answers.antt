@@ -1,5 +1,0 @@
-use Rattle.feed_resolver_reply.proofs.HeadsRead.{stream_of}
-use Rattle.feed_resolver_reply.proofs.fetch_replies.progress_response.Goals as goal
-
-pub returns-clause-message : goal.returns-clause-message
-returns-clause-message c = stream_of c.in_ok-progress_head.field-0.items c.in_ok-progress_head.ensures

@@ -1,5 +1,0 @@
-use Rattle.feed_resolver_reply.proofs.HeadsRead.{not_modified_stated}
-use Rattle.feed_resolver_reply.proofs.laws.not_modified_is_head_of_good.Goals as goal
-
-pub returns : goal.returns
-returns c = not_modified_stated

@@ -1,5 +1,0 @@
-use Rattle.feed_resolver_reply.proofs.HeadsRead.{head_of, sent_as}
-use Rattle.feed_resolver_reply.proofs.laws.reply_reads_back.Goals as goal
-
-pub returns : goal.returns
-returns c = λ keeps reply sendable. (head_of keeps reply, sent_as keeps reply sendable)

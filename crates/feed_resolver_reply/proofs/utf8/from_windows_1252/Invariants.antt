@@ -1,6 +1,0 @@
-use Rattle.std.proofs.Common.{◌≡◌, take, string_bytes}
-use Rattle.feed_resolver_reply.specs.Utf8.{from_windows_1252}
-use Rattle.feed_resolver_reply.proofs.utf8.from_windows_1252.Given as goal
-
-abbrev pub invariant-loop-byte : goal.invariant-loop-byte
-invariant-loop-byte l = string_bytes l.shown ≡ from_windows_1252 (take l.byte-index l.text)

@@ -1,9 +1,0 @@
-use Rattle.std.proofs.Common.{◌≡◌, length}
-use Rattle.feed_resolver_request.specs.Conditions.{lists_tag}
-use Rattle.feed_resolver_request.proofs.condition.lists_tag.Given as goal
-
-abbrev pub invariant-loop-element : goal.invariant-loop-element
-invariant-loop-element l = lists_tag l.tag l.rest ≡ lists_tag l.tag l.value
-
-abbrev pub decreases-loop-element : goal.decreases-loop-element
-decreases-loop-element l = length l.rest

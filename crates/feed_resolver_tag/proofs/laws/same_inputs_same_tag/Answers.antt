@@ -1,6 +1,0 @@
-use Rattle.std.proofs.Common.{ap}
-use Rattle.feed_resolver_tag.specs.Tags.{entity_tag}
-use Rattle.feed_resolver_tag.proofs.laws.same_inputs_same_tag.Goals as goal
-
-pub returns : goal.returns
-returns c = λ one other same. ap entity_tag same

@@ -1,3 +1,0 @@
-pub mod Tags
-pub mod Laws
-pub mod DayDigests

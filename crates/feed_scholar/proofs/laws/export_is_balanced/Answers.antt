@@ -1,5 +1,0 @@
-use Rattle.feed_scholar.proofs.Structure.{export_balanced}
-use Rattle.feed_scholar.proofs.laws.export_is_balanced.Goals as goal
-
-pub returns : goal.returns
-returns c = export_balanced

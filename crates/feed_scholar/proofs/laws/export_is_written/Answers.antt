@@ -1,5 +1,0 @@
-use Rattle.feed_scholar.proofs.Written.{export_written}
-use Rattle.feed_scholar.proofs.laws.export_is_written.Goals as goal
-
-pub returns : goal.returns
-returns c = export_written

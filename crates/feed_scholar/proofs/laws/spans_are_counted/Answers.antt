@@ -1,5 +1,0 @@
-use Rattle.feed_scholar.proofs.SpansCounted.{spans_counted}
-use Rattle.feed_scholar.proofs.laws.spans_are_counted.Goals as goal
-
-pub returns : goal.returns
-returns c = spans_counted

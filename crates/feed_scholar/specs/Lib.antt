@@ -1,8 +1,0 @@
-pub mod Marks
-pub mod Characters
-pub mod Elements
-pub mod Embargoes
-pub mod Pieces
-pub mod Items
-pub mod Reading
-pub mod Laws

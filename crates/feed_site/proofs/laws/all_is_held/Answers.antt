@@ -1,5 +1,0 @@
-use Rattle.feed_site.proofs.HeldDays.{all_held}
-use Rattle.feed_site.proofs.laws.all_is_held.Goals as goal
-
-pub returns : goal.returns
-returns c = all_held

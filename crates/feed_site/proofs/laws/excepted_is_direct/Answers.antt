@@ -1,5 +1,0 @@
-use Rattle.feed_site.proofs.Through.{excepted_is_target}
-use Rattle.feed_site.proofs.laws.excepted_is_direct.Goals as goal
-
-pub returns : goal.returns
-returns c = excepted_is_target

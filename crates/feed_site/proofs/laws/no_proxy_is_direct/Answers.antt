@@ -1,5 +1,0 @@
-use Rattle.feed_site.proofs.Through.{direct_is_target}
-use Rattle.feed_site.proofs.laws.no_proxy_is_direct.Goals as goal
-
-pub returns : goal.returns
-returns c = direct_is_target

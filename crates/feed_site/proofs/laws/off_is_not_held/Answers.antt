@@ -1,5 +1,0 @@
-use Rattle.feed_site.proofs.HeldDays.{off}
-use Rattle.feed_site.proofs.laws.off_is_not_held.Goals as goal
-
-pub returns : goal.returns
-returns c = off

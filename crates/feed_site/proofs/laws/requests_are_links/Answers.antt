@@ -1,5 +1,0 @@
-use Rattle.feed_site.proofs.Fillings.{requests_are_links}
-use Rattle.feed_site.proofs.laws.requests_are_links.Goals as goal
-
-pub returns : goal.returns
-returns c = requests_are_links

@@ -1,4 +1,0 @@
-pub mod Titles
-pub mod Walks
-pub mod Asks
-pub mod Laws

@@ -1,0 +1,2 @@
+mod ResponseHeads
+mod PartChecks

@@ -1,0 +1,82 @@
+-- The rows at the places of a query's identifiers: each has one of the identifiers.
+use Rattle.std.proofs.Common.{◌≡◌, ◌+◌, ℕ, suc, Bool, true, false, List, [], ◌∷◌, ◌++◌, Option, Some, None, refl, sym, ap, ◌∙◌, subst, append_assoc, arith, length, take}
+use Rattle.std.specs.Prelude.{if◌then◌else◌, option_map, slice_get}
+use Rattle.std.specs.List.{All, AllPass, cons_option, enumerate_from, filter_map}
+use Rattle.std.specs.Option.{option_and_then, option_map_or}
+use Rattle.std.proofs.lemmas.List.Elements.{All-cons, All-nil, All-take}
+use Rattle.feed_kbart.specs.Identifiers.{kind}
+use Rattle.feed_kbart.specs.Places.{place_by, places_by}
+use Rattle.feed_kbart.specs.RowValue.{RowValue}
+use Rattle.feed_kbart.specs.declared.identifiers.Kind.{Kind}
+use Rattle.feed_kbart.specs.declared.identifiers.Kind.TheVariants.{Serial, Book}
+use Rattle.feed_answer.specs.Answers.{hit_by}
+use Rattle.feed_answer.specs.Grades.{both_grades, days_grade, grade_by, volume_grade}
+use Rattle.feed_answer.specs.HitValue.{HitValue}
+use Rattle.feed_answer.specs.Places.{hit_at}
+use Rattle.feed_answer.specs.QueryValue.{QueryValue}
+use Rattle.feed_answer.specs.declared.grade.Grade.{Grade}
+use Rattle.feed_answer.specs.declared.grade.Grade.TheVariants.{Untested}
+use Rattle.node_hits.specs.Looks.{asked_places}
+use Rattle.node_hits.specs.Searches.{SearchValue, asked_grade_as, asked_hit_at, asked_hit_by, compared, is_asked, is_asked_as, is_asked_at, whole_titles}
+use Rattle.node_hits.proofs.LooksPlaced.{at_seam, longer, same_asked}
+
+-- ---- the grade of a row that has one of the identifiers
+
+graded_as : (of : Kind) (query : QueryValue) (row : RowValue) → is_asked_as of query row ≡ true → asked_grade_as of query row ≡ grade_by of query row
+graded_as Serial query row asked =
+    sym (ap (λ b. if b then both_grades (days_grade row.first_day row.last_day query.days) (volume_grade row.first_volume row.last_volume query.volume) else None) asked)
+graded_as Book query row asked = sym (ap (λ b. if b then Some Untested else None) asked)
+
+asked_by : (search : SearchValue) (row : RowValue) → is_asked search.query row ≡ true → asked_hit_by (compared search) row ≡ hit_by (compared search) row
+asked_by search row asked =
+    ap (option_map (λ grade. record { row = row; grade = grade }))
+    (graded_as (kind row.identifiers) (compared search) row (same_asked search.scope (kind row.identifiers) search.query row ∙ asked))
+
+untested_as : (of : Kind) (query : QueryValue) (row : RowValue) → asked_grade_as of (whole_titles query) row ≡ Some Untested
+untested_as Serial query row = refl
+untested_as Book query row = refl
+
+pub whole_at : (query : QueryValue) (rows : List RowValue) (place : ℕ) (row : RowValue) → slice_get rows place ≡ Some row
+    → Some (record { row = row; grade = Untested }) ≡ asked_hit_at (whole_titles query) rows place
+whole_at query rows place row is =
+    ap (option_map (λ grade. record { row = row; grade = grade })) (sym (untested_as (kind row.identifiers) query row))
+    ∙ ap (option_and_then (asked_hit_by (whole_titles query))) (sym is)
+
+pub asked_at : (search : SearchValue) (rows : List RowValue) (place : ℕ) → is_asked_at search.query rows place ≡ true
+    → asked_hit_at (compared search) rows place ≡ hit_at (compared search) rows place
+asked_at search rows place asked = go (slice_get rows place) asked
+  where
+    go : (o : Option RowValue) → option_map_or (is_asked search.query) o true ≡ true → option_and_then (asked_hit_by (compared search)) o ≡ option_and_then (hit_by (compared search)) o
+    go None asked = refl
+    go (Some row) asked = asked_by search row asked
+
+-- ---- the places of rows that pass a test
+
+abbrev passes_at : (RowValue → Bool) → List RowValue → ℕ → Bool
+passes_at test rows place = option_map_or test (slice_get rows place) true
+
+pass_from : (test : RowValue → Bool) (front rows : List RowValue) (base : ℕ) → base ≡ length front
+    → AllPass (passes_at test (front ++ rows)) (filter_map (place_by test) (enumerate_from base rows))
+pass_from test front [] base same = All-nil _
+pass_from test front (row ∷ rows) base same =
+    go (test row) refl
+    (subst (λ (all : List RowValue). AllPass (passes_at test all) (filter_map (place_by test) (enumerate_from (base + 1) rows))) (append_assoc front (row ∷ []) rows)
+    (pass_from test (front ++ row ∷ []) rows (base + 1) (let more = longer front row in omega (arith, same, more))))
+  where
+    go : (b : Bool) → test row ≡ b → AllPass (passes_at test (front ++ row ∷ rows)) (filter_map (place_by test) (enumerate_from (base + 1) rows))
+        → AllPass (passes_at test (front ++ row ∷ rows)) (cons_option (if b then Some base else None) (filter_map (place_by test) (enumerate_from (base + 1) rows)))
+    go true is rest =
+        All-cons (λ place. passes_at test (front ++ row ∷ rows) place ≡ true) base (filter_map (place_by test) (enumerate_from (base + 1) rows))
+        (ap (λ o. option_map_or test o true) (at_seam front row rows base same) ∙ is) rest
+    go false is rest = rest
+
+all_pass : (test : RowValue → Bool) (rows : List RowValue) → AllPass (passes_at test rows) (places_by test rows)
+unfolding places_by
+all_pass test rows = pass_from test [] rows 0 refl
+
+-- the first places of a release
+pub all_asked : (query : QueryValue) (rows : List RowValue) (limit : ℕ) (places found : List ℕ)
+    → places ≡ found → found ≡ take limit (asked_places query rows) → AllPass (is_asked_at query rows) places
+all_asked query rows limit places found listed front =
+    subst (AllPass (is_asked_at query rows)) (sym (listed ∙ front))
+    (All-take (λ place. is_asked_at query rows place ≡ true) limit (asked_places query rows) (all_pass (is_asked query) rows))

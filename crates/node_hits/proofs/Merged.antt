@@ -1,0 +1,264 @@
+-- The places of several identifiers, merged one after another, are those of the rows that have one of them.
+use Rattle.std.proofs.Common.{◌≡◌, ◌<◌, ◌≤◌, ◌+◌, ◌-◌, ℕ, zero, suc, Bool, true, false, ◌||◌, List, [], ◌∷◌, ◌++◌, Option, Some, None, refl, sym, ap, ◌∙◌, append_assoc, arith, length, take}
+use Rattle.std.specs.Prelude.{◌==◌, if◌then◌else◌, nat_lt, get_or}
+use Rattle.std.specs.List.{cons_option, enumerate_from, filter_map, list_any}
+use Rattle.std.specs.Option.{option_map_or}
+use Rattle.std.proofs.lemmas.List.{append-nil}
+use Rattle.std.proofs.lemmas.Bool.{ne_eqb}
+use Rattle.std.proofs.lemmas.Bool.Decides.{nat_tests}
+use borrow.Author.Tests.{eq-eqb, lt-ltb}
+use Rattle.feed_kbart.specs.Places.{has_isbn, has_issn, is_same_identifier, place_by, places_by, places_with, places_with_isbn}
+use Rattle.feed_kbart.specs.RowValue.{RowValue}
+use Rattle.feed_kbart.specs.declared.identifiers.Identifiers.{Identifiers}
+use Rattle.feed_kbart.specs.declared.identifiers.Identifiers.TheVariants.{Serial, Book}
+use Rattle.feed_answer.specs.Grades.{is_named}
+use Rattle.feed_answer.specs.QueryValue.{QueryValue}
+use Rattle.node_hits.specs.Looks.{asked_places}
+use Rattle.node_hits.specs.Merging.{merged, next_place, with_each}
+use Rattle.node_hits.specs.Searches.{is_asked}
+
+-- the places from a base on
+pub placed : (RowValue → Bool) → ℕ → List RowValue → List ℕ
+placed test base rows = filter_map (place_by test) (enumerate_from base rows)
+
+-- ---- which place is next
+
+abbrev Above : ℕ → List ℕ → Type 0
+Above x [] = Unit {0}
+Above x (y ∷ ys) = x < y
+
+placed_above : (test : RowValue → Bool) (x base : ℕ) (rows : List RowValue) → x < base → Above x (filter_map (place_by test) (enumerate_from base rows))
+placed_above test x base [] lt = tt
+placed_above test x base (row ∷ rows) lt = go (test row) (placed_above test x (base + 1) rows (omega (arith, lt)))
+  where
+    go : (b : Bool) → Above x (filter_map (place_by test) (enumerate_from (base + 1) rows))
+        → Above x (cons_option (if b then Some base else None) (filter_map (place_by test) (enumerate_from (base + 1) rows)))
+    go true rest = lt
+    go false rest = rest
+
+front_above : (x n : ℕ) (ys : List ℕ) → Above x ys → Above x (take n ys)
+front_above x zero ys above = tt
+front_above x (suc n) [] above = tt
+front_above x (suc n) (y ∷ ys) above = above
+
+first_next : (x : ℕ) (xs ys : List ℕ) → Above x ys → next_place (x ∷ xs) ys ≡ Some (x, xs, ys)
+first_next x xs [] above = refl
+first_next x xs (y ∷ ys) above = let test = lt-ltb x y above in rw test refl
+
+second_next : (y : ℕ) (xs ys : List ℕ) → Above y xs → next_place xs (y ∷ ys) ≡ Some (y, xs, ys)
+second_next y [] ys above = refl
+second_next y (x ∷ xs) ys above =
+    let test : nat_lt x y ≡ false = grind (arith, nat_tests, above) in
+    let apart : (x == y) ≡ false = ne_eqb x y (λ e. omega (arith, e, above)) in
+    rw (test, apart) refl
+
+both_next : (x : ℕ) (xs ys : List ℕ) → next_place (x ∷ xs) (x ∷ ys) ≡ Some (x, xs, ys)
+both_next x xs ys =
+    let test : nat_lt x x ≡ false = grind (arith, nat_tests) in
+    let same : (x == x) ≡ true = eq-eqb x x refl in
+    rw (test, same) refl
+
+-- ---- the first places of two tests
+
+abbrev merged_by : ℕ → Option (ℕ × List ℕ × List ℕ) → List ℕ
+merged_by n next = option_map_or (λ next. next.0 ∷ merged n next.1 next.2) next []
+
+abbrev pub either : (RowValue → Bool) → (RowValue → Bool) → RowValue → Bool
+either one other row = one row || other row
+
+merged_is : (one other : RowValue → Bool) (n m base : ℕ) (rows : List RowValue) → n ≤ m
+    → merged n (take m (filter_map (place_by one) (enumerate_from base rows))) (filter_map (place_by other) (enumerate_from base rows))
+    ≡ take n (filter_map (place_by (either one other)) (enumerate_from base rows))
+merged_is one other zero m base rows le = refl
+merged_is one other (suc n) zero base rows le = absurd (omega (arith, le))
+merged_is one other (suc n) (suc m) base [] le = refl
+merged_is one other (suc n) (suc m) base (row ∷ rows) le =
+    go (one row) (other row) (merged_is one other n m (base + 1) rows (omega (arith, le))) (merged_is one other n (suc m) (base + 1) rows (omega (arith, le)))
+    (merged_is one other (suc n) (suc m) (base + 1) rows le)
+    (front_above base m (filter_map (place_by one) (enumerate_from (base + 1) rows)) (placed_above one base (base + 1) rows (omega arith)))
+    (front_above base (suc m) (filter_map (place_by one) (enumerate_from (base + 1) rows)) (placed_above one base (base + 1) rows (omega arith)))
+    (placed_above other base (base + 1) rows (omega arith))
+  where
+    xs : List ℕ
+    xs = filter_map (place_by one) (enumerate_from (base + 1) rows)
+
+    ys : List ℕ
+    ys = filter_map (place_by other) (enumerate_from (base + 1) rows)
+
+    zs : List ℕ
+    zs = filter_map (place_by (either one other)) (enumerate_from (base + 1) rows)
+
+    go : (p q : Bool) → merged n (take m xs) ys ≡ take n zs → merged n (take (suc m) xs) ys ≡ take n zs → merged (suc n) (take (suc m) xs) ys ≡ take (suc n) zs
+        → Above base (take m xs) → Above base (take (suc m) xs) → Above base ys
+        → merged (suc n) (take (suc m) (cons_option (if p then Some base else None) xs)) (cons_option (if q then Some base else None) ys)
+        ≡ take (suc n) (cons_option (if p || q then Some base else None) zs)
+    go true true less same all near far other = ap (merged_by n) (both_next base (take m xs) ys) ∙ ap (λ l. base ∷ l) less
+    go true false less same all near far other = ap (merged_by n) (first_next base (take m xs) ys other) ∙ ap (λ l. base ∷ l) less
+    go false true less same all near far other = ap (merged_by n) (second_next base (take (suc m) xs) ys far) ∙ ap (λ l. base ∷ l) same
+    go false false less same all near far other = all
+
+-- ---- tests that agree
+
+alike_from : (one other : RowValue → Bool) (base : ℕ) (rows : List RowValue) → ((row : RowValue) → one row ≡ other row)
+    → filter_map (place_by one) (enumerate_from base rows) ≡ filter_map (place_by other) (enumerate_from base rows)
+alike_from one other base [] same = refl
+alike_from one other base (row ∷ rows) same =
+    ap (λ b. cons_option (if b then Some base else None) (filter_map (place_by one) (enumerate_from (base + 1) rows))) (same row)
+    ∙ ap (cons_option (if other row then Some base else None)) (alike_from one other (base + 1) rows same)
+
+pub alike : (one other : RowValue → Bool) (rows : List RowValue) → ((row : RowValue) → one row ≡ other row) → places_by one rows ≡ places_by other rows
+unfolding places_by
+alike one other rows same = alike_from one other 0 rows same
+
+none_from : (base : ℕ) (rows : List RowValue) → filter_map (place_by (λ row. false)) (enumerate_from base rows) ≡ []
+none_from base [] = refl
+none_from base (row ∷ rows) = none_from (base + 1) rows
+
+abbrev nothing : List ℕ
+nothing = []
+
+none_of : (n : ℕ) → take n nothing ≡ []
+none_of zero = refl
+none_of (suc n) = refl
+
+pub none_placed : (rows : List RowValue) → places_by (λ row. false) rows ≡ []
+unfolding places_by
+none_placed rows = none_from 0 rows
+
+one_more : (one other : RowValue → Bool) (limit : ℕ) (rows : List RowValue)
+    → merged limit (take limit (places_by one rows)) (places_by other rows) ≡ take limit (places_by (either one other) rows)
+unfolding places_by
+one_more one other limit rows = merged_is one other limit limit 0 rows (omega arith)
+
+-- ---- all identifiers
+
+or_false : (a : Bool) → (a || false) ≡ a
+or_false true = refl
+or_false false = refl
+
+or_true : (a : Bool) → (a || true) ≡ true
+or_true true = refl
+or_true false = refl
+
+or_joint : (a b c : Bool) → ((a || b) || c) ≡ (a || (b || c))
+or_joint true b c = refl
+or_joint false b c = refl
+
+or_swap : (a b c d : Bool) → ((a || b) || (c || d)) ≡ ((a || c) || (b || d))
+or_swap true b c d = refl
+or_swap false true c d = sym (or_true c)
+or_swap false false c d = refl
+
+abbrev pub any_one : (List ℕ → RowValue → Bool) → List (List ℕ) → RowValue → Bool
+any_one has identifiers row = list_any (λ one. has one row) identifiers
+
+each_are : (has : List ℕ → RowValue → Bool) (test : RowValue → Bool) (limit : ℕ) (rows : List RowValue) (identifiers : List (List ℕ))
+    → with_each has limit rows (take limit (places_by test rows)) identifiers ≡ take limit (places_by (either test (any_one has identifiers)) rows)
+each_are has test limit rows [] = ap (take limit) (alike test (either test (any_one has [])) rows (λ row. sym (or_false (test row))))
+each_are has test limit rows (one ∷ others) =
+    ap (λ l. with_each has limit rows l others) (one_more test (has one) limit rows)
+    ∙ each_are has (either test (has one)) limit rows others
+    ∙ ap (take limit) (alike (either (either test (has one)) (any_one has others)) (either test (any_one has (one ∷ others))) rows
+    (λ row. or_joint (test row) (has one row) (any_one has others row)))
+
+-- a row has one of the identifiers, in print or online
+named_next : (identifier : List ℕ) (own : Option (List ℕ)) (asked : List (List ℕ)) → (is_same_identifier identifier own || is_named own asked) ≡ is_named own (identifier ∷ asked)
+named_next identifier None asked = refl
+named_next identifier (Some own) asked = refl
+
+named_none : (own : Option (List ℕ)) → is_named own [] ≡ false
+named_none None = refl
+named_none (Some own) = refl
+
+any_named : (print online : Option (List ℕ)) (asked : List (List ℕ))
+    → list_any (λ identifier. is_same_identifier identifier print || is_same_identifier identifier online) asked ≡ (is_named print asked || is_named online asked)
+any_named print online [] = sym (rw (named_none print, named_none online) refl)
+any_named print online (identifier ∷ asked) =
+    ap (λ b. (is_same_identifier identifier print || is_same_identifier identifier online) || b) (any_named print online asked)
+    ∙ or_swap (is_same_identifier identifier print) (is_same_identifier identifier online) (is_named print asked) (is_named online asked)
+    ∙ ap (λ b. b || (is_same_identifier identifier online || is_named online asked)) (named_next identifier print asked)
+    ∙ ap (λ b. is_named print (identifier ∷ asked) || b) (named_next identifier online asked)
+
+abbrev asked_by : Identifiers → List (List ℕ) → List (List ℕ) → Bool
+asked_by (Serial print online) issns isbns = is_named print issns || is_named online issns
+asked_by (Book print online) issns isbns = is_named print isbns || is_named online isbns
+
+-- a row has one of the identifiers of a query
+pub asked_either : (query : QueryValue) (row : RowValue) → either (any_one has_issn query.issns) (any_one has_isbn query.isbns) row ≡ is_asked query row
+asked_either query row = go row.identifiers refl
+  where
+    go : (own : Identifiers) → row.identifiers ≡ own → either (any_one has_issn query.issns) (any_one has_isbn query.isbns) row ≡ is_asked query row
+    go (Serial print online) is =
+        rw is (ap (λ b. b || list_any (λ isbn. is_same_identifier isbn None || is_same_identifier isbn None) query.isbns) (any_named print online query.issns)
+        ∙ ap (λ b. (is_named print query.issns || is_named online query.issns) || b) (any_named None None query.isbns)
+        ∙ or_false (is_named print query.issns || is_named online query.issns))
+    go (Book print online) is =
+        rw is (ap (λ b. b || list_any (λ isbn. is_same_identifier isbn print || is_same_identifier isbn online) query.isbns) (any_named None None query.issns)
+        ∙ any_named print online query.isbns)
+
+-- the first places of all
+pub asked_are : (query : QueryValue) (limit : ℕ) (rows : List RowValue)
+    → with_each has_isbn limit rows (with_each has_issn limit rows [] query.issns) query.isbns ≡ take limit (asked_places query rows)
+asked_are query limit rows =
+    let none : [] ≡ take limit (places_by (λ row. false) rows) = sym (ap (take limit) (none_placed rows) ∙ none_of limit) in
+    ap (λ l. with_each has_isbn limit rows (with_each has_issn limit rows l query.issns) query.isbns) none
+    ∙ ap (λ l. with_each has_isbn limit rows l query.isbns) (each_are has_issn (λ row. false) limit rows query.issns)
+    ∙ each_are has_isbn (either (λ row. false) (any_one has_issn query.issns)) limit rows query.isbns
+    ∙ ap (take limit) (alike (either (either (λ row. false) (any_one has_issn query.issns)) (any_one has_isbn query.isbns)) (is_asked query) rows (asked_either query))
+
+-- those of one identifier
+sole : {A : Type 0} → (xs : List A) (d : A) → length xs ≡ 1 → xs ≡ get_or xs 0 d ∷ []
+sole {A} [] d one = absurd (omega (arith, one))
+sole {A} (x ∷ []) d one = refl
+sole {A} (x ∷ y ∷ xs) d one = absurd (omega (arith, one))
+
+pub issn_alone : (query : QueryValue) (issn : List ℕ) (limit : ℕ) (rows : List RowValue) → query.issns ≡ issn ∷ [] → query.isbns ≡ []
+    → take limit (places_with issn rows) ≡ take limit (asked_places query rows)
+issn_alone query issn limit rows issns isbns =
+    ap (take limit) (alike (has_issn issn) (is_asked query) rows (λ row.
+    sym (or_false (has_issn issn row)) ∙ sym (or_false (has_issn issn row || false))
+    ∙ ap (λ i. any_one has_issn i row || any_one has_isbn [] row) (sym issns) ∙ ap (λ i. any_one has_issn query.issns row || any_one has_isbn i row) (sym isbns) ∙ asked_either query row))
+
+pub isbn_alone : (query : QueryValue) (isbn : List ℕ) (limit : ℕ) (rows : List RowValue) → query.issns ≡ [] → query.isbns ≡ isbn ∷ []
+    → take limit (places_with_isbn isbn rows) ≡ take limit (asked_places query rows)
+isbn_alone query isbn limit rows issns isbns =
+    ap (take limit) (alike (has_isbn isbn) (is_asked query) rows (λ row.
+    sym (or_false (has_isbn isbn row))
+    ∙ ap (λ i. any_one has_issn i row || any_one has_isbn (isbn ∷ []) row) (sym issns) ∙ ap (λ i. any_one has_issn query.issns row || any_one has_isbn i row) (sym isbns) ∙ asked_either query row))
+
+-- ---- the loop of a merge
+
+pub merge_more : (limit : ℕ) (places left right rest more whole : List ℕ) (place : ℕ) → length places < limit → next_place left right ≡ Some (place, rest, more)
+    → places ++ merged (limit - length places) left right ≡ whole → (places ++ place ∷ []) ++ merged (limit - length (places ++ place ∷ [])) rest more ≡ whole
+merge_more limit places left right rest more whole place below next is =
+    let size : length (places ++ place ∷ []) ≡ suc (length places) = one_longer places place in
+    let fewer : limit - length places ≡ suc (limit - length (places ++ place ∷ [])) = omega (arith, below, size) in
+    append_assoc places (place ∷ []) (merged (limit - length (places ++ place ∷ [])) rest more)
+    ∙ ap (λ o. places ++ merged_by (limit - length (places ++ place ∷ [])) o) (sym next)
+    ∙ ap (λ n. places ++ merged n left right) (sym fewer) ∙ is
+  where
+    one_longer : (xs : List ℕ) (x : ℕ) → length (xs ++ x ∷ []) ≡ suc (length xs)
+    one_longer [] x = refl
+    one_longer (y ∷ xs) x = ap suc (one_longer xs x)
+
+none_left : (n : ℕ) (left right : List ℕ) → next_place left right ≡ None → merged n left right ≡ []
+none_left zero left right next = refl
+none_left (suc n) left right next = ap (merged_by n) next
+
+pub merge_done : (n : ℕ) (places left right whole : List ℕ) → next_place left right ≡ None → places ++ merged n left right ≡ whole → places ≡ whole
+merge_done n places left right whole next is = sym (append-nil places) ∙ ap (λ l. places ++ l) (sym (none_left n left right next)) ∙ is
+
+pub merge_full : (limit : ℕ) (places left right whole : List ℕ) → limit ≤ length places → places ++ merged (limit - length places) left right ≡ whole → places ≡ whole
+merge_full limit places left right whole full is =
+    let none : 0 ≡ limit - length places = omega (arith, full) in
+    sym (append-nil places) ∙ ap (λ n. places ++ merged n left right) none ∙ is
+
+-- a list alone
+front_alone : (limit : ℕ) (places : List ℕ) → take limit places ≡ merged limit places []
+front_alone zero places = refl
+front_alone (suc n) [] = refl
+front_alone (suc n) (place ∷ places) = ap (λ l. place ∷ l) (front_alone n places)
+
+pub merge_none : (limit : ℕ) (places other : List ℕ) → length other ≡ 0 → take limit places ≡ merged limit places other
+merge_none limit places [] none = front_alone limit places
+merge_none limit places (place ∷ other) none = absurd (omega (arith, none))

@@ -1,0 +1,62 @@
+-- The answer to a query as JSON: its citation, the query that is looked up, why none is, the hits, and the titles whose date
+-- is covered and whose volume is not.
+use Rattle.std.specs.Prelude.{ℕ, List, [], ◌∷◌, ◌++◌, codes, drop}
+use Rattle.std.specs.List.{flat_map}
+use Rattle.json.specs.Json.{Json, Members, object, array, member, no_members}
+use Rattle.json.specs.Value.{items_of}
+use Rattle.feed_openurl.specs.CitationParts.{name_of}
+use Rattle.feed_openurl.specs.Citations.{CitationValue, text_at}
+use Rattle.feed_openurl.specs.declared.citation_part.CitationPart.{CitationPart}
+use Rattle.feed_openurl.specs.declared.citation_part.CitationPart.TheVariants.{Article}
+use Rattle.feed_openurl.specs.declared.citation_part.TheConstants.{PARTS}
+use Rattle.node_response.specs.JsonStrings.{json_string}
+use Rattle.node_response.specs.Fragments.{joined}
+use Rattle.node_hits.specs.QueryFacts.{QueryFactsValue}
+use Rattle.node_hits.specs.HitsJson.{also_json, also_value, hits_json, item_values, text_member, values_with}
+use Rattle.node_hits.specs.Tallies.{TallyValue}
+
+-- the beginning of a citation, with its first part
+unfoldable pub citation_front : CitationValue → List ℕ
+citation_front citation = joined (codes "{\"citation\":{\"article\":" ∷ json_string (text_at citation Article) ∷ [])
+
+-- another part
+unfoldable pub part_member : CitationValue → CitationPart → List ℕ
+part_member citation part = joined (codes ",\"" ∷ name_of part ∷ codes "\":" ∷ json_string (text_at citation part) ∷ [])
+
+-- the member with all parts of a citation
+unfoldable pub citation_json : CitationValue → List ℕ
+citation_json citation = citation_front citation ++ (flat_map (part_member citation) (drop 1 PARTS) ++ codes "}")
+
+-- the query that is looked up, and the reason why none is
+unfoldable pub query_members : List ℕ → List ℕ → List ℕ
+query_members query refused = joined (
+    codes ",\"query\":" ∷ json_string query ∷ codes ",\"refused\":" ∷ json_string refused ∷ codes ",\"hits\":" ∷ [])
+
+unfoldable pub answer_start : QueryFactsValue → List ℕ → List ℕ
+answer_start ask refused = citation_json ask.citation ++ query_members ask.query refused
+
+-- the end of an answer: the titles whose date is covered
+unfoldable pub also_member : TallyValue → List ℕ
+also_member also = codes ",\"also\":" ++ (also_json also ++ codes "}\n")
+
+-- the answer as an object
+unfoldable pub answer_json : QueryFactsValue → List ℕ → TallyValue → TallyValue → List ℕ
+answer_json ask refused tally also = answer_start ask refused ++ (hits_json tally ++ also_member also)
+
+-- the members that state these parts of a citation
+abbrev pub part_members : CitationValue → List CitationPart → Members
+part_members citation [] = no_members
+part_members citation (part ∷ parts) = text_member (name_of part) (text_at citation part) (part_members citation parts)
+
+-- the object that states a citation
+abbrev pub citation_value : CitationValue → Json
+citation_value citation = object (part_members citation PARTS)
+
+-- the object that states an answer
+abbrev pub answer_value : QueryFactsValue → List ℕ → TallyValue → TallyValue → Json
+answer_value ask refused tally also = object (
+    member (codes "citation") (citation_value ask.citation)
+    (text_member (codes "query") ask.query
+    (text_member (codes "refused") refused
+    (member (codes "hits") (array (items_of (item_values tally)))
+    (member (codes "also") (array (items_of (values_with also_value also))) no_members)))))

@@ -1,0 +1,15 @@
+pub mod Hits
+pub mod Ranks
+pub mod Searches
+pub mod Looks
+pub mod Merging
+pub mod Tallies
+pub mod Tallying
+pub mod EmbargoWords
+pub mod HitsText
+pub mod Coverages
+pub mod HitsJson
+pub mod QueryFacts
+pub mod AnswerJson
+pub mod Lookups
+pub mod Laws

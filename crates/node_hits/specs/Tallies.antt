@@ -1,0 +1,65 @@
+-- The hits of a query that a response counts, shows and chooses from.
+use Rattle.std.specs.Prelude.{ℕ, ◌+◌, ◌-◌, ◌==◌, ◌&&◌, nat_lt, nat_le, Bool, if◌then◌else◌, List, [], ◌∷◌, length, Option, None}
+use Rattle.node_site.specs.Proxies.{room_of}
+use Rattle.node_hits.specs.Hits.{ReleaseHitValue, name_text, best_link, is_certain}
+use Rattle.node_hits.specs.Looks.{counted, row_limit}
+use Rattle.node_hits.specs.Ranks.{ranked}
+
+-- the most hits that a response shows
+abbrev pub shown_limit : ℕ
+shown_limit = 1000
+
+-- the texts of the hits that a response shows have fewer bytes than this
+abbrev pub text_limit : ℕ
+text_limit = 524288
+
+-- the bytes in the texts of a hit, with room for its link
+abbrev pub text_size : ReleaseHitValue → ℕ
+text_size found =
+    length found.name.package_name + length (name_text found.name) + length found.hit.row.title + room_of found.prefix found.hit.row.url
+    + length found.hit.row.title_id + length found.hit.row.depth + length found.hit.row.embargo + length found.hit.row.access
+
+-- the first hits: at most so many, and whose texts have fewer than so many bytes in all
+abbrev pub first_within : ℕ → ℕ → List ReleaseHitValue → List ReleaseHitValue
+first_within places bytes [] = []
+first_within places bytes (found ∷ more) =
+    if nat_lt 0 places && nat_lt 0 (bytes - text_size found)
+    then found ∷ first_within (places - 1) (bytes - text_size found) more
+    else []
+
+-- what a response needs to know of the hits of a query: text shows the first ones, JSON and a page those of the highest
+-- ranks
+pub record TallyValue : Type 0 where
+  pub count : ℕ
+  pub is_whole : Bool
+  pub shown : List ReleaseHitValue
+  pub top : List ReleaseHitValue
+  pub best : Option (List ℕ)
+
+-- the tally of what a search finds in the rows that have one of its identifiers: how many hits are in those that are looked
+-- at, whether all rows are, the first hits, those of the highest ranks, and the best link among them
+abbrev pub tally_of : List (Option ReleaseHitValue) → TallyValue
+tally_of looks = record {
+  count = length (counted looks);
+  is_whole = nat_le (length looks) row_limit;
+  shown = first_within shown_limit text_limit (counted looks);
+  top = first_within shown_limit text_limit (ranked (counted looks));
+  best = best_link (counted looks);
+}
+
+-- a link, if a reader may be sent to the first of some hits without a choice
+abbrev pub link_if_certain : List ReleaseHitValue → Option (List ℕ) → Option (List ℕ)
+link_if_certain [] link = None
+link_if_certain (found ∷ more) link = if is_certain found then link else None
+
+-- the link of the sole hit, if all rows are looked at, there is only one and a reader may be sent there without a choice
+abbrev pub sole_link : TallyValue → Option (List ℕ)
+sole_link tally = if tally.is_whole && (tally.count == 1) then link_if_certain tally.shown tally.best else None
+
+-- how many of the counted hits JSON and a page do not show
+abbrev pub left_out : TallyValue → ℕ
+left_out tally = tally.count - length tally.top
+
+-- JSON and a page show all hits
+abbrev pub shows_all : TallyValue → Bool
+shows_all tally = tally.is_whole && (left_out tally == 0)

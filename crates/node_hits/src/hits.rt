@@ -1,0 +1,281 @@
+//! A hit of a query, with its release and its availability.
+ghost use Rattle.std.specs.Prelude.{◌≡◌, IfOk, false, option_copied};
+ghost use Rattle.std.specs.Bool.{OnFalse};
+ghost use Rattle.std.specs.Cow.{cow_slice_items};
+ghost use Rattle.feed_answer.specs.HitValue.{hit_of};
+ghost use Rattle.node_site.specs.Held.{library_has};
+ghost use Rattle.node_site.specs.Hosts.{is_link};
+ghost use Rattle.node_site.specs.Packages.{package_place};
+ghost use Rattle.feed_kbart.specs.Identifiers.{kind};
+ghost use Rattle.node_hits.specs.Hits.{days_asked, holds_day, holds_days, is_certain, is_found, is_held};
+ghost use Rattle.node_hits.specs.Hits.{is_held_dated, link_text};
+ghost use Rattle.node_hits.specs.Hits.{name_text, rank_of, release_hit};
+ghost use Rattle.node_hits.specs.Searches.{whole_titles};
+
+use crate::coverage_grade::is_dated;
+use crate::rank::{is_free, is_full_text, rank_by};
+use crate::search::{Scope, Search};
+use feed_answer::{Availability, Grade, Hit, Query, Today, availability_of};
+use feed_dates::DayRange;
+use feed_kbart::{Holdings, Kind, Row};
+use feed_names::ReleaseName;
+use node_site::{SiteFile, library_has, link_to, may_be_link, prefix_for};
+use std::alloc::{AllocError, Global};
+use std::borrow::CowSlice;
+use std::marker::Model;
+
+/// A release among those of a library, on a day.
+#[derive(Clone, Copy)]
+pub struct LibraryRelease<'a> {
+    pub site: &'a SiteFile,
+    pub today: &'a Today,
+    pub name: &'a ReleaseName,
+    pub holdings: &'a Holdings,
+}
+
+/// A hit, its release, how the days that the query asks for lie in those that are open to readers, the prefix of its
+/// link, if that goes through a proxy, the place of its package in the order of the site, whether the library has all
+/// those days, and whether it is a book that comes before its series. The prefix, and whether the library has all days,
+/// are computed when they are asked for: most hits of a long answer are only counted.
+#[derive(Drop)]
+pub struct ReleaseHit<'a> {
+    site: &'a SiteFile,
+    name: &'a ReleaseName,
+    row: &'a Row,
+    // The days that are asked for of the title.
+    asked: Option<DayRange>,
+    grade: Grade,
+    availability: Availability,
+    place: usize,
+    is_first: bool,
+    // Computed once, since it is compared with those of many other hits.
+    rank: u32,
+}
+
+impl<'a> Model for ReleaseHit<'a> {
+    ghost use Rattle.std.specs.Prelude.{◌≡◌};
+    ghost use Rattle.node_site.specs.Proxies.{prefix_for};
+    ghost use Rattle.node_hits.specs.Hits.{ReleaseHitValue, holds_days, is_free, rank_by};
+
+    ghost Value = { ReleaseHitValue };
+
+    ghost view = { λ f. record {
+      name = f.name.now;
+      hit = record { row = f.row.now; grade = f.grade };
+      availability = f.availability;
+      prefix = prefix_for f.site.now f.row.now.url (is_free f.row.now);
+      place = f.place;
+      is_held_whole = holds_days f.site.now f.name.now f.row.now f.asked;
+      is_first = f.is_first;
+    } };
+
+    ghost invariant = { λ f. f.rank ≡ rank_by f.is_first f.availability f.grade f.row.now f.place };
+}
+
+impl<'a> ReleaseHit<'a> {
+    /// Returns a hit of a release whose package has this place in the order of the site.
+    pub(crate) fn new(
+        release: &LibraryRelease<'a>,
+        site_place: usize,
+        search: &Search<'_>,
+        hit: &Hit<'a>,
+    ) -> ReleaseHit<'a>
+        requires { site_place ≡ package_place release.now.site.now release.now.name.now.package_name }
+        ensures { result
+            ≡ release_hit release.now.site.now release.now.today.now search.now release.now.name.now (hit_of hit.now) }
+    {
+        let (today, row) = (release.today, hit.row);
+        let (first, last) = (row.first_day(), row.last_day());
+        let availability = availability_of(today, row.embargo(), first, last, search.days());
+        let kind = row.kind();
+        let is_first = search.is_first(kind);
+        ReleaseHit {
+            site: release.site,
+            name: release.name,
+            row,
+            asked: days_asked(kind, search.days()),
+            grade: hit.grade,
+            availability,
+            place: site_place,
+            is_first,
+            rank: rank_by(is_first, availability, hit.grade, row, site_place),
+        }
+    }
+
+    /// Returns the same hit again.
+    pub(crate) fn again(&self) -> ReleaseHit<'a>
+        ensures { result ≡ self.now }
+    {
+        ReleaseHit {
+            site: self.site,
+            name: self.name,
+            row: self.row,
+            asked: self.asked,
+            grade: self.grade,
+            availability: self.availability,
+            place: self.place,
+            is_first: self.is_first,
+            rank: self.rank,
+        }
+    }
+
+    /// Returns the link of the hit: its URL, or that through the proxy.
+    pub fn link(&self, alloc: Global) -> Result<CowSlice<'a, u8, Global>, AllocError>
+        ensures { IfOk result (λ link. cow_slice_items link ≡ link_text self.now) }
+    {
+        link_to(alloc, self.prefix(), self.row.url())
+    }
+
+    /// Returns false only if the link of the hit is not safe. Does not write it.
+    pub(crate) fn may_have_link(&self) -> bool
+        ensures { OnFalse result (is_link (link_text self.now) ≡ false) }
+    {
+        may_be_link(self.site, self.row.url())
+    }
+
+    /// Returns the prefix of the link, if it goes through the proxy.
+    pub(crate) fn prefix(&self) -> Option<&'a str>
+        ensures { option_copied result ≡ self.now.prefix }
+    {
+        prefix_for(self.site, self.row.url(), is_free(self.row))
+    }
+
+    /// Returns the rank of the hit.
+    pub(crate) fn rank(&self) -> u32
+        ensures { result ≡ rank_of self.now }
+    {
+        self.rank
+    }
+
+    /// Returns the name of the release.
+    pub fn name(&self) -> &'a ReleaseName
+        ensures { result.now ≡ self.now.name }
+    {
+        self.name
+    }
+
+    /// Returns the row that matches.
+    pub fn row(&self) -> &'a Row
+        ensures { result.now ≡ self.now.hit.row }
+    {
+        self.row
+    }
+
+    /// Returns how well the row matches.
+    pub fn grade(&self) -> Grade
+        ensures { result ≡ self.now.hit.grade }
+    {
+        self.grade
+    }
+
+    /// Returns whether a reader may be sent to the hit without a choice: all days that the query asks for are open, and
+    /// the row covers the whole of what is asked for, in full text, and the library has all those days.
+    pub(crate) fn is_certain(&self) -> bool
+        ensures { result ≡ is_certain self.now }
+    {
+        matches!(
+            (self.availability, self.grade),
+            (Availability::Available, Grade::Inside)
+        ) && is_full_text(self.row)
+            && holds_days(self.site, self.name, self.row, self.asked)
+    }
+
+    /// Returns how the days that the query asks for lie in those that are open to readers.
+    pub fn availability(&self) -> Availability
+        ensures { result ≡ self.now.availability }
+    {
+        self.availability
+    }
+}
+
+// The days that are asked for of a title. A book is published on a day, and its days are not compared.
+fn days_asked(kind: Kind, days: Option<DayRange>) -> Option<DayRange>
+    ensures { result ≡ days_asked kind days }
+{
+    match kind {
+        Kind::Serial => days,
+        Kind::Book => None,
+    }
+}
+
+// Returns whether the library has a day of a row of a release.
+fn holds_day(site: &SiteFile, name: &ReleaseName, row: &Row, day: i32) -> bool
+    ensures { result ≡ holds_day site.now name.now row.now day }
+{
+    let asked = Some(DayRange {
+        first: day,
+        last: day,
+    });
+    let (first, last) = (row.first_day(), row.last_day());
+    library_has(site, name.package(), row.title_id(), first, last, asked)
+}
+
+// Returns whether the library has all days that are asked for. Its own days are those from one to another, so it has
+// all between two that it has.
+fn holds_days(site: &SiteFile, name: &ReleaseName, row: &Row, asked: Option<DayRange>) -> bool
+    ensures { result ≡ holds_days site.now name.now row.now asked }
+{
+    match asked {
+        Some(days) => {
+            holds_day(site, name, row, days.first) && holds_day(site, name, row, days.last)
+        }
+        None => true,
+    }
+}
+
+// Returns whether the library has a row, on some of the days that are asked for if there are such.
+fn is_held_on(site: &SiteFile, name: &ReleaseName, row: &Row, days: Option<DayRange>) -> bool
+    ensures { result ≡ library_has site.now name.now.package_name row.now.title_id row.now.first_day row.now.last_day
+        (days_asked (kind row.now.identifiers) days) }
+{
+    let (first, last) = (row.first_day(), row.last_day());
+    let asked = days_asked(row.kind(), days);
+    library_has(site, name.package(), row.title_id(), first, last, asked)
+}
+
+// Returns whether the library has what a query asks for of a hit of a release.
+fn is_held(site: &SiteFile, query: &Query, name: &ReleaseName, hit: &Hit<'_>) -> bool
+    ensures { result ≡ is_held site.now query.now name.now (hit_of hit.now) }
+{
+    is_held_on(site, name, hit.row, query.days())
+}
+
+// Returns the same whatever the date is.
+fn is_held_ever(site: &SiteFile, query: &Query, name: &ReleaseName, hit: &Hit<'_>) -> bool
+    ensures { result ≡ is_held site.now (whole_titles query.now) name.now (hit_of hit.now) }
+{
+    is_held_on(site, name, hit.row, None)
+}
+
+fn is_held_dated(site: &SiteFile, query: &Query, name: &ReleaseName, hit: &Hit<'_>) -> bool
+    ensures { result ≡ is_held_dated site.now query.now name.now (hit_of hit.now) }
+{
+    is_held(site, query, name, hit) && is_dated(hit.row, query)
+}
+
+/// Returns whether a hit of a release is searched for, and the library has it.
+pub(crate) fn is_found(
+    site: &SiteFile,
+    search: &Search<'_>,
+    name: &ReleaseName,
+    hit: &Hit<'_>,
+) -> bool
+    ensures { result ≡ is_found site.now search.now name.now (hit_of hit.now) }
+{
+    let query = search.query();
+    match search.scope() {
+        Scope::Hits => is_held(site, query, name, hit),
+        Scope::Dated => is_held_dated(site, query, name, hit),
+        Scope::Others => {
+            is_held_ever(site, query, name, hit) && !is_held_dated(site, query, name, hit)
+        }
+    }
+}
+
+/// Returns the text of a release's name.
+#[tactic(auto, unfolding(crate::specs::Hits::name_text))]
+pub fn name_text(name: &ReleaseName) -> &[u8]
+    ensures { result.now ≡ name_text name.now }
+{
+    name.text()
+}

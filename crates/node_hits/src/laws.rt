@@ -1,0 +1,68 @@
+//! Laws of hits, each stated as the contract of a function with an empty body.
+ghost use Rattle.node_hits.specs.Laws.{AnswerIsJson, BestLinkRanksHighest, BooksComeFirst, HitsAreJson};
+ghost use Rattle.node_hits.specs.Laws.{LinksAreProxied, LooksAreAtPlaces, LooksAreOfAnswer, RanksInOrder};
+ghost use Rattle.node_hits.specs.Laws.{RedirectsToLink, SoleLinkIsOfSoleHit, TallyTellsOfHits};
+
+/// The URL of a redirect is one of `http` or `https` in at most 8,000 bytes of visible ASCII, so no byte of a file can
+/// end a line of a response's head.
+pub fn redirects_to_link()
+    ensures { RedirectsToLink }
+{}
+
+/// The link of a hit is its URL as the site of the library writes it.
+pub fn links_are_proxied()
+    ensures { LinksAreProxied }
+{}
+
+/// No hit that may be linked to ranks above the best link.
+pub fn best_link_ranks_highest()
+    ensures { BestLinkRanksHighest }
+{}
+
+/// One hit ranks above another exactly if it is a book that comes before its series and the other is not, or else its
+/// availability is better, or that is the same and its grade is better, or both are the same and its depth and access
+/// are, or these are too and the site lists its package first.
+pub fn ranks_in_order()
+    ensures { RanksInOrder }
+{}
+
+/// Where a book comes before its series, each hit that is a book ranks above each that is a serial.
+pub fn books_come_first()
+    ensures { BooksComeFirst }
+{}
+
+/// A sole link is that of the only hit in all rows, which is available and covers the whole of what is asked for, in
+/// full text, and all of whose days that are asked for the library has; and such a hit has one.
+pub fn sole_link_is_of_sole_hit()
+    ensures { SoleLinkIsOfSoleHit }
+{}
+
+/// A tally that is made row by row says how many hits there are in the rows that are looked at, the first ones, those
+/// of the highest ranks, and the best link.
+pub fn tally_tells_of_hits()
+    ensures { TallyTellsOfHits }
+{}
+
+/// All rows of a release that have one of a search's identifiers have the hits of the core that are searched for and
+/// that the library has, in their order.
+pub fn looks_are_of_answer()
+    ensures { LooksAreOfAnswer }
+{}
+
+/// A search looks at the rows that have one of the query's identifiers, in ascending order and at each once. Its first
+/// looks are at the first of their places.
+pub fn looks_are_at_places()
+    ensures { LooksAreAtPlaces }
+{}
+
+/// The hits in JSON are, by its grammar (RFC 8259), an array with one object for each hit that is shown, in their
+/// order, and one more if others are left out.
+pub fn hits_are_json()
+    ensures { HitsAreJson }
+{}
+
+/// An answer in JSON is, by its grammar, an object with the citation, the query that is looked up, the reason why none
+/// is, the hits, and the titles whose date is covered and whose volume is not.
+pub fn answer_is_json()
+    ensures { AnswerIsJson }
+{}

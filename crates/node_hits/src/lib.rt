@@ -1,0 +1,41 @@
+//! The hits of a query in the releases of a node: what the query asks for, how many hits there are, the first ones, and
+//! the best link among them; and how they are written as text and as JSON.
+#![tactic(auto)]
+
+mod answer_json;
+mod coverage;
+mod coverage_grade;
+mod embargo_words;
+mod hits;
+mod hits_json;
+mod hits_text;
+mod laws;
+mod links;
+mod lookup;
+mod query_facts;
+mod rank;
+mod ranked_hit;
+mod received_openurl;
+mod row_places;
+mod search;
+mod shown;
+mod tally;
+mod top;
+
+pub use answer_json::put_answer_json;
+pub use coverage::{days_words, volumes_words};
+pub use hits::{LibraryRelease, ReleaseHit, name_text};
+pub use hits_json::put_release_members;
+pub use hits_text::put_release;
+pub use laws::{
+    answer_is_json, best_link_ranks_highest, books_come_first, hits_are_json, links_are_proxied,
+    looks_are_at_places, looks_are_of_answer, ranks_in_order, redirects_to_link,
+    sole_link_is_of_sole_hit, tally_tells_of_hits,
+};
+pub use lookup::Lookup;
+pub use query_facts::{QueryFacts, is_blank, names_work};
+pub use rank::{is_free, is_full_text};
+pub use ranked_hit::RankedHit;
+pub use received_openurl::ReceivedOpenUrl;
+pub use search::{Scope, Search};
+pub use tally::Tally;

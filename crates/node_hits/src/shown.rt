@@ -1,0 +1,107 @@
+//! The hits that a response shows.
+ghost use Rattle.std.specs.Prelude.{◌≡◌, ◌-◌, ◌≤◌, [], OnOk, length};
+ghost use Rattle.node_hits.specs.Tallies.{first_within, text_size, shown_limit, text_limit};
+ghost use Rattle.node_hits.specs.Tallying.{with_shown};
+
+use crate::hits::{ReleaseHit, name_text};
+use crate::ranked_hit::RankedHit;
+use node_site::left_beside;
+use std::alloc::{AllocError, Global};
+use std::marker::Model;
+
+// The most hits that a response shows.
+pub(crate) const SHOWN_LIMIT: usize = 1_000;
+
+// The texts of the hits that a response shows have fewer bytes. Each byte takes at most six in JSON or in a page, and
+// JSON has an address up to three times, so that a response has at most 10 MiB.
+const TEXT_LIMIT: usize = 524_288;
+
+/// The hits that a response shows: the first ones, within the limits.
+#[derive(Drop)]
+pub(crate) struct Shown<'a> {
+    hits: Vec<ReleaseHit<'a>>,
+    // How many more hits may be shown, and with how many bytes.
+    places: usize,
+    bytes: usize,
+}
+
+impl<'a> Model for Shown<'a> {
+    ghost use Rattle.node_hits.specs.Tallying.{ShownValue};
+
+    ghost Value = { ShownValue };
+
+    ghost view = { λ s. record { hits = s.hits.items; places = s.places; bytes = s.bytes } };
+}
+
+// The bytes left after the texts of a hit, with room for its link.
+fn bytes_after(bytes: usize, found: &ReleaseHit<'_>) -> usize
+    ensures { result ≡ bytes - text_size found.now }
+{
+    let row = found.row();
+    left_beside(bytes, found.prefix(), row.url())
+        .saturating_sub(found.name().package().len())
+        .saturating_sub(name_text(found.name()).len())
+        .saturating_sub(row.title().len())
+        .saturating_sub(row.title_id().len())
+        .saturating_sub(row.depth().len())
+        .saturating_sub(row.embargo().len())
+        .saturating_sub(row.access().len())
+}
+
+// How many of the hits at the front are within the limits.
+fn count_within(hits: &[RankedHit<'_>]) -> usize
+    ensures count { result ≡ length (first_within shown_limit text_limit hits.now) }
+    ensures bound { result ≤ length hits.now }
+{
+    let mut bytes = TEXT_LIMIT;
+    for (place, found) in hits.iter().enumerate() {
+        bytes = bytes_after(bytes, found.hit());
+        if place >= SHOWN_LIMIT || bytes == 0 {
+            return place;
+        }
+    }
+    hits.len()
+}
+
+/// Returns the first hits: at most 1,000, whose texts have fewer bytes in all than the limit of a response.
+pub(crate) fn first_within<'a, 'b>(hits: &'b [RankedHit<'a>]) -> &'b [RankedHit<'a>]
+    ensures { result.now ≡ first_within shown_limit text_limit hits.now }
+{
+    &hits[..count_within(hits)]
+}
+
+impl<'a> Shown<'a> {
+    pub(crate) fn new(alloc: Global) -> Shown<'a>
+        ensures { result ≡ record { hits = []; places = shown_limit; bytes = text_limit } }
+    {
+        Shown {
+            hits: Vec::new(alloc),
+            places: SHOWN_LIMIT,
+            bytes: TEXT_LIMIT,
+        }
+    }
+
+    pub(crate) fn hits(&self) -> &[ReleaseHit<'a>]
+        ensures { result.now ≡ self.now.hits }
+    {
+        &self.hits
+    }
+
+    /// Adds a hit, if there is room for it. Otherwise no later one is added either.
+    pub(crate) fn add(&mut self, found: &ReleaseHit<'a>) -> Result<(), AllocError>
+        ensures { OnOk result (self.new ≡ with_shown self.old found.now) }
+    {
+        if self.places == 0 {
+            return Ok(());
+        }
+        let bytes = bytes_after(self.bytes, found);
+        if bytes > 0 {
+            self.hits.push(found.again())?;
+            self.places -= 1;
+            self.bytes = bytes;
+        } else {
+            self.places = 0;
+        }
+        Ok(())
+    }
+}

@@ -1,0 +1,100 @@
+-- Histories with further events.
+use Rattle.std.proofs.Common.{◌≡◌, ℕ, Bool, List, [], ◌∷◌, ◌++◌, Option, Some, None, inl, inr, sym, subst, append_assoc}
+use Rattle.httparse.specs.Grammar.{RequestHead}
+use Rattle.feed_keep.specs.declared.keep.Keep.{Ghosts}
+use Rattle.feed_model.specs.History.{History}
+use Rattle.feed_names.specs.ReleaseName.{Name}
+use Rattle.feed_names.specs.declared.release_name.NameFault.{NameFault}
+use Rattle.feed_http.specs.declared.fetching.got.Got.{Got}
+use Rattle.std.specs.Prelude.{Result}
+use Rattle.feed_fetch.specs.declared.stop.RequestFault.{RequestFault}
+use Rattle.node_machine.specs.declared.fetching.Fetching.{Fetching}
+use Rattle.node_machine.specs.declared.machine.NodeMachine.{NodeMachine}
+use Rattle.node_machine.specs.Exchanges.{ExchangeEvent, ended_response, part_of}
+use Rattle.node_machine.specs.NodeEvents.{NodeEvent, Accepted, Served, Asked, Began, Finished, Took, TookPart, Exchanged, accepted_in}
+use Rattle.node_machine.specs.Rules.{Terms}
+use Rattle.node_machine.specs.Promise.{NodeIsRight, IsRightAfter}
+use Rattle.node_machine.specs.Nodes.{HasHistory, HasServed, HasAdvanced, HasBegun, HasFinished, HasExchanged, HasTaken, HasTakenPart, IsLater, KeepsHistory}
+
+module _ {T K S : Type 0} {k : Ghosts K} (wanted : S → RequestHead → ℕ)
+    (replies : S → Terms → History → List ℕ → List ℕ → Bool → List ℕ → Type 0) where
+  pub later_kept : (old new : NodeMachine T K S k) → KeepsHistory wanted replies old new → IsLater wanted replies old new
+  later_kept old new keeps = record { history = λ history has. ([], keeps history has) }
+
+  pub later_by : (event : NodeEvent) (old new : NodeMachine T K S k)
+      → ((history : List NodeEvent) → HasHistory wanted replies old history → HasHistory wanted replies new (event ∷ history)) → IsLater wanted replies old new
+  later_by event old new has = record { history = λ history was. (event ∷ [], has history was) }
+
+  pub later_accepted : (result : Option ℕ) (old new : NodeMachine T K S k)
+      → ((history : List NodeEvent) → HasHistory wanted replies old history → HasHistory wanted replies new (accepted_in result history))
+      → IsLater wanted replies old new
+  later_accepted None old new has = record { history = λ history was. ([], has history was) }
+  later_accepted (Some key) old new has = record { history = λ history was. (Accepted key ∷ [], has history was) }
+
+  pub later_served : (key : ℕ) (old new : NodeMachine T K S k)
+      → ((history : List NodeEvent) → HasHistory wanted replies old history → HasServed wanted replies key new history) → IsLater wanted replies old new
+  later_served key old new has = record {
+    history = λ history was. elim (has history was) [
+      | inl same ↦ ([], same)
+      | inr (share, is) ↦ (Served key share ∷ [], is)
+    ];
+  }
+
+  pub later_advanced : (key : ℕ) (old new : NodeMachine T K S k)
+      → ((history : List NodeEvent) → HasHistory wanted replies old history → HasAdvanced wanted replies key new history) → IsLater wanted replies old new
+  later_advanced key old new has = record { history = λ history was. by history (has history was) }
+    where
+      by : (history : List NodeEvent) → HasAdvanced wanted replies key new history → (later : List NodeEvent) × HasHistory wanted replies new (later ++ history)
+      by history (inl (inl same)) = ([], same)
+      by history (inl (inr (bytes, asked, is))) = (Asked key bytes asked ∷ [], is)
+      by history (inr (share, inl is)) = (Served key share ∷ [], is)
+      by history (inr (share, inr (bytes, asked, is))) = (Asked key bytes asked ∷ Served key share ∷ [], is)
+
+  pub later_taken : (fetching : Fetching) (reply : Result Got RequestFault) (old new : NodeMachine T K S k) → old.fetching ≡ Some fetching → ended_response fetching.exchange ≡ Some reply
+      → ((history : List NodeEvent) → HasHistory wanted replies old history → HasTaken wanted replies old new history) → IsLater wanted replies old new
+  later_taken fetching reply old new is of has = record {
+    history = λ history was.
+        (let now = has history was fetching reply is of in (Took fetching.name fetching.fetch.phase reply now.0 ∷ [], now.1));
+  }
+
+  pub later_taken_part : (fetching : Fetching) (first size : ℕ) (bytes : List ℕ) (old new : NodeMachine T K S k) → old.fetching ≡ Some fetching
+      → part_of fetching.exchange ≡ Some (first, size, bytes)
+      → ((history : List NodeEvent) → HasHistory wanted replies old history → HasTakenPart wanted replies old new history)
+      → IsLater wanted replies old new
+  later_taken_part fetching first size bytes old new is of has = record {
+    history = λ history was.
+        (let now = has history was fetching first size bytes is of in (TookPart fetching.name first size bytes now.0 ∷ [], now.1));
+  }
+
+  pub later_begun : (asked : Result Name NameFault) (old new : NodeMachine T K S k) → old.requested ≡ Some asked → HasBegun wanted replies old new → IsLater wanted replies old new
+  later_begun asked old new is has = record { history = λ history was. (Began asked ∷ [], has asked history is was) }
+
+  pub later_finished : (fetching : Fetching) (old new : NodeMachine T K S k) → old.fetching ≡ Some fetching → HasFinished wanted replies old new → IsLater wanted replies old new
+  later_finished fetching old new is has = record { history = λ history was. (Finished ∷ [], has fetching history is was) }
+
+  pub later_exchanged : (event : ExchangeEvent) (old new : NodeMachine T K S k) → HasExchanged wanted replies event old new → IsLater wanted replies old new
+  later_exchanged event old new has = record { history = λ history was. (Exchanged event ∷ [], has history was) }
+
+module _ {T K S : Type 0} {k : Ghosts K} {wanted : S → RequestHead → ℕ}
+    {replies : S → Terms → History → List ℕ → List ℕ → Bool → List ℕ → Type 0} where
+  -- a node that does not change
+  pub later_same : (node : NodeMachine T K S k) → IsLater wanted replies node node
+  later_same node = record { history = λ history has. ([], has) }
+
+  pub later_as : (old new : NodeMachine T K S k) → new ≡ old → IsLater wanted replies old new
+  later_as old new same = subst (λ node. IsLater wanted replies old node) (sym same) (later_same old)
+
+  -- a node that changes twice
+  pub later_after : (first second third : NodeMachine T K S k) → IsLater wanted replies first second → IsLater wanted replies second third
+      → IsLater wanted replies first third
+  later_after first second third one other = record {
+    history = λ history has. (
+        let more = one.history history has in
+        let most = other.history (more.0 ++ history) more.1 in
+        (most.0 ++ more.0, subst (λ whole. HasHistory wanted replies third whole) (sym (append_assoc most.0 more.0 history)) most.1)
+        );
+  }
+
+  -- a node that keeps its promise after each of its histories
+  pub right_after : (old new : NodeMachine T K S k) → IsLater wanted replies old new → NodeIsRight wanted replies new → IsRightAfter wanted replies old new
+  right_after old new later right history has = let more = later.history history has in (more.0, more.1, right (more.0 ++ history) more.1)

@@ -1,0 +1,11 @@
+pub mod Connections
+pub mod Responses
+pub mod Exchanging
+pub mod Feeds
+pub mod Moments
+pub mod Shares
+pub mod Busy
+pub mod Asked
+pub mod Later
+pub mod Exchanged
+pub mod Tabled

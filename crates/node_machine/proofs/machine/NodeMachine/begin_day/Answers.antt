@@ -1,0 +1,16 @@
+use Rattle.std.proofs.Common.{refl}
+use Rattle.node_machine.specs.NodeEvents.{DayBegan}
+use Rattle.node_machine.proofs.Later.{later_by}
+use Rattle.node_machine.proofs.machine.NodeMachine.begin_day.Goals as goal
+
+pub returns-clause-later : goal.returns-clause-later
+returns-clause-later g c = later_by g.S.FeedRespond.wanted g.S.FeedRespond.responses (DayBegan c.args.today) _ _ (λ history has. record {
+  connections = has.connections;
+  feed = has.feed;
+  fetching = has.fetching;
+  idle = has.idle;
+  requested = has.requested;
+  today = refl;
+  allowed = has.allowed;
+  given = has.given;
+})

@@ -1,0 +1,29 @@
+use Rattle.std.proofs.Common.{◌≡◌, ◌∙◌, ap, sym, subst}
+use Rattle.std.specs.Prelude.{Some, option_copied}
+use Rattle.feed_answer.specs.Today.{TodayValue}
+use Rattle.feed_model.specs.Content.{IsContent}
+use Rattle.feed_releases.specs.Feeds.{recorded}
+use Rattle.node_request.specs.FetchRequests.{FetchPolicyValue}
+use Rattle.node_machine.specs.NodeEvents.{busy_in, feed_history, today_in}
+use Rattle.node_machine.specs.Occasions.{IsResponseOn}
+use Rattle.node_machine.proofs.Busy.{busy_is}
+use Rattle.node_machine.proofs.Shares.{MovesBy, reply_to, serve_moves}
+use Rattle.node_machine.proofs.Tabled.{moved}
+use Rattle.node_machine.proofs.machine.NodeMachine.serve_from_feed.Goals as goal
+
+pub returns-clause-history : goal.returns-clause-history
+returns-clause-history g c = λ history has.
+    let moment = c.new-moment.result in
+    let token = option_copied c.args.self.now.token in
+    let content = subst (λ feed. IsContent (recorded {K = g.row.K.Denot} {k = g.K.Keep} feed) (feed_history history)) (sym c.new-moment.ensures.feed) has.feed in
+    let named : moment.occasion.policy.token ≡ token = ap (λ (policy : FetchPolicyValue). policy.token) c.new-moment.ensures.policy ∙ c.policy-policy.ensures.token in
+    let busy : moment.occasion.policy.is_busy ≡ busy_in history = ap (λ (policy : FetchPolicyValue). policy.is_busy) c.new-moment.ensures.policy ∙ c.policy-policy.ensures.busy
+    ∙ sym (busy_is g.S.FeedRespond.wanted g.S.FeedRespond.responses c.args.self.now history has) in
+    let day : today_in history ≡ Some moment.occasion.today = has.today ∙ ap (λ (today : TodayValue). Some today) (sym c.new-moment.ensures.today) in
+    let moves = serve_moves (g.S.FeedRespond.wanted moment.responder.now, g.S.FeedRespond.responses moment.responder.now)
+    (IsResponseOn (g.S.FeedRespond.responses moment.responder.now) moment.occasion) token moment.occasion.is_local moment.occasion.today c.args.turn.key c.serve_peer.result
+    c.args.share.now c.serve_peer.new.share c.args.self.now.table c.serve_peer.new.self history
+    (reply_to (g.S.FeedRespond.responses moment.responder.now) moment.occasion token (busy_in history) (feed_history history) named busy content)
+    c.serve_peer.ensures.served c.serve_peer.ensures.others c.serve_peer.ensures.absent has.connections day in
+    moved g.S.FeedRespond.wanted g.S.FeedRespond.responses c.args.self.now c.serve_peer.new.self c.args.turn.key history
+    (subst (λ responder. MovesBy (g.S.FeedRespond.wanted responder, g.S.FeedRespond.responses responder) token c.args.turn.key c.serve_peer.new.self history) c.new-moment.ensures.responder moves) has

@@ -1,0 +1,106 @@
+-- The events of a node, the newest first.
+use Rattle.std.specs.Prelude.{◌≡◌, ◌==◌, ◌||◌, if◌then◌else◌, ℕ, Bool, List, [], ◌∷◌, ◌++◌, Option, Some, None, is_some, Result, Ok, Err}
+use Rattle.feed_answer.specs.Today.{TodayValue}
+use Rattle.feed_names.specs.ReleaseName.{Name}
+use Rattle.feed_names.specs.declared.release_name.NameFault.{NameFault}
+use Rattle.feed_model.specs.History.{History, Answer, Piece}
+use Rattle.feed_http.specs.declared.fetching.got.Got.{Got}
+use Rattle.feed_fetch.specs.declared.machine.Phase.{Phase}
+use Rattle.feed_fetch.specs.declared.stop.RequestFault.{RequestFault}
+use Rattle.node_connection.specs.Events.{Event, Elapsed}
+use Rattle.node_machine.specs.Exchanges.{ExchangeEvent, Requested, exchange_with}
+
+-- a connection was accepted under a key; the connection with this key had these events, the newest first; time passed, of
+-- which the clock of each connection counted so many milliseconds; a day began; the request with these bytes, on the
+-- connection with this key, asked for this release, or has an invalid name; the fetch of this release began, or was refused for
+-- its name; the fetch ended; the fetch of a release took the response of the knowledge base to its request, and the
+-- feed handled these events, the newest first; it took a part of a whole file, which the feed answered; on the
+-- connection to the knowledge base there was this event; or the process ended, and the node was opened again
+pub data NodeEvent : Type 0 where
+  Accepted : (key : ℕ) → NodeEvent
+  Served : (key : ℕ) → (share : List Event) → NodeEvent
+  Passed : (millis : ℕ → ℕ) → NodeEvent
+  DayBegan : (today : TodayValue) → NodeEvent
+  Asked : (key : ℕ) → (bytes : List ℕ) → (asked : Result Name NameFault) → NodeEvent
+  Began : (asked : Result Name NameFault) → NodeEvent
+  Finished : NodeEvent
+  Took : (name : Name) → (phase : Phase) → (reply : Result Got RequestFault) → (steps : History) → NodeEvent
+  TookPart : (name : Name) → (first size : ℕ) → (bytes : List ℕ) → (answer : Answer) → NodeEvent
+  Exchanged : (event : ExchangeEvent) → NodeEvent
+  Reopened : NodeEvent
+
+-- the events of the connection that has this key
+abbrev pub events_of : ℕ → List NodeEvent → List Event
+events_of key [] = []
+events_of key (Accepted other ∷ earlier) = if other == key then [] else events_of key earlier
+events_of key (Served other share ∷ earlier) = if other == key then share ++ events_of key earlier else events_of key earlier
+events_of key (Passed millis ∷ earlier) = Elapsed (millis key) ∷ events_of key earlier
+events_of key (Reopened ∷ earlier) = []
+events_of key (event ∷ earlier) = events_of key earlier
+
+-- the events of the feed, over all runs of the process: only a response of the knowledge base adds some
+abbrev pub feed_history : List NodeEvent → History
+feed_history [] = []
+feed_history (Took name phase reply steps ∷ earlier) = steps ++ feed_history earlier
+feed_history (TookPart name first size bytes answer ∷ earlier) = (Piece name first (Some size) bytes, answer) ∷ feed_history earlier
+feed_history (event ∷ earlier) = feed_history earlier
+
+-- what the last request asked for, if its fetch did not begin since
+abbrev pub requested_in : List NodeEvent → Option (Result Name NameFault)
+requested_in [] = None
+requested_in (Asked key bytes asked ∷ earlier) = Some asked
+requested_in (Began asked ∷ earlier) = None
+requested_in (Reopened ∷ earlier) = None
+requested_in (event ∷ earlier) = requested_in earlier
+
+-- the release, unless the name is invalid
+abbrev pub name_in : Result Name NameFault → Option Name
+name_in (Ok name) = Some name
+name_in (Err fault) = None
+
+-- the release that is fetched
+abbrev pub fetching_in : List NodeEvent → Option Name
+fetching_in [] = None
+fetching_in (Began asked ∷ earlier) = name_in asked
+fetching_in (Finished ∷ earlier) = None
+fetching_in (Reopened ∷ earlier) = None
+fetching_in (event ∷ earlier) = fetching_in earlier
+
+-- a fetch is under way, or was requested
+abbrev pub busy_in : List NodeEvent → Bool
+busy_in history = is_some (fetching_in history) || is_some (requested_in history)
+
+-- the history was this one at some moment
+abbrev pub IsMoment : List NodeEvent → List NodeEvent → Type 0
+IsMoment moment history = (later : List NodeEvent) × (later ++ moment ≡ history)
+
+-- with the event that a connection was accepted, if it was
+abbrev pub accepted_in : Option ℕ → List NodeEvent → List NodeEvent
+accepted_in None history = history
+accepted_in (Some key) history = Accepted key ∷ history
+
+-- the day that it is
+abbrev pub today_in : List NodeEvent → Option TodayValue
+today_in [] = None
+today_in (DayBegan today ∷ earlier) = Some today
+today_in (Reopened ∷ earlier) = None
+today_in (event ∷ earlier) = today_in earlier
+
+-- the events of the last exchange with the knowledge base in this run, the newest first
+abbrev pub exchange_in : List NodeEvent → List ExchangeEvent
+exchange_in [] = []
+exchange_in (Exchanged event ∷ earlier) = exchange_with event (exchange_in earlier)
+exchange_in (Reopened ∷ earlier) = []
+exchange_in (event ∷ earlier) = exchange_in earlier
+
+-- the bytes of a whole file that the feed took in parts since the last request
+abbrev pub given_after : ExchangeEvent → List ℕ → List ℕ
+given_after (Requested name piece phase front request) given = []
+given_after event given = given
+
+abbrev pub given_in : List NodeEvent → List ℕ
+given_in [] = []
+given_in (TookPart name first size bytes answer ∷ earlier) = given_in earlier ++ bytes
+given_in (Exchanged event ∷ earlier) = given_after event (given_in earlier)
+given_in (Reopened ∷ earlier) = []
+given_in (event ∷ earlier) = given_in earlier

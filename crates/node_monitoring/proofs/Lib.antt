@@ -1,0 +1,13 @@
+pub mod Steps
+pub mod LabelsRead
+pub mod Buckets
+pub mod EscapedTexts
+pub mod LineParts
+pub mod LastParts
+pub mod LinesWritten
+pub mod ReportHeads
+pub mod Counted
+pub mod LastFields
+pub mod Shown
+pub mod PlainLines
+pub mod HeadLines

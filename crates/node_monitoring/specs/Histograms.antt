@@ -1,0 +1,25 @@
+-- The times that a histogram has observed, in microseconds.
+use Rattle.std.specs.Prelude.{◌≡◌, ◌<◌, ◌+◌, ℕ, nat_le, List, length, sum, count_by, slice_index, if◌then◌else◌}
+use Rattle.node_monitoring.specs.declared.histogram.TheConstants.{BOUNDS}
+use Rattle.node_monitoring.specs.Counts.{capped}
+
+-- the counts of the buckets, the count of all times, and their sum
+pub record HistogramValue : Type 0 where
+  pub buckets : List ℕ
+  pub count : ℕ
+  pub sum : ℕ
+
+-- a count, with one more if a time is within a bound
+abbrev pub one_more : ℕ → ℕ → ℕ → ℕ
+one_more count bound micros = if nat_le micros bound then capped (count + 1) else count
+
+-- how many times are within a bound
+abbrev pub within : ℕ → List ℕ → ℕ
+within bound observed = count_by (λ micros. nat_le micros bound) observed
+
+-- each bucket has the number of times within its bound, and the count and the sum are those of all times
+pub record HasObserved (h : HistogramValue) (observed : List ℕ) : Type 0 where
+  pub size : length h.buckets ≡ 12
+  pub buckets : (k : ℕ) → k < 12 → slice_index h.buckets k ≡ capped (within (slice_index BOUNDS k) observed)
+  pub count : h.count ≡ capped (length observed)
+  pub sum : h.sum ≡ capped (sum observed)

@@ -1,0 +1,97 @@
+//! The histogram of the microseconds that requests take.
+ghost use Rattle.std.specs.Prelude.{◌≡◌, ◌<◌, ℕ, IfOk, List, [], ◌∷◌};
+ghost use Rattle.std.specs.Prelude.{IsTrue, length, nat_le, slice_index};
+ghost use Rattle.node_monitoring.specs.Histograms.{HasObserved, one_more};
+
+use std::alloc::{AllocError, Global};
+use std::marker::Model;
+
+/// The greatest time of each bucket, in microseconds.
+pub const BOUNDS: [u64; 12] = [
+    250, 500, 1_000, 2_500, 5_000, 10_000, 25_000, 100_000, 250_000, 1_000_000, 5_000_000,
+    30_000_000,
+];
+
+/// The times of requests: how many are within each bound, how many there are, and their sum.
+#[derive(Drop)]
+pub(crate) struct Histogram {
+    buckets: Vec<u64>,
+    count: u64,
+    sum: u64,
+}
+
+impl Model for Histogram {
+    ghost use Rattle.node_monitoring.specs.Histograms.{HistogramValue};
+
+    ghost Value = { HistogramValue };
+
+    ghost view = { λ h. record { buckets = h.buckets.items; count = h.count; sum = h.sum } };
+}
+
+// Returns the count, with one more if a time is within a bound.
+fn one_more(count: u64, bound: u64, micros: u64) -> u64
+    ensures { result ≡ one_more count bound micros }
+{
+    if micros <= bound {
+        count.saturating_add(1)
+    } else {
+        count
+    }
+}
+
+// Counts a time in each bucket whose bound it is within.
+fn count_in(buckets: &mut [u64], micros: u64)
+    ensures { (k : ℕ) → k < length buckets.old → k < 12
+        → slice_index buckets.new k ≡ one_more (slice_index buckets.old k) (slice_index BOUNDS k) micros }
+{
+    for place in 0..buckets.len().min(12) {
+        buckets[place] = one_more(buckets[place], BOUNDS[place], micros);
+    }
+}
+
+impl Histogram {
+    /// Returns a histogram of no times.
+    pub(crate) fn new(alloc: Global) -> Result<Histogram, AllocError>
+        ensures { IfOk result (λ histogram. HasObserved histogram []) }
+    {
+        Ok(Histogram {
+            buckets: Vec::from_elem(alloc, 0, 12)?,
+            count: 0,
+            sum: 0,
+        })
+    }
+
+    /// Observes a time.
+    pub(crate) fn observe(&mut self, micros: u64)
+        ensures { (observed : List ℕ) → HasObserved self.old observed
+            → HasObserved self.new (micros ∷ observed) }
+    {
+        count_in(&mut self.buckets, micros);
+        self.count = self.count.saturating_add(1);
+        self.sum = self.sum.saturating_add(micros);
+    }
+
+    /// Returns how many times are within the bound at a place.
+    pub(crate) fn bucket(&self, place: usize) -> u64
+        ensures { result ≡ slice_index self.now.buckets place }
+    {
+        match self.buckets.get(place) {
+            Some(count) => *count,
+            None => 0,
+        }
+    }
+
+    /// Returns how many times there are.
+    pub(crate) fn count(&self) -> u64
+        ensures { result ≡ self.now.count }
+    {
+        self.count
+    }
+
+    /// Returns the sum of the times in microseconds.
+    pub(crate) fn sum(&self) -> u64
+        ensures { result ≡ self.now.sum }
+    {
+        self.sum
+    }
+}

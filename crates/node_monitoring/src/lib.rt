@@ -1,0 +1,48 @@
+//! Monitoring of a node: its counters with their text in the Prometheus exposition format (version 0.0.4), its
+//! responses about its metrics and its health, what a request adds to the counters, and the line of a request in the
+//! access log, in which each text of a client is escaped.
+#![tactic(auto)]
+
+mod client;
+mod counter;
+mod counters;
+mod exchange;
+mod histogram;
+mod laws;
+mod line_log;
+mod log_entry;
+mod log_escape;
+mod log_fragment;
+mod log_line;
+mod log_time;
+mod metrics;
+mod metrics_fragment;
+mod metrics_text;
+mod report;
+mod report_response;
+mod report_text;
+mod request_kind;
+mod request_line;
+mod shown_line;
+mod shown_path;
+mod starting;
+
+pub use client::last_element;
+pub use counter::Counter;
+pub use exchange::{put_exchange, record_exchange};
+pub use histogram::BOUNDS;
+pub use laws::{
+    counters_never_fall, escaped_is_visible, escaped_reads_back, histogram_is_cumulative,
+    label_reads_back, line_splits, lines_are_plain,
+};
+pub use line_log::{DroppedLines, LineLog};
+pub use log_entry::{LogEntry, put_line};
+pub use log_line::{LogPolicy, LoggedExchange};
+pub use metrics::Metrics;
+pub use metrics_text::{Gauges, ReleaseTime, put_metrics};
+pub use report::{Report, ReportRequest, gets_report};
+pub use report_response::respond_about_node;
+pub use report_text::{ReportKind, ReportResponse};
+pub use request_kind::{StatusClass, Target};
+pub use request_line::{RequestLine, first_line, without_query_part};
+pub use starting::respond_at_start;

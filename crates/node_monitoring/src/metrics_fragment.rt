@@ -1,0 +1,92 @@
+//! The fragments of the text of metrics.
+ghost use Rattle.std.specs.Prelude.{◌≡◌, ◌++◌, OnOk};
+ghost use Rattle.node_monitoring.specs.Labels.{label_byte, label_text};
+ghost use Rattle.node_monitoring.specs.MetricsFragments.{digit, seconds_text, six_digits};
+
+use feed_bytes::{PutFragment, put_number};
+use std::alloc::AllocError;
+
+/// A fragment of the text.
+#[derive(Clone, Copy)]
+pub(crate) enum MetricsFragment<'a> {
+    /// These bytes.
+    Plain(&'a [u8]),
+    /// The value of a label, between its quotes.
+    Label(&'a [u8]),
+    /// A number in decimal digits.
+    Number(u64),
+    /// A time of microseconds, as seconds.
+    Seconds(u64),
+}
+
+pub(crate) fn put(out: &mut Vec<u8>, text: &[u8]) -> Result<(), AllocError>
+    ensures { OnOk result (out.new.items ≡ out.old.items ++ text.now) }
+{
+    Ok(out.extend_from_slice(text)?)
+}
+
+fn put_label_byte(out: &mut Vec<u8>, byte: u8) -> Result<(), AllocError>
+    ensures { OnOk result (out.new.items ≡ out.old.items ++ label_byte byte) }
+{
+    match byte {
+        b'\\' => put(out, b"\\\\"),
+        b'"' => put(out, b"\\\""),
+        b'\n' => put(out, b"\\n"),
+        _ => Ok(out.push(byte)?),
+    }
+}
+
+// Writes the value of a label: `\`, `"` and the end of a line are escaped.
+fn put_label(out: &mut Vec<u8>, text: &[u8]) -> Result<(), AllocError>
+    ensures { OnOk result (out.new.items ≡ out.old.items ++ label_text text.now) }
+{
+    for byte in text {
+        put_label_byte(out, *byte)?;
+    }
+    Ok(())
+}
+
+fn digit(number: u64) -> u8
+    ensures { result ≡ digit number }
+{
+    b'0' + (number % 10) as u8
+}
+
+fn put_six_digits(out: &mut Vec<u8>, number: u64) -> Result<(), AllocError>
+    ensures { OnOk result (out.new.items ≡ out.old.items ++ six_digits number) }
+{
+    put(
+        out,
+        &[
+            digit(number / 100_000),
+            digit(number / 10_000),
+            digit(number / 1_000),
+            digit(number / 100),
+            digit(number / 10),
+            digit(number),
+        ],
+    )
+}
+
+fn put_seconds(out: &mut Vec<u8>, micros: u64) -> Result<(), AllocError>
+    ensures { OnOk result (out.new.items ≡ out.old.items ++ seconds_text micros) }
+{
+    put_number(out, micros / 1_000_000)?;
+    put(out, b".")?;
+    put_six_digits(out, micros)
+}
+
+impl PutFragment for MetricsFragment<'_> {
+    ghost use Rattle.node_monitoring.specs.MetricsFragments.{fragment_text};
+
+    ghost text = { fragment_text };
+
+    fn put(&self, out: &mut Vec<u8>) -> Result<(), AllocError> {
+        match self {
+            MetricsFragment::Plain(text) => put(out, text),
+            MetricsFragment::Label(text) => put_label(out, text),
+            MetricsFragment::Number(number) => put_number(out, *number),
+            MetricsFragment::Seconds(micros) => put_seconds(out, *micros),
+        }
+    }
+}

@@ -1,0 +1,14 @@
+pub mod OpenUrlTexts
+pub mod Dates
+pub mod EmbargoTexts
+pub mod Coverage
+pub mod Cards
+pub mod CitationPage
+pub mod Frames
+pub mod SearchForms
+pub mod HitsPage
+pub mod ErrorPages
+pub mod TitlesForms
+pub mod Titles
+pub mod TitlesPage
+pub mod QueryRefusals

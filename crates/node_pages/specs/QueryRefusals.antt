@@ -1,0 +1,93 @@
+-- The responses to queries for which nothing is looked up.
+use Rattle.std.specs.Prelude.{ℕ, Bool, true, false, if◌then◌else◌, List, [], ◌∷◌, ◌++◌, codes}
+use Rattle.feed_openurl.specs.Citations.{text_at}
+use Rattle.feed_openurl.specs.declared.fault.OpenUrlFault.{OpenUrlFault}
+use Rattle.feed_openurl.specs.declared.fault.OpenUrlFault.TheVariants as reason
+use Rattle.feed_openurl.specs.declared.citation_part.CitationPart.TheVariants as part
+use Rattle.form_urlencoded.specs.Form as form
+use Rattle.node_site.specs.Site as site_file
+use Rattle.node_request.specs.declared.representation.Representation.{Representation}
+use Rattle.node_request.specs.declared.representation.Representation.TheVariants.{Text, Json, Html}
+use Rattle.node_response.specs.Pages.{fault_body}
+use Rattle.node_response.specs.Fragments.{joined}
+use Rattle.node_response.specs.Responses.{ResponseValue, response_with}
+use Rattle.node_response.specs.declared.status.Status.{Status}
+use Rattle.node_response.specs.declared.status.Status.TheVariants as status
+use Rattle.node_hits.specs.AnswerJson.{answer_json}
+use Rattle.node_hits.specs.QueryFacts.{QueryFactsValue, names_work}
+use Rattle.node_hits.specs.Tallies.{tally_of}
+use Rattle.node_pages.specs.CitationPage.{citation_part}
+use Rattle.node_pages.specs.ErrorPages.{error_response}
+use Rattle.node_pages.specs.Frames.{page_top}
+use Rattle.node_pages.specs.HitsPage.{page_bottom, page_foot, paragraph}
+use Rattle.node_pages.specs.SearchForms.{search_form}
+use Rattle.node_pages.specs.TitlesForms.{titles_form}
+use Rattle.node_site.specs.declared.text_table.Text.TheVariants as page
+
+-- the name of a reason
+abbrev pub reason_text : OpenUrlFault → List ℕ
+reason_text reason.Version = codes "Version"
+reason_text reason.OtherFormat = codes "OtherFormat"
+reason_text reason.NoIssn = codes "NoIssn"
+reason_text reason.NoIsbn = codes "NoIsbn"
+reason_text reason.TooMany = codes "TooMany"
+
+-- the query has no number that is looked up, whatever its format and its version are
+abbrev pub is_numberless : OpenUrlFault → Bool
+is_numberless reason.TooMany = false
+is_numberless reason = true
+
+-- the citation of the query, that nothing is looked up, and the form for its title
+unfoldable pub nothing_part : site_file.SiteValue → List (List ℕ × List ℕ) → QueryFactsValue → List ℕ
+nothing_part site pairs ask =
+    citation_part site pairs ask ++ (paragraph site page.NoNumber ++ titles_form site (text_at ask.citation part.Title))
+
+-- the page with the form, for a query with these pairs
+unfoldable pub page_of_nothing : site_file.SiteValue → List (List ℕ × List ℕ) → QueryFactsValue → List ℕ
+page_of_nothing site pairs ask =
+    page_top site page.NothingToLookUp ++ (nothing_part site pairs ask ++ page_bottom site pairs ask)
+
+-- the same for a query as it is sent
+abbrev pub nothing_page : site_file.SiteValue → List ℕ → QueryFactsValue → List ℕ
+nothing_page site query ask = page_of_nothing site (form.parse query) ask
+
+unfoldable pub nothing_text : OpenUrlFault → List ℕ
+nothing_text why = joined (codes "nothing to look up: " ∷ reason_text why ∷ codes "\n" ∷ [])
+
+unfoldable pub nothing_json : QueryFactsValue → OpenUrlFault → List ℕ
+nothing_json ask why = answer_json ask (reason_text why) (tally_of []) (tally_of [])
+
+-- the body for such a query, by whether its citation names a work
+unfoldable pub numberless_body : site_file.SiteValue → List ℕ → Bool → Representation → QueryFactsValue → OpenUrlFault → List ℕ
+numberless_body site query named Html ask why = nothing_page site query ask
+numberless_body site query true Text ask why = nothing_text why
+numberless_body site query true Json ask why = nothing_json ask why
+numberless_body site query false Text ask why = fault_body Text (reason_text why)
+numberless_body site query false Json ask why = fault_body Json (reason_text why)
+
+-- the status of the response to such a query
+abbrev pub numberless_status : Bool → Status → Status
+numberless_status named code = if named then code else status.BadRequest
+
+-- the response to a query without a number: with this status, if its citation names a work
+abbrev pub numberless_response : site_file.SiteValue → List ℕ → Status → Representation → QueryFactsValue → OpenUrlFault → ResponseValue
+numberless_response site query code representation ask why =
+    response_with (numberless_status (names_work ask.citation) code) representation
+    (numberless_body site query (names_work ask.citation) representation ask why)
+
+-- the response is a page, and the query is empty
+abbrev pub asks_for_form : List ℕ → Representation → Bool
+asks_for_form [] Html = true
+asks_for_form query representation = false
+
+-- the page with the forms alone
+unfoldable pub form_page : site_file.SiteValue → List ℕ
+form_page site = page_top site page.FindHoldings ++ (search_form site [] ++ (titles_form site [] ++ page_foot site))
+
+-- the response to a query for which nothing is looked up: the form, if the query is empty and the response is a page;
+-- one for a query without a number; and one with too many is rejected
+abbrev pub unasked_response : site_file.SiteValue → List ℕ → Status → Representation → QueryFactsValue → OpenUrlFault → ResponseValue
+unasked_response site query code representation ask why =
+    if asks_for_form query representation then response_with status.Good Html (form_page site)
+    else if is_numberless why then numberless_response site query code representation ask why
+    else error_response site query status.BadRequest representation page.TooManyNumbers (reason_text why)

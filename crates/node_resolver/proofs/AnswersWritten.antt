@@ -1,0 +1,111 @@
+-- The answers that are written are those of the definition.
+use Rattle.std.proofs.Common.{◌≡◌, ℕ, Option, Some, None, List, option_map, [], ◌∷◌, ◌++◌, refl, sym, ap, ◌∙◌}
+use Rattle.std.proofs.lemmas.List.Sums.{fold-append}
+use Rattle.feed_answer.specs.Today.{TodayValue}
+use Rattle.node_site.specs.Site as site_file
+use Rattle.node_hits.specs.Searches.{SearchValue}
+use Rattle.feed_releases.specs.Actives.{ActiveValue}
+use Rattle.node_request.specs.declared.representation.Representation.{Representation}
+use Rattle.node_request.specs.declared.representation.Representation.TheVariants.{Text, Json, Html}
+use Rattle.std.specs.Option.{option_map_or}
+use Rattle.node_response.specs.Responses.{ResponseValue, redirect_to}
+use Rattle.node_hits.specs.Hits.{ReleaseHitValue}
+use Rattle.node_hits.specs.HitsText.{release_text}
+use Rattle.node_hits.specs.AnswerJson.{answer_json}
+use Rattle.node_hits.specs.QueryFacts.{QueryFactsValue, ask_of}
+use Rattle.node_hits.specs.Tallies.{TallyValue, sole_link, tally_of}
+use Rattle.node_hits.specs.Tallying.{RunningValue, with_look, with_looks, no_hits, tally_from}
+use Rattle.node_hits.proofs.Tallies.{tally_is}
+use Rattle.node_resolver.specs.Answers.{Sited, also_among, also_beside, release_looks, looks_among, others_among, others_beside, tally_among, texts_behind, answers_body}
+use Rattle.node_resolver.specs.AnswerTexts.{texts_from}
+use Rattle.node_pages.specs.HitsPage.{hits_page}
+
+abbrev after : List (Option ReleaseHitValue) → RunningValue
+after looks = with_looks no_hits looks
+
+texts_are : (site : site_file.SiteValue) (today : TodayValue) (search : SearchValue) (earlier : List (Option ReleaseHitValue)) (actives : List ActiveValue)
+    → texts_from site today search (after earlier) actives ≡ texts_behind site today search earlier actives
+texts_are site today search earlier [] = refl
+texts_are site today search earlier (active ∷ actives) =
+    let more = release_looks site today search active in
+    let joint : with_looks (after earlier) more ≡ after (earlier ++ more) = sym (fold-append with_look no_hits earlier more) in
+    ap (λ (r : RunningValue). release_text (tally_from (after earlier)) (tally_from r) active.name ++ texts_from site today search r actives) joint
+    ∙ ap (λ (t : TallyValue). release_text t (tally_from (after (earlier ++ more))) active.name ++ texts_from site today search (after (earlier ++ more)) actives) (tally_is earlier)
+    ∙ ap (λ (t : TallyValue). release_text (tally_of earlier) t active.name ++ texts_from site today search (after (earlier ++ more)) actives) (tally_is (earlier ++ more))
+    ∙ ap (λ t. release_text (tally_of earlier) (tally_of (earlier ++ more)) active.name ++ t) (texts_are site today search (earlier ++ more) actives)
+
+pub text_written : (representation : Representation) (text : List ℕ) (search : SearchValue) (actives : Sited) (old new : List ℕ) → representation ≡ Text
+    → new ≡ old ++ texts_from actives.library actives.today search no_hits actives.actives → new ≡ old ++ answers_body representation text search actives
+unfolding answers_body
+text_written representation text search actives old new chosen is =
+    is ∙ ap (λ t. old ++ t) (texts_are actives.library actives.today search [] actives.actives)
+    ∙ ap (λ (r : Representation). old ++ answers_body r text search actives) (sym chosen)
+
+pub json_written : (ask : QueryFactsValue) (search : SearchValue) (actives : Sited) (running also : RunningValue) (old new : List ℕ)
+    → running ≡ with_looks no_hits (looks_among search actives) → also ≡ with_looks no_hits (also_beside search actives)
+    → new ≡ old ++ answer_json ask [] (tally_from running) (tally_from also)
+    → new ≡ old ++ answer_json ask [] (tally_among search actives) (also_among search actives)
+json_written ask search actives running also old new made beside is =
+    is ∙ ap (λ (r : RunningValue). old ++ answer_json ask [] (tally_from r) (tally_from also)) made
+    ∙ ap (λ (t : TallyValue). old ++ answer_json ask [] t (tally_from also)) (tally_is (looks_among search actives))
+    ∙ ap (λ (r : RunningValue). old ++ answer_json ask [] (tally_among search actives) (tally_from r)) beside
+    ∙ ap (λ (t : TallyValue). old ++ answer_json ask [] (tally_among search actives) t) (tally_is (also_beside search actives))
+
+pub json_answered : (representation : Representation) (text : List ℕ) (ask : QueryFactsValue) (search : SearchValue) (actives : Sited) (old new : List ℕ)
+    → representation ≡ Json → ask ≡ ask_of text → new ≡ old ++ answer_json ask [] (tally_among search actives) (also_among search actives)
+    → new ≡ old ++ answers_body representation text search actives
+unfolding answers_body
+json_answered representation text ask search actives old new chosen read is =
+    is ∙ ap (λ (a : QueryFactsValue). old ++ answer_json a [] (tally_among search actives) (also_among search actives)) read
+    ∙ ap (λ (r : Representation). old ++ answers_body r text search actives) (sym chosen)
+
+pub page_written : (text : List ℕ) (site : site_file.SiteValue) (ask : QueryFactsValue) (search : SearchValue) (actives : Sited) (running also others : RunningValue) (count : ℕ) (old new : List ℕ)
+    → site ≡ actives.library → running ≡ with_looks no_hits (looks_among search actives) → also ≡ with_looks no_hits (also_beside search actives)
+    → count ≡ (tally_from running).count → others ≡ with_looks no_hits (others_beside count search actives)
+    → new ≡ old ++ hits_page site text ask (tally_from running) (tally_from also) (tally_from others)
+    → new ≡ old ++ hits_page actives.library text ask (tally_among search actives) (also_among search actives) (others_among search actives)
+page_written text site ask search actives running also others count old new of made dated counts beside is =
+    let tally : TallyValue = tally_among search actives in
+    let covered : TallyValue = also_among search actives in
+    let counted_is : count ≡ tally.count =
+    counts ∙ ap (λ (r : RunningValue). (tally_from r).count) made ∙ ap (λ (t : TallyValue). t.count) (tally_is (looks_among search actives)) in
+    is ∙ ap (λ (s : site_file.SiteValue). old ++ hits_page s text ask (tally_from running) (tally_from also) (tally_from others)) of
+    ∙ ap (λ (r : RunningValue). old ++ hits_page actives.library text ask (tally_from r) (tally_from also) (tally_from others)) made
+    ∙ ap (λ (t : TallyValue). old ++ hits_page actives.library text ask t (tally_from also) (tally_from others)) (tally_is (looks_among search actives))
+    ∙ ap (λ (r : RunningValue). old ++ hits_page actives.library text ask tally (tally_from r) (tally_from others)) dated
+    ∙ ap (λ (t : TallyValue). old ++ hits_page actives.library text ask tally t (tally_from others)) (tally_is (also_beside search actives))
+    ∙ ap (λ (r : RunningValue). old ++ hits_page actives.library text ask tally covered (tally_from r)) beside
+    ∙ ap (λ (t : TallyValue). old ++ hits_page actives.library text ask tally covered t) (tally_is (others_beside count search actives))
+    ∙ ap (λ n. old ++ hits_page actives.library text ask tally covered (tally_of (others_beside n search actives))) counted_is
+
+pub page_answered : (representation : Representation) (text : List ℕ) (ask : QueryFactsValue) (search : SearchValue) (actives : Sited) (old new : List ℕ)
+    → representation ≡ Html → ask ≡ ask_of text
+    → new ≡ old ++ hits_page actives.library text ask (tally_among search actives) (also_among search actives) (others_among search actives)
+    → new ≡ old ++ answers_body representation text search actives
+unfolding answers_body
+page_answered representation text ask search actives old new chosen read is =
+    is ∙ ap (λ (a : QueryFactsValue). old ++ hits_page actives.library text a (tally_among search actives) (also_among search actives) (others_among search actives)) read
+    ∙ ap (λ (r : Representation). old ++ answers_body r text search actives) (sym chosen)
+
+-- the link that a tally chooses
+pub best_made : (search : SearchValue) (actives : Sited) (running : RunningValue) → running ≡ with_looks no_hits (looks_among search actives)
+    → (tally_from running).best ≡ (tally_of (looks_among search actives)).best
+best_made search actives running made = ap (λ (r : RunningValue). (tally_from r).best) made ∙ ap (λ (t : TallyValue). t.best) (tally_is (looks_among search actives))
+
+pub sole_made : (search : SearchValue) (actives : Sited) (running : RunningValue) → running ≡ with_looks no_hits (looks_among search actives)
+    → sole_link (tally_from running) ≡ sole_link (tally_of (looks_among search actives))
+sole_made search actives running made = ap (λ (r : RunningValue). sole_link (tally_from r)) made ∙ ap sole_link (tally_is (looks_among search actives))
+
+pub whole_made : (search : SearchValue) (actives : Sited) (running : RunningValue) → running ≡ with_looks no_hits (looks_among search actives)
+    → (tally_from running).is_whole ≡ (tally_of (looks_among search actives)).is_whole
+whole_made search actives running made =
+    ap (λ (r : RunningValue). (tally_from r).is_whole) made ∙ ap (λ (t : TallyValue). t.is_whole) (tally_is (looks_among search actives))
+
+-- a redirect to the link, if one was copied, and another response if not
+pub linked : {A : Type 0} (text : A → List ℕ) (link : Option A) (found : Option (List ℕ)) (one : A) (other : ResponseValue) → option_map text link ≡ found → link ≡ Some one
+    → redirect_to (text one) ≡ option_map_or redirect_to found other
+linked text link found one other is some = ap (λ o. option_map_or redirect_to o other) (sym (ap (option_map text) some) ∙ is)
+
+pub unlinked : {A : Type 0} (text : A → List ℕ) (link : Option A) (found : Option (List ℕ)) (other : ResponseValue) → option_map text link ≡ found → link ≡ None
+    → other ≡ option_map_or redirect_to found other
+unlinked text link found other is none = ap (λ o. option_map_or redirect_to o other) (sym (ap (option_map text) none) ∙ is)

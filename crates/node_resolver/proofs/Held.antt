@@ -1,0 +1,168 @@
+-- The hits of a response are those of the core that the library has.
+use Rattle.std.proofs.Common.{◌≡◌, ℕ, zero, suc, List, [], ◌∷◌, ◌++◌, Bool, true, false, Option, Some, None, refl, sym, ap, ◌∙◌, subst, inl, inr, arith, map}
+use Rattle.std.specs.Prelude.{◌⊎◌, cond, filter, slice_get, take}
+use Rattle.std.specs.List.{Contains, flat_map}
+use Rattle.std.proofs.lemmas.List.Elements.{Contains-append_left, Contains-append_right, Contains-append_cases, Contains-get_or}
+use Rattle.std.proofs.lemmas.Bool.{false≢true}
+use Rattle.std.proofs.lemmas.Option.{get_or_from_slice_get, slice_get_within}
+use Rattle.feed_answer.specs.Answers.{answer_of}
+use Rattle.node_hits.specs.Searches.{SearchValue, compared}
+use Rattle.node_hits.specs.Hits.{ReleaseHitValue, best_link, held_hits, is_found, link_text, release_hit}
+use Rattle.node_hits.specs.Looks.{counted, found_in, row_limit}
+use Rattle.node_hits.specs.Ranks.{IsBestLink}
+use Rattle.node_hits.proofs.BestLinks.{best_is}
+use Rattle.node_hits.proofs.LooksPlaced.{of_answer}
+use Rattle.node_resolver.specs.Answers.{Sited, hits_among, looks_among, release_looks}
+use Rattle.node_resolver.specs.Laws.{HitsAreHeld, IsHeldHit, LinksAreHeld}
+
+-- ---- elements of lists
+
+first_is : {X : Type 0} → (x : X) (xs : List X) → Contains (x ∷ xs) x
+first_is {X} x xs = (zero, omega arith, refl)
+
+later_is : {X : Type 0} → (x : X) (xs : List X) (z : X) → Contains xs z → Contains (x ∷ xs) z
+later_is {X} x xs z has = Contains-append_right (x ∷ []) xs z has
+
+none_is : {X : Type 0} → (z : X) → ¬ (Contains [] z)
+none_is {X} z has = let less = has.1 in omega (arith, less)
+
+first_or_later : {X : Type 0} → (x : X) (xs : List X) (z : X) → Contains (x ∷ xs) z → (x ≡ z) ⊎ Contains xs z
+first_or_later {X} x xs z (zero, less, at) = inl at
+first_or_later {X} x xs z (suc k, less, at) = inr (k, omega (arith, less), at)
+
+map_has : {X Y : Type 0} → (f : X → Y) (xs : List X) (y : Y) → Contains (map f xs) y → (x : X) × Contains xs x × (y ≡ f x)
+map_has {X} {Y} f [] y has = absurd (none_is y has)
+map_has {X} {Y} f (x ∷ xs) y has = by (map_has f xs y) (first_or_later (f x) (map f xs) y has)
+  where
+    by : (Contains (map f xs) y → (w : X) × Contains xs w × (y ≡ f w)) → (f x ≡ y) ⊎ Contains (map f xs) y → (w : X) × Contains (x ∷ xs) w × (y ≡ f w)
+    by behind (inl same) = (x, first_is x xs, sym same)
+    by behind (inr later) = let rest = behind later in (rest.0, later_is x xs rest.0 rest.1, rest.2)
+
+map_gives : {X Y : Type 0} → (f : X → Y) (xs : List X) (x : X) → Contains xs x → Contains (map f xs) (f x)
+map_gives {X} {Y} f [] x has = absurd (none_is x has)
+map_gives {X} {Y} f (w ∷ xs) x has = by (map_gives f xs x) (first_or_later w xs x has)
+  where
+    by : (Contains xs x → Contains (map f xs) (f x)) → (w ≡ x) ⊎ Contains xs x → Contains (f w ∷ map f xs) (f x)
+    by behind (inl same) = subst (λ (y : Y). Contains (f w ∷ map f xs) y) (ap f same) (first_is (f w) (map f xs))
+    by behind (inr later) = later_is (f w) (map f xs) (f x) (behind later)
+
+filter_has : {X : Type 0} → (p : X → Bool) (xs : List X) (x : X) → Contains (filter p xs) x → Contains xs x × (p x ≡ true)
+filter_has {X} p [] x has = absurd (none_is x has)
+filter_has {X} p (w ∷ xs) x has = by (p w) (filter_has p xs x) refl has
+  where
+    front : (Contains (filter p xs) x → Contains xs x × (p x ≡ true)) → p w ≡ true → (w ≡ x) ⊎ Contains (filter p xs) x → Contains (w ∷ xs) x × (p x ≡ true)
+    front behind is (inl same) = (subst (λ (y : X). Contains (w ∷ xs) y) same (first_is w xs), ap p (sym same) ∙ is)
+    front behind is (inr later) = let rest = behind later in (later_is w xs x rest.0, rest.1)
+
+    by : (b : Bool) → (Contains (filter p xs) x → Contains xs x × (p x ≡ true)) → p w ≡ b
+        → Contains (cond b (w ∷ filter p xs) (filter p xs)) x → Contains (w ∷ xs) x × (p x ≡ true)
+    by true behind is has = front behind is (first_or_later w (filter p xs) x has)
+    by false behind is has = let rest = behind has in (later_is w xs x rest.0, rest.1)
+
+filter_gives : {X : Type 0} → (p : X → Bool) (xs : List X) (x : X) → Contains xs x → p x ≡ true → Contains (filter p xs) x
+filter_gives {X} p [] x has passes = absurd (none_is x has)
+filter_gives {X} p (w ∷ xs) x has passes = by (p w) (λ later. filter_gives p xs x later passes) refl (first_or_later w xs x has)
+  where
+    by : (b : Bool) → (Contains xs x → Contains (filter p xs) x) → p w ≡ b → (w ≡ x) ⊎ Contains xs x → Contains (cond b (w ∷ filter p xs) (filter p xs)) x
+    by true behind is (inl same) = subst (λ (y : X). Contains (w ∷ filter p xs) y) same (first_is w (filter p xs))
+    by true behind is (inr later) = later_is w (filter p xs) x (behind later)
+    by false behind is (inl same) = absurd (false≢true (sym is ∙ ap p same ∙ passes))
+    by false behind is (inr later) = behind later
+
+flat_has : {X Y : Type 0} → (f : X → List Y) (xs : List X) (y : Y) → Contains (flat_map f xs) y → (x : X) × Contains xs x × Contains (f x) y
+flat_has {X} {Y} f [] y has = absurd (none_is y has)
+flat_has {X} {Y} f (x ∷ xs) y has = by (flat_has f xs y) (Contains-append_cases (f x) (flat_map f xs) y has)
+  where
+    by : (Contains (flat_map f xs) y → (w : X) × Contains xs w × Contains (f w) y) → Contains (f x) y ⊎ Contains (flat_map f xs) y
+        → (w : X) × Contains (x ∷ xs) w × Contains (f w) y
+    by behind (inl own) = (x, first_is x xs, own)
+    by behind (inr later) = let rest = behind later in (rest.0, later_is x xs rest.0 rest.1, rest.2)
+
+flat_gives : {X Y : Type 0} → (f : X → List Y) (xs : List X) (x : X) (y : Y) → Contains xs x → Contains (f x) y → Contains (flat_map f xs) y
+flat_gives {X} {Y} f [] x y has own = absurd (none_is x has)
+flat_gives {X} {Y} f (w ∷ xs) x y has own = by (λ later. flat_gives f xs x y later own) (first_or_later w xs x has)
+  where
+    by : (Contains xs x → Contains (flat_map f xs) y) → (w ≡ x) ⊎ Contains xs x → Contains (f w ++ flat_map f xs) y
+    by behind (inl same) = Contains-append_left (f w) (flat_map f xs) y (subst (λ (v : X). Contains (f v) y) (sym same) own)
+    by behind (inr later) = Contains-append_right (f w) (flat_map f xs) y (behind later)
+
+take_has : {X : Type 0} → (n : ℕ) (xs : List X) (x : X) → Contains (take n xs) x → Contains xs x
+take_has {X} zero xs x has = absurd (none_is x has)
+take_has {X} (suc n) [] x has = absurd (none_is x has)
+take_has {X} (suc n) (w ∷ xs) x has = by (take_has n xs x) (first_or_later w (take n xs) x has)
+  where
+    by : (Contains (take n xs) x → Contains xs x) → (w ≡ x) ⊎ Contains (take n xs) x → Contains (w ∷ xs) x
+    by behind (inl same) = subst (λ (y : X). Contains (w ∷ xs) y) same (first_is w xs)
+    by behind (inr later) = later_is w xs x (behind later)
+
+-- ---- hits
+
+found_has : (looks : List (Option ReleaseHitValue)) (found : ReleaseHitValue) → Contains (found_in looks) found → Contains looks (Some found)
+found_has [] found has = absurd (none_is found has)
+found_has (None ∷ looks) found has = later_is None looks (Some found) (found_has looks found has)
+found_has (Some one ∷ looks) found has = by (found_has looks found) (first_or_later one (found_in looks) found has)
+  where
+    by : (Contains (found_in looks) found → Contains looks (Some found)) → (one ≡ found) ⊎ Contains (found_in looks) found → Contains (Some one ∷ looks) (Some found)
+    by behind (inl same) = subst (λ (f : ReleaseHitValue). Contains (Some one ∷ looks) (Some f)) same (first_is (Some one) looks)
+    by behind (inr later) = later_is (Some one) looks (Some found) (behind later)
+
+some_is : (one found : ReleaseHitValue) → Some one ≡ Some found → one ≡ found
+some_is one found same = cc
+
+found_gives : (looks : List (Option ReleaseHitValue)) (found : ReleaseHitValue) → Contains looks (Some found) → Contains (found_in looks) found
+found_gives [] found has = absurd (none_is (Some found) has)
+found_gives (None ∷ looks) found has = by (found_gives looks found) (first_or_later None looks (Some found) has)
+  where
+    by : (Contains looks (Some found) → Contains (found_in looks) found) → (None ≡ Some found) ⊎ Contains looks (Some found) → Contains (found_in looks) found
+    by behind (inl same) = absurd (cc)
+    by behind (inr later) = behind later
+found_gives (Some one ∷ looks) found has = by (found_gives looks found) (first_or_later (Some one) looks (Some found) has)
+  where
+    by : (Contains looks (Some found) → Contains (found_in looks) found) → (Some one ≡ Some found) ⊎ Contains looks (Some found) → Contains (one ∷ found_in looks) found
+    by behind (inl same) = subst (λ (f : ReleaseHitValue). Contains (one ∷ found_in looks) f) (some_is one found same) (first_is one (found_in looks))
+    by behind (inr later) = later_is one (found_in looks) found (behind later)
+
+held_from : (search : SearchValue) (actives : Sited) (found : ReleaseHitValue) → Contains (hits_among search actives) found → IsHeldHit search actives found
+held_from search actives found has =
+    let from = flat_has (release_looks actives.library actives.today search) actives.actives (Some found) (found_has (looks_among search actives) found has) in
+    let name = from.0.name in
+    let answer = answer_of from.0.holdings (compared search) in
+    let own = subst (λ hits. Contains hits found) (of_answer actives.library actives.today search name from.0.holdings)
+    (found_gives (release_looks actives.library actives.today search from.0) found from.2) in
+    let hit = map_has (release_hit actives.library actives.today search name) (held_hits actives.library search name answer) found own in
+    let kept = filter_has (is_found actives.library search name) answer hit.0 hit.1 in
+    record { active = from.0; hit = hit.0; is_active = from.1; answers = kept.0; held = kept.1; shown = hit.2 }
+
+held_gives : (search : SearchValue) (actives : Sited) (found : ReleaseHitValue) → IsHeldHit search actives found → Contains (hits_among search actives) found
+held_gives search actives found is =
+    let name = is.active.name in
+    let answer = answer_of is.active.holdings (compared search) in
+    let kept = filter_gives (is_found actives.library search name) answer is.hit is.answers is.held in
+    let own = map_gives (release_hit actives.library actives.today search name) (held_hits actives.library search name answer) is.hit kept in
+    let looked = found_has (release_looks actives.library actives.today search is.active) (release_hit actives.library actives.today search name is.hit)
+    (subst (λ hits. Contains hits (release_hit actives.library actives.today search name is.hit)) (sym (of_answer actives.library actives.today search name is.active.holdings)) own) in
+    subst (λ (f : ReleaseHitValue). Contains (hits_among search actives) f) (sym is.shown)
+    (found_gives (looks_among search actives) (release_hit actives.library actives.today search name is.hit)
+    (flat_gives (release_looks actives.library actives.today search) actives.actives is.active (Some (release_hit actives.library actives.today search name is.hit)) is.is_active looked))
+
+pub hits_are : HitsAreHeld
+hits_are search actives found = (held_from search actives found, held_gives search actives found)
+
+place_has : {X : Type 0} → (xs : List X) (place : ℕ) (x : X) → slice_get xs place ≡ Some x → Contains xs x
+place_has {X} xs place x at =
+    subst (λ (y : X). Contains xs y) (get_or_from_slice_get xs place x x at) (Contains-get_or xs place x (slice_get_within xs place x at))
+
+-- a hit that is counted is one of all
+counted_has : (looks : List (Option ReleaseHitValue)) (found : ReleaseHitValue) → Contains (counted looks) found → Contains (found_in looks) found
+counted_has looks found has = found_gives looks found (take_has row_limit looks (Some found) (found_has (take row_limit looks) found has))
+
+link_from : (search : SearchValue) (actives : Sited) (url : List ℕ) (best : Option (List ℕ)) → best ≡ Some url → IsBestLink (counted (looks_among search actives)) best
+    → (found : ReleaseHitValue) × IsHeldHit search actives found × (url ≡ link_text found)
+link_from search actives url None at is = absurd (cc)
+link_from search actives url (Some text) at is =
+    let same : text ≡ url = cc in
+    let looks = looks_among search actives in
+    (is.1, held_from search actives is.1 (counted_has looks is.1 (place_has (counted looks) is.0 is.1 is.2.at)), sym same ∙ is.3)
+
+pub links_are : LinksAreHeld
+links_are search actives url at = link_from search actives url (best_link (counted (looks_among search actives))) at (best_is (counted (looks_among search actives)))

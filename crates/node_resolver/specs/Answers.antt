@@ -1,0 +1,109 @@
+-- The hits of a query in active releases on a day, and the body that lists them.
+use Rattle.std.specs.Prelude.{ℕ, ◌==◌, ◌&&◌, ◌||◌, Bool, if◌then◌else◌, List, [], ◌∷◌, ◌++◌, drop, take, Option, is_some}
+use Rattle.std.specs.List.{flat_map}
+use Rattle.std.specs.Str.{bytes_eq}
+use Rattle.feed_answer.specs.Today.{TodayValue}
+use Rattle.node_site.specs.Site as site_file
+use Rattle.feed_answer.specs.QueryValue.{QueryValue}
+use Rattle.feed_releases.specs.Actives.{ActiveValue}
+use Rattle.node_request.specs.declared.representation.Representation.{Representation}
+use Rattle.node_request.specs.declared.representation.Representation.TheVariants.{Text, Json, Html}
+use Rattle.node_hits.specs.Hits.{ReleaseHitValue}
+use Rattle.node_hits.specs.Looks.{found_in, looks_in}
+use Rattle.node_hits.specs.AnswerJson.{answer_json}
+use Rattle.node_hits.specs.QueryFacts.{ask_of}
+use Rattle.node_hits.specs.Searches.{SearchValue, in_scope}
+use Rattle.node_hits.specs.declared.search.Scope.TheVariants as scope
+use Rattle.node_hits.specs.HitsText.{release_text}
+use Rattle.node_hits.specs.Tallies.{TallyValue, tally_of}
+use Rattle.node_pages.specs.HitsPage.{hits_page}
+use Rattle.node_response.specs.Tags.{SiteValue}
+
+-- the active releases, and the day on which they are asked
+pub record Dated : Type 0 where
+  pub today : TodayValue
+  pub actives : List ActiveValue
+
+abbrev pub dated : TodayValue → List ActiveValue → Dated
+dated today actives = record { today = today; actives = actives }
+
+-- the same for the readers of a library
+pub record Sited : Type 0 where
+  pub library : site_file.SiteValue
+  pub today : TodayValue
+  pub actives : List ActiveValue
+
+abbrev pub sited_by : site_file.SiteValue → TodayValue → List ActiveValue → Sited
+sited_by site today actives = record { library = site; today = today; actives = actives }
+
+abbrev pub sited : SiteValue → Dated → Sited
+sited site actives = sited_by site.library actives.today actives.actives
+
+-- the release at a place alone
+abbrev pub only_at : ℕ → Sited → Sited
+only_at place actives = sited_by actives.library actives.today (take 1 (drop place actives.actives))
+
+-- what responses are computed from, beside the requests: the settings of the node, and the active releases on the day
+pub record ContextValue : Type 0 where
+  pub site : SiteValue
+  pub actives : Dated
+
+abbrev pub sited_in : ContextValue → Sited
+sited_in context = sited context.site context.actives
+
+-- what a search finds in each row of a release that has one of its identifiers
+abbrev pub release_looks : site_file.SiteValue → TodayValue → SearchValue → ActiveValue → List (Option ReleaseHitValue)
+release_looks site today search active = looks_in site today search active.name active.holdings.rows
+
+-- the same of all the releases, in their order
+abbrev pub looks_among : SearchValue → Sited → List (Option ReleaseHitValue)
+looks_among search actives = flat_map (release_looks actives.library actives.today search) actives.actives
+
+-- the hits in all these rows
+abbrev pub hits_among : SearchValue → Sited → List ReleaseHitValue
+hits_among search actives = found_in (looks_among search actives)
+
+-- the release belongs to the package
+abbrev pub is_of : List ℕ → ActiveValue → Bool
+is_of package_name active = bytes_eq active.name.package_name package_name
+
+-- the tally of the hits in all the releases
+abbrev pub tally_among : SearchValue → Sited → TallyValue
+tally_among search actives = tally_of (looks_among search actives)
+
+-- the answers of releases as text, behind releases with these rows: the limits are on the rows and the hits of all
+abbrev pub texts_behind : site_file.SiteValue → TodayValue → SearchValue → List (Option ReleaseHitValue) → List ActiveValue → List ℕ
+texts_behind site today search earlier [] = []
+texts_behind site today search earlier (active ∷ actives) =
+    release_text (tally_of earlier) (tally_of (earlier ++ release_looks site today search active)) active.name
+    ++ texts_behind site today search (earlier ++ release_looks site today search active) actives
+
+-- the query names a date and a volume, or one of them
+abbrev pub has_both : QueryValue → Bool
+has_both query = is_some query.days && is_some query.volume
+
+abbrev pub is_placed : QueryValue → Bool
+is_placed query = is_some query.days || is_some query.volume
+
+-- the rows of the same titles whose days are covered and whose volumes are not, if the query names both
+abbrev pub also_beside : SearchValue → Sited → List (Option ReleaseHitValue)
+also_beside search actives = if has_both search.query then looks_among (in_scope scope.Dated search) actives else []
+
+abbrev pub also_among : SearchValue → Sited → TallyValue
+also_among search actives = tally_of (also_beside search actives)
+
+-- the other rows of the same titles, for any date and volume, which a query that names a date or a volume has if it has no
+-- hits of its own
+abbrev pub others_beside : ℕ → SearchValue → Sited → List (Option ReleaseHitValue)
+others_beside count search actives =
+    if (count == 0) && is_placed search.query then looks_among (in_scope scope.Others search) actives else []
+
+abbrev pub others_among : SearchValue → Sited → TallyValue
+others_among search actives = tally_of (others_beside (tally_among search actives).count search actives)
+
+-- the body of an answer from these releases, for what this text asks; as text, an answer does not repeat the query
+unfoldable pub answers_body : Representation → List ℕ → SearchValue → Sited → List ℕ
+answers_body Text text search actives = texts_behind actives.library actives.today search [] actives.actives
+answers_body Json text search actives = answer_json (ask_of text) [] (tally_among search actives) (also_among search actives)
+answers_body Html text search actives =
+    hits_page actives.library text (ask_of text) (tally_among search actives) (also_among search actives) (others_among search actives)

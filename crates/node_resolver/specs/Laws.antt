@@ -1,0 +1,84 @@
+-- The laws of responses.
+use Rattle.std.specs.Prelude.{◌≡◌, ◌↔◌, ℕ, Bool, true, All, List, Some, map}
+use Rattle.std.specs.List.{Contains, flat_map}
+use Rattle.json.specs.Json.{document, array}
+use Rattle.json.specs.Value.{items_of}
+use Rattle.feed_answer.specs.Today.{TodayValue}
+use Rattle.feed_names.specs.ReleaseName.{Name, text_of}
+use Rattle.feed_answer.specs.Answers.{answer_of, answer_text}
+use Rattle.feed_answer.specs.HitValue.{HitValue}
+use Rattle.node_hits.specs.Searches.{SearchValue, compared}
+use Rattle.feed_model.specs.History.{History, IsFile}
+use Rattle.feed_releases.specs.Actives.{ActiveValue, ReportAlike}
+use Rattle.node_request.specs.declared.representation.Representation.TheVariants.{Text, Json}
+use Rattle.node_hits.specs.Hits.{ReleaseHitValue, held_hits, is_found, link_text, release_hit}
+use Rattle.node_site.specs.Site as site_file
+use Rattle.node_response.specs.Responses.{ResponseTextValue}
+use Rattle.node_resolver.specs.Answers.{Sited, hits_among, tally_among, answers_body}
+use Rattle.node_resolver.specs.Status.{IsCountable, active_value, status_body}
+use Rattle.node_response.specs.Tags.{SiteValue}
+use Rattle.node_resolver.specs.Responses.{IsResponseAt}
+use Rattle.node_resolver.specs.NodeResponses.{IsNodeResponseAt, AsksForNoFetch}
+use Rattle.node_request.specs.FetchRequests.{FetchPolicyValue}
+
+-- the complete files that a node has stored are the published ones
+abbrev pub KeepsPublished : (Name → List ℕ) → History → Type 0
+KeepsPublished file h = (n : Name) (text : List ℕ) → IsFile h n text → text ≡ file n
+
+-- two nodes of the same version, settings and site file that report the same releases, and have stored their published
+-- files, give each request of a day the same bytes
+abbrev pub SameReleasesSameBytes : Type 0
+SameReleasesSameBytes =
+    (file : Name → List ℕ) (site : SiteValue) (today : TodayValue) (h k : History) (bytes body : List ℕ) (keeps : Bool)
+    (response reply : ResponseTextValue)
+    → KeepsPublished file h → KeepsPublished file k → ReportAlike h k
+    → IsResponseAt site today h bytes body keeps response → IsResponseAt site today k bytes body keeps reply → response ≡ reply
+
+-- two nodes of the same version, settings and site file that report the same releases, and have stored the published files,
+-- response on a day with the same bytes to each request that does not ask them to fetch, whatever their tokens are and
+-- whether they are fetching
+abbrev pub SameReleasesSameNodeBytes : Type 0
+SameReleasesSameNodeBytes =
+    (file : Name → List ℕ) (site : SiteValue) (today : TodayValue) (h k : History) (policy other : FetchPolicyValue)
+    (bytes body : List ℕ) (keeps : Bool) (response reply : ResponseTextValue)
+    → KeepsPublished file h → KeepsPublished file k → ReportAlike h k → AsksForNoFetch bytes
+    → IsNodeResponseAt site policy today h bytes body keeps response → IsNodeResponseAt site other today k bytes body keeps reply
+    → response ≡ reply
+
+-- the active releases in JSON are, by its grammar (RFC 8259), an array with one object for each, in their order
+abbrev pub StatusIsJson : Type 0
+StatusIsJson = (site : site_file.SiteValue) (actives : List ActiveValue) → All IsCountable actives
+    → document (status_body site Json actives) ≡ Some (array (items_of (map active_value actives)))
+
+-- a hit of the core in an active release, for the query that rows are compared with, that is searched for and that the
+-- library has
+pub record IsHeldHit (search : SearchValue) (actives : Sited) (found : ReleaseHitValue) : Type 0 where
+  pub active : ActiveValue
+  pub is_active : Contains actives.actives active
+  pub hit : HitValue
+  pub answers : Contains (answer_of active.holdings (compared search)) hit
+  pub held : is_found actives.library search active.name hit ≡ true
+  pub shown : found ≡ release_hit actives.library actives.today search active.name hit
+
+-- the rows that have one of a query's identifiers have exactly the hits of the core that the library has
+abbrev pub HitsAreHeld : Type 0
+HitsAreHeld = (search : SearchValue) (actives : Sited) (found : ReleaseHitValue)
+    → Contains (hits_among search actives) found ↔ IsHeldHit search actives found
+
+-- a link is that of such a hit
+abbrev pub LinksAreHeld : Type 0
+LinksAreHeld = (search : SearchValue) (actives : Sited) (url : List ℕ) → (tally_among search actives).best ≡ Some url
+    → (found : ReleaseHitValue) × IsHeldHit search actives found × (url ≡ link_text found)
+
+-- the answer of a release, as `Answer::write` prints it, without the hits that the library does not have
+abbrev pub written_answer : site_file.SiteValue → SearchValue → ActiveValue → List ℕ
+written_answer site search active =
+    answer_text (text_of active.name) (held_hits site search active.name (answer_of active.holdings (compared search)))
+
+-- a response that looks at all rows and shows all hits has, as text, the answers that `Answer::write` prints, of the
+-- hits that the library has
+abbrev pub WholeTextIsWritten : Type 0
+WholeTextIsWritten =
+    (text : List ℕ) (search : SearchValue) (actives : Sited) → (tally_among search actives).is_whole ≡ true
+    → (tally_among search actives).shown ≡ hits_among search actives
+    → answers_body Text text search actives ≡ flat_map (written_answer actives.library search) actives.actives

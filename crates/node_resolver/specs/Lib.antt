@@ -1,0 +1,11 @@
+pub mod Answers
+pub mod AnswerTexts
+pub mod Status
+pub mod Validators
+pub mod Responses
+pub mod Answered
+pub mod Messages
+pub mod NodeResponses
+pub mod FeedResponses
+pub mod Laws
+pub mod TagLaws

@@ -1,0 +1,81 @@
+//! Laws of all responses, each stated as the contract of a function with an empty body.
+ghost use Rattle.node_resolver.specs.Laws.{SameReleasesSameBytes, SameReleasesSameNodeBytes, StatusIsJson};
+ghost use Rattle.node_resolver.specs.Laws.{HitsAreHeld, LinksAreHeld, WholeTextIsWritten};
+ghost use Rattle.node_resolver.specs.Messages.{EveryPageIsUtf8, FormIsGet, GoesToBest, HeadIsHeadOfGet};
+ghost use Rattle.node_resolver.specs.Messages.{RedirectsSoleHit};
+ghost use Rattle.node_resolver.specs.TagLaws.{SameReleasesSameTag, SameInputsSameBytes, NotModifiedHasTagOfGood};
+
+/// Two nodes that report the same releases, and have stored their published files, give each request of a day the same
+/// bytes.
+pub fn same_releases_same_bytes()
+    ensures { SameReleasesSameBytes }
+{}
+
+/// The same of the responses of `respond_as_node`, to each request that does not ask a node to fetch.
+pub fn same_releases_same_node_bytes()
+    ensures { SameReleasesSameNodeBytes }
+{}
+
+/// The response to a HEAD is the head of the response to the same GET, and nothing after it.
+pub fn head_is_head_of_get()
+    ensures { HeadIsHeadOfGet }
+{}
+
+/// `/go` redirects to a hit in the rows that are looked at, and no hit in them that may be linked to ranks above it.
+pub fn goes_to_best()
+    ensures { GoesToBest }
+{}
+
+/// `/resolve` redirects only a browser, only if the library wants it, and only to the sole hit.
+pub fn redirects_sole_hit()
+    ensures { RedirectsSoleHit }
+{}
+
+/// The active releases in JSON are, by its grammar (RFC 8259), an array with one object for each, in their order. Each
+/// list must have fewer than 2^64 rows and skipped records, as every list in memory has.
+pub fn status_is_json()
+    ensures { StatusIsJson }
+{}
+
+/// The rows that have one of a query's identifiers have exactly the hits of the core that the library has.
+pub fn hits_are_held()
+    ensures { HitsAreHeld }
+{}
+
+/// A hit that the library does not have is never linked to.
+pub fn links_are_held()
+    ensures { LinksAreHeld }
+{}
+
+/// A response that looks at all rows and shows all hits has, as text, the answers that `Answer::write` prints of the
+/// hits that the library has.
+pub fn whole_text_is_written()
+    ensures { WholeTextIsWritten }
+{}
+
+/// The response to a form is that to the GET whose query is the form, without a tag.
+pub fn form_is_get()
+    ensures { FormIsGet }
+{}
+
+/// Two nodes of the same version, settings and site file that report the same releases have the same entity tags on a
+/// day.
+pub fn same_releases_same_tag()
+    ensures { SameReleasesSameTag }
+{}
+
+/// What an entity tag is made of determines the response: its bytes are the same where the version, the settings, the
+/// site file, the day and the names of the releases are, if these are published files.
+pub fn same_inputs_same_bytes()
+    ensures { SameInputsSameBytes }
+{}
+
+/// A 304 replaces a 200 alone, and has the entity tag that the 200 would have had.
+pub fn not_modified_has_tag_of_good()
+    ensures { NotModifiedHasTagOfGood }
+{}
+
+/// Each page is UTF-8, whatever the query, the lists and the site file have.
+pub fn every_page_is_utf8()
+    ensures { EveryPageIsUtf8 }
+{}

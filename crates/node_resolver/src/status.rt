@@ -1,0 +1,171 @@
+//! Writes the active releases as text, as JSON and as an HTML page, and the home page.
+ghost use Rattle.std.specs.Prelude.{◌≡◌, ◌++◌, OnOk};
+ghost use Rattle.std.specs.List.{flat_map};
+ghost use Rattle.node_response.specs.JsonLists.{items_from, json_list};
+ghost use Rattle.node_resolver.specs.Status.{active_item, active_items, active_line, active_object, status_body};
+ghost use Rattle.node_resolver.specs.Status.{counts_end, home_page, packages_part};
+
+use feed_bytes::put_all;
+use feed_kbart::Holdings;
+use feed_releases::ActiveRelease;
+use node_hits::{name_text, put_release_members};
+use node_pages::{
+    put_page_foot, put_page_top, put_search_form, put_section_heading, put_titles_form,
+};
+use node_request::Representation;
+use node_response::{Fragment, put, put_comma, put_list_end, put_list_start};
+use node_site::{SiteFile, Text, shown_package, text_of};
+use std::alloc::AllocError;
+
+#[tactic(auto, unfolding(crate::specs::Status::active_item))]
+fn put_item<'a>(
+    out: &mut Vec<u8>,
+    site: &'a SiteFile,
+    active: &'a ActiveRelease<'_>,
+) -> Result<(), AllocError>
+    ensures { OnOk result (out.new.items ≡ out.old.items ++ active_item site.now active.now) }
+{
+    put_all(
+        out,
+        &[
+            Fragment::Plain(b"<li>"),
+            Fragment::Escaped(shown_package(site, active.name().package())),
+            Fragment::Plain(b" ("),
+            Fragment::Escaped(name_text(active.name())),
+            Fragment::Plain(b")</li>\n"),
+        ],
+    )
+}
+
+fn put_each_item(
+    out: &mut Vec<u8>,
+    site: &SiteFile,
+    actives: &[ActiveRelease<'_>],
+) -> Result<(), AllocError>
+    ensures { OnOk result (out.new.items ≡ out.old.items ++ flat_map (active_item site.now) actives.now) }
+{
+    for active in actives {
+        put_item(out, site, active)?;
+    }
+    Ok(())
+}
+
+#[tactic(auto, unfolding(crate::specs::Status::active_items))]
+fn put_items(
+    out: &mut Vec<u8>,
+    site: &SiteFile,
+    actives: &[ActiveRelease<'_>],
+) -> Result<(), AllocError>
+    ensures { OnOk result (out.new.items ≡ out.old.items ++ active_items site.now actives.now) }
+{
+    put(out, b"<ul>\n")?;
+    put_each_item(out, site, actives)?;
+    put(out, b"</ul>\n")
+}
+
+#[tactic(auto, unfolding(crate::specs::Status::active_line))]
+fn put_line(out: &mut Vec<u8>, active: &ActiveRelease<'_>) -> Result<(), AllocError>
+    ensures { OnOk result (out.new.items ≡ out.old.items ++ active_line active.now) }
+{
+    put(out, name_text(active.name()))?;
+    put(out, b"\n")
+}
+
+/// Writes the active releases, a line for the name of each.
+pub(crate) fn put_lines(out: &mut Vec<u8>, actives: &[ActiveRelease<'_>]) -> Result<(), AllocError>
+    ensures { OnOk result (out.new.items ≡ out.old.items ++ flat_map active_line actives.now) }
+{
+    for active in actives {
+        put_line(out, active)?;
+    }
+    Ok(())
+}
+
+// Writes the members for the rows and the skipped records of a list, and the end of the object.
+#[tactic(auto, unfolding(crate::specs::Status::counts_end))]
+fn put_counts_end(out: &mut Vec<u8>, holdings: &Holdings) -> Result<(), AllocError>
+    ensures { OnOk result (out.new.items ≡ out.old.items ++ counts_end holdings.now) }
+{
+    put_all(
+        out,
+        &[
+            Fragment::Plain(b",\"rows\":"),
+            Fragment::Number(holdings.rows().len() as u64),
+            Fragment::Plain(b",\"skipped\":"),
+            Fragment::Number(holdings.aside().len() as u64),
+            Fragment::Plain(b"}"),
+        ],
+    )
+}
+
+#[tactic(auto, unfolding(crate::specs::Status::active_object))]
+fn put_object(out: &mut Vec<u8>, active: &ActiveRelease<'_>) -> Result<(), AllocError>
+    ensures { OnOk result (out.new.items ≡ out.old.items ++ active_object active.now) }
+{
+    put_release_members(out, active.name())?;
+    put_counts_end(out, active.holdings())
+}
+
+fn put_objects(out: &mut Vec<u8>, actives: &[ActiveRelease<'_>]) -> Result<(), AllocError>
+    ensures { OnOk result (out.new.items ≡ out.old.items ++ items_from active_object 0 actives.now) }
+{
+    for (place, active) in actives.iter().enumerate() {
+        put_comma(out, place)?;
+        put_object(out, active)?;
+    }
+    Ok(())
+}
+
+fn put_json(out: &mut Vec<u8>, actives: &[ActiveRelease<'_>]) -> Result<(), AllocError>
+    ensures { OnOk result (out.new.items ≡ out.old.items ++ json_list active_object actives.now) }
+{
+    put_list_start(out)?;
+    put_objects(out, actives)?;
+    put_list_end(out)
+}
+
+/// Writes the active releases; as a page, behind the form.
+#[tactic(auto, unfolding(crate::specs::Status::status_body))]
+pub(crate) fn put_status(
+    out: &mut Vec<u8>,
+    site: &SiteFile,
+    representation: Representation,
+    actives: &[ActiveRelease<'_>],
+) -> Result<(), AllocError>
+    ensures { OnOk result (out.new.items
+        ≡ out.old.items ++ status_body site.now representation actives.now) }
+{
+    match representation {
+        Representation::Text => put_lines(out, actives),
+        Representation::Json => put_json(out, actives),
+        Representation::Html => put_home_page(out, site, actives),
+    }
+}
+
+#[tactic(auto, unfolding(crate::specs::Status::packages_part))]
+fn put_packages(
+    out: &mut Vec<u8>,
+    site: &SiteFile,
+    actives: &[ActiveRelease<'_>],
+) -> Result<(), AllocError>
+    ensures { OnOk result (out.new.items ≡ out.old.items ++ packages_part site.now actives.now) }
+{
+    put_section_heading(out, text_of(site, Text::Packages))?;
+    put_items(out, site, actives)?;
+    put_page_foot(out, site)
+}
+
+/// Writes the page with the forms and the packages.
+#[tactic(auto, unfolding(crate::specs::Status::home_page))]
+pub(crate) fn put_home_page(
+    out: &mut Vec<u8>,
+    site: &SiteFile,
+    actives: &[ActiveRelease<'_>],
+) -> Result<(), AllocError>
+    ensures { OnOk result (out.new.items ≡ out.old.items ++ home_page site.now actives.now) }
+{
+    put_page_top(out, site, Text::FindHoldings)?;
+    put_search_form(out, site, &[])?;
+    put_titles_form(out, site, b"")?;
+    put_packages(out, site, actives)
+}

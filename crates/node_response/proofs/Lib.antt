@@ -1,0 +1,6 @@
+pub mod HeadsRead
+pub mod EscapedTexts
+pub mod JsonTexts
+pub mod Written
+pub mod Utf8Texts
+pub mod Visible

@@ -1,0 +1,13 @@
+pub mod Utf8
+pub mod Escapes
+pub mod JsonStrings
+pub mod JsonLists
+pub mod Fragments
+pub mod Pages
+pub mod Responses
+pub mod Messages
+pub mod FetchResponses
+pub mod Laws
+pub mod Tags
+pub mod TagLaws
+pub mod DayDigests

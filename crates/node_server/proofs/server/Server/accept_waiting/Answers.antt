@@ -1,0 +1,11 @@
+use Rattle.node_machine.proofs.Later.{later_after, later_same}
+use Rattle.node_server.proofs.server.Server.accept_waiting.Goals as goal
+
+pub loop-init : goal.loop-init
+loop-init g c = later_same c.args.node.now
+
+pub loop-preserved : goal.loop-preserved
+loop-preserved g c = later_after c.args.node.now c.loop.node c.accept_next.new.node c.loop.invariant c.accept_next.ensures
+
+pub returns-then-not-accept_next : goal.returns-then-not-accept_next
+returns-then-not-accept_next g c = later_after c.args.node.now c.loop.node c.accept_next.new.node c.loop.invariant c.accept_next.ensures

@@ -1,0 +1,235 @@
+//! The responses of a node to its requests.
+ghost use Rattle.std.specs.Prelude.{◌≡◌, is_some, Err, IfNone, IfOk, IfSome, MatchBool};
+ghost use Rattle.feed_model.specs.History.{History};
+ghost use Rattle.feed_model.specs.Content.{IsContent};
+ghost use Rattle.feed_releases.specs.Feeds.{recorded};
+ghost use Rattle.node_resolver.specs.NodeResponses.{SaysOfConnection};
+ghost use Rattle.feed_http_heads.specs.Options.{SaysWhetherItKeeps};
+ghost use Rattle.node_machine.specs.Occasions.{terms_of};
+ghost use Rattle.node_request.specs.FetchRequests.{IsWhetherToBegin};
+ghost use Rattle.node_service.specs.Reports.{HasReport, HasNoReport, IsReportIn};
+ghost use Rattle.node_service.specs.Responders.{IsHeldBack, IsResponseBy, IsTurnResponse, response_in};
+
+use crate::node_state::NodeState;
+use crate::release_times::release_times;
+use crate::wanted::{WantedPackage, is_answerable, missing_text};
+use feed_answer::Today;
+use feed_keep::Keep;
+use feed_releases::Feed;
+use node_connection::{BODY_LIMIT, IncomingRequest, LoggedResponse, RespondFault, ResponseSummary};
+use node_file_checks::ExpectedFile;
+use node_machine::{FeedRespond, Occasion};
+use node_monitoring::{ReportResponse, gets_report};
+use node_request::{FetchPolicy, ParsedRequest, ReceivedRequest, fetch_to_begin, form_length};
+use node_resolver::{ends_fetch, keep_releases, respond_as_node};
+use node_response::{ResponseText, Site};
+use std::alloc::{AllocError, Global};
+
+/// A responder that responds from the feed of a node.
+#[derive(Drop)]
+pub struct FeedResponder<'a> {
+    pub state: &'a NodeState,
+    /// The version, the settings and the site file, on which responses depend.
+    pub site: Site,
+    /// The version of the program.
+    pub version: &'a [u8],
+    /// Whether clients on other machines may have reports of the node, too.
+    pub has_open_reports: bool,
+    /// The packages that readers wait for.
+    pub wanted: &'a [WantedPackage],
+}
+
+// Returns the response with this response, which is streamed or not.
+fn into_response(response: ResponseText, is_streamed: bool) -> LoggedResponse
+    ensures response { response_in result ≡ response }
+    ensures streamed { result.summary.is_streamed ≡ is_streamed }
+{
+    let summary = ResponseSummary {
+        status: response.status(),
+        body_len: response.body_length(),
+        is_streamed,
+        fault: None,
+    };
+    LoggedResponse {
+        bytes: response.into_bytes(),
+        summary,
+    }
+}
+
+// Returns what a request says of the file that the node begins to fetch for it, or none if it does not begin to. So
+// only a client that has the token says anything, such as that it accepts any list.
+fn expected_by(
+    alloc: Global,
+    received: &ReceivedRequest<'_>,
+    policy: &FetchPolicy<'_>,
+) -> Option<Option<ExpectedFile>>
+    ensures { IsWhetherToBegin policy.now received.now.bytes.now (is_some result) }
+{
+    match fetch_to_begin(alloc, received, policy) {
+        Some(_) => Some(ExpectedFile::of_request(received)),
+        None => None,
+    }
+}
+
+impl<'a> FeedResponder<'a> {
+    // Returns the response to a request that is not for a report, or none to a reader while a wanted package has no
+    // active release.
+    fn response<K: Keep>(
+        &self,
+        alloc: Global,
+        occasion: &Occasion<'_, '_, K>,
+        request: &IncomingRequest<'_>,
+    ) -> Result<Option<ResponseText>, AllocError>
+        ensures reply { IfOk result (λ found. IfSome found (λ response.
+            (h : History) → IsContent (recorded occasion.now.feed.now) h
+            → IsResponseBy self.now occasion.now.policy occasion.now.today h
+            request.now.received.bytes.now request.now.body.now request.now.persists response)) }
+        ensures says { IfOk result (λ found. IfSome found (λ response.
+            SaysOfConnection request.now.received.bytes.now request.now.persists response)) }
+        ensures held { IfOk result (λ found. IfNone found (
+            (h : History) → IsContent (recorded occasion.now.feed.now) h
+            → IsHeldBack self.now occasion.now.policy h request.now.received.bytes.now request.now.persists)) }
+    {
+        let policy = &occasion.policy;
+        let feed = occasion.feed;
+        let received = &request.received;
+        match self
+            .state
+            .feed_response(alloc, received, request.persists, policy, feed)?
+        {
+            Some(response) => Ok(Some(response)),
+            None => {
+                if !is_answerable(feed, self.wanted, received) {
+                    return Ok(None);
+                }
+                let response = respond_as_node(
+                    alloc,
+                    received,
+                    request.body,
+                    request.persists,
+                    policy,
+                    &self.site,
+                    &occasion.today,
+                    feed,
+                )?;
+                Ok(Some(response))
+            }
+        }
+    }
+
+    // Returns whether the request asks for a response about the node and the client may have it.
+    fn is_report(&self, is_local: bool, received: &ReceivedRequest<'_>) -> bool
+        ensures { MatchBool result (HasReport self.now is_local received.now.bytes.now)
+            (HasNoReport self.now is_local received.now.bytes.now) }
+    {
+        gets_report(is_local, self.has_open_reports, received)
+    }
+
+    // Returns the response about the node, if the request asks for one and the client may have it.
+    #[tactic(auto, using(crate::proofs::Reported::report_in))]
+    fn report<K: Keep>(
+        &self,
+        alloc: Global,
+        occasion: &Occasion<'_, '_, K>,
+        request: &IncomingRequest<'_>,
+    ) -> Result<Option<ReportResponse>, AllocError>
+        ensures value { IfOk result (λ found. (h : History) → IsContent (recorded occasion.now.feed.now) h
+            → IsReportIn self.now occasion.now.is_local h request.now.received.bytes.now request.now.persists found) }
+        ensures says { IfOk result (λ found. IfSome found (λ reply.
+            SaysWhetherItKeeps request.now.persists reply.bytes.items)) }
+    {
+        if !self.is_report(occasion.is_local, &request.received) {
+            return Ok(None);
+        }
+        let actives = occasion.feed.actives()?;
+        let releases = release_times(alloc, &actives)?;
+        let missing = missing_text(alloc, &actives, self.wanted)?;
+        self.state
+            .report(alloc, request, self.version, &releases, &missing)
+    }
+
+    // Returns the response to a reader, or to a client that has the token. It is streamed exactly if the request makes
+    // the node begin to fetch: what this says of the file is noted. So is a request that ends the fetch under way.
+    fn reader_response<K: Keep>(
+        &self,
+        alloc: Global,
+        occasion: &Occasion<'_, '_, K>,
+        request: &IncomingRequest<'_>,
+    ) -> Result<LoggedResponse, RespondFault>
+        ensures turn { IfOk result (λ reply. (h : History) → IsContent (recorded occasion.now.feed.now) h
+            → IsTurnResponse self.now occasion.now.policy occasion.now.today h
+            request.now.received.bytes.now request.now.body.now request.now.persists
+            (response_in reply) reply.summary.is_streamed) }
+        ensures says { IfOk result (λ reply.
+            SaysOfConnection request.now.received.bytes.now request.now.persists (response_in reply)) }
+        ensures held { result ≡ Err RespondFault.Busy → (h : History) → IsContent (recorded occasion.now.feed.now) h
+            → IsHeldBack self.now occasion.now.policy h request.now.received.bytes.now request.now.persists }
+    {
+        let expected = expected_by(alloc, &request.received, &occasion.policy);
+        match self.response(alloc, occasion, request) {
+            Ok(Some(response)) => {
+                self.note(&request.received, &occasion.policy, expected);
+                Ok(into_response(response, expected.is_some()))
+            }
+            Ok(None) => Err(RespondFault::Busy),
+            Err(_) => Err(RespondFault::Memory),
+        }
+    }
+
+    // Notes what a request says of the file that the node begins to fetch for it, or that the fetch under way ends by
+    // it.
+    fn note(
+        &self,
+        received: &ReceivedRequest<'_>,
+        policy: &FetchPolicy<'_>,
+        expected: Option<Option<ExpectedFile>>,
+    ) {
+        self.note_end(received, policy);
+        if let Some(expected) = expected {
+            self.state.expect(expected);
+        }
+    }
+
+    // Has the node end the fetch that is under way, if the request asks for that and has the token.
+    fn note_end(&self, received: &ReceivedRequest<'_>, policy: &FetchPolicy<'_>) {
+        if policy.is_busy && ends_fetch(received, policy) {
+            self.state.cancel_fetch();
+        }
+    }
+}
+
+impl<'a> FeedRespond for FeedResponder<'a> {
+    ghost use Rattle.node_request.specs.Forms.{form_length};
+    ghost use Rattle.node_service.specs.Responders.{IsTurnText};
+
+    ghost wanted = { λ responder head. form_length head };
+
+    ghost responses = { IsTurnText };
+
+    fn body_len(&self, parsed: &ParsedRequest<'_>) -> usize {
+        (form_length(parsed) as usize).min(BODY_LIMIT)
+    }
+
+    fn respond<K: Keep>(
+        &self,
+        alloc: Global,
+        occasion: &Occasion<'_, '_, K>,
+        request: &IncomingRequest<'_>,
+    ) -> Result<LoggedResponse, RespondFault> {
+        match self.report(alloc, occasion, request)? {
+            Some(reply) => Ok(LoggedResponse::new(reply.bytes, reply.status, reply.body_len)),
+            None => self.reader_response(alloc, occasion, request),
+        }
+    }
+
+    fn keep_releases<K: Keep>(
+        &mut self,
+        alloc: Global,
+        today: &Today,
+        feed: &Feed<K>,
+    ) -> Result<bool, AllocError> {
+        let before = Vec::from_slice(alloc, self.site.releases().text())?;
+        keep_releases(alloc, &mut self.site, today, feed)?;
+        Ok(before.as_slice() != self.site.releases().text())
+    }
+}

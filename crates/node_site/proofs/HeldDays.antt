@@ -1,0 +1,125 @@
+-- A library has a day that is asked for and covered, if its days share one with each.
+use Rattle.std.proofs.Common.{◌≡◌, ℤ, ◌≤ℤ◌, int_le, Bool, true, false, cond, Option, Some, None, refl, arith}
+use Rattle.std.specs.Prelude.{◌&&◌, int_lt, not}
+use Rattle.std.proofs.lemmas.Int.{ints}
+use Rattle.feed_dates.specs.declared.day_range.DayRange.{DayRange}
+use Rattle.node_site.specs.Site.{HoldingValue}
+use Rattle.node_site.specs.Valid.{is_forward}
+use Rattle.node_site.specs.Held.{everything, has_asked, has_days, library_has, shares_day}
+use Rattle.node_site.specs.HeldLaws.{AllIsHeld, AreDays, Begun, HeldDaysAreShown, IsHeldDay, IsWithin, Lasts, OffIsNotHeld}
+
+both_true : (s t : Bool) → (s && t) ≡ true → (s ≡ true) × (t ≡ true)
+both_true true t h = (refl, h)
+both_true false t h = absurd (cc)
+
+not_true : (b : Bool) → not b ≡ true → b ≡ false
+not_true true h = absurd (cc)
+not_true false h = refl
+
+-- the later one of two days
+abbrev latest : Option ℤ → ℤ → ℤ
+latest None day = day
+latest (Some first) day = cond (int_le first day) day first
+
+begun_by_latest : (first : Option ℤ) (day : ℤ) → Begun first (latest first day)
+begun_by_latest None day = tt
+begun_by_latest (Some first) day = go (int_le first day) refl
+  where
+    go : (b : Bool) → int_le first day ≡ b → first ≤ℤ cond b day first
+    go true test = omega (arith, ints, test)
+    go false test = omega (arith, ints)
+
+latest_is_later : (first : Option ℤ) (day : ℤ) → day ≤ℤ latest first day
+latest_is_later None day = omega (arith, ints)
+latest_is_later (Some first) day = go (int_le first day) refl
+  where
+    go : (b : Bool) → int_le first day ≡ b → day ≤ℤ cond b day first
+    go true test = omega (arith, ints)
+    go false test = omega (arith, ints, test)
+
+begun_later : (first : Option ℤ) (day later : ℤ) → day ≤ℤ later → Begun first day → Begun first later
+begun_later None day later le begun = tt
+begun_later (Some first) day later le begun = omega (arith, ints, le, begun)
+
+latest_lasts : (first last : Option ℤ) (day : ℤ) → is_forward first last ≡ true → Lasts last day → Lasts last (latest first day)
+latest_lasts None last day test lasts = lasts
+latest_lasts (Some first) None day test lasts = tt
+latest_lasts (Some first) (Some last) day test lasts = go (int_le first day)
+  where
+    go : (b : Bool) → cond b day first ≤ℤ last
+    go true = lasts
+    go false = let less = not_true (int_lt last first) test in omega (arith, ints, less)
+
+day_lasts : (day : ℤ) (last : Option ℤ) → is_forward (Some day) last ≡ true → Lasts last day
+day_lasts day None test = tt
+day_lasts day (Some last) test = let less = not_true (int_lt last day) test in omega (arith, ints, less)
+
+-- days with a day between them are in order
+forward_by : (first last : Option ℤ) (day : ℤ) → Begun first day → Lasts last day → is_forward first last ≡ true
+forward_by None last day begun lasts = refl
+forward_by (Some first) None day begun lasts = refl
+forward_by (Some first) (Some last) day begun lasts = go (int_lt last first) refl
+  where
+    go : (b : Bool) → int_lt last first ≡ b → not b ≡ true
+    go false test = refl
+    go true test = absurd (omega (arith, ints, test, begun, lasts))
+
+shared_by : (first last other_first other_last : Option ℤ) (day : ℤ) → IsWithin first last day → IsWithin other_first other_last day
+    → shares_day first last other_first other_last ≡ true
+shared_by first last other_first other_last day one other =
+    rw (forward_by first other_last day one.begun other.lasts, forward_by other_first last day other.begun one.lasts) refl
+
+-- the latest of the first days
+held_day : (holding : HoldingValue) (first last : Option ℤ) (days : DayRange) → AreDays holding first last days
+    → has_days holding first last (Some days) ≡ true → (holding.is_held ≡ true) × (day : ℤ) × IsHeldDay holding first last days day
+held_day holding first last days are shown =
+    let switched = both_true holding.is_held (shares_day holding.first holding.last first last && has_asked holding (Some days)) shown in
+    let parts = both_true (shares_day holding.first holding.last first last) (has_asked holding (Some days)) switched.1 in
+    let coverage = both_true (is_forward holding.first last) (is_forward first holding.last) parts.0 in
+    let asking = both_true (is_forward holding.first (Some days.last)) (is_forward (Some days.first) holding.last) parts.1 in
+    let shared = both_true (is_forward first (Some days.last)) (is_forward (Some days.first) last) are.shared in
+    let early = latest first days.first in
+    let day = latest holding.first early in
+    let after = latest_is_later holding.first early in
+    let until : (end : Option ℤ) → is_forward holding.first end ≡ true → is_forward first end ≡ true → is_forward (Some days.first) end ≡ true → Lasts end day =
+    λ end one two three. latest_lasts holding.first end early one (latest_lasts first end days.first two (day_lasts days.first end three)) in (
+      switched.0,
+      day,
+      record {
+        held = record { begun = begun_by_latest holding.first early; lasts = until holding.last are.held coverage.1 asking.1 };
+        covered = record { begun = begun_later first early day after (begun_by_latest first days.first); lasts = until last coverage.0 are.covered shared.1 };
+        asked = record {
+          begun = begun_later (Some days.first) early day after (latest_is_later first days.first);
+          lasts = until (Some days.last) asking.0 shared.0 are.asked;
+        };
+      },
+    )
+
+day_held : (holding : HoldingValue) (first last : Option ℤ) (days : DayRange) (day : ℤ) → holding.is_held ≡ true → IsHeldDay holding first last days day
+    → has_days holding first last (Some days) ≡ true
+day_held holding first last days day on is =
+    rw (
+      on,
+      shared_by holding.first holding.last first last day is.held is.covered,
+      shared_by holding.first holding.last (Some days.first) (Some days.last) day is.held is.asked,
+    ) refl
+
+pub shown : HeldDaysAreShown
+shown holding first last days are = (held_day holding first last days are, λ is. day_held holding first last days is.1 is.0 is.2)
+
+pub off : OffIsNotHeld
+unfolding library_has
+off site package_id id first last asked is = rw is refl
+
+open_days : (first last : Option ℤ) → shares_day None None first last ≡ true
+open_days None None = refl
+open_days None (Some last) = refl
+open_days (Some first) last = refl
+
+open_asked : (asked : Option DayRange) → has_asked everything asked ≡ true
+open_asked None = refl
+open_asked (Some days) = refl
+
+pub all_held : AllIsHeld
+unfolding library_has
+all_held site package_id id first last asked packages titles = rw (packages, titles, open_days first last, open_asked asked) refl

@@ -1,0 +1,13 @@
+pub mod Replaceable
+pub mod Through
+pub mod Addresses
+pub mod Within
+pub mod Valid
+pub mod HeldDays
+pub mod Fillings
+pub mod Replaced
+pub mod HostNames
+pub mod Standard
+pub mod ByteKeys
+pub mod FirstRows
+pub mod Parents

@@ -1,0 +1,5 @@
+use Rattle.node_site.proofs.Through.{excepted_is_target}
+use Rattle.node_site.proofs.laws.excepted_is_direct.Goals as goal
+
+pub returns : goal.returns
+returns c = excepted_is_target

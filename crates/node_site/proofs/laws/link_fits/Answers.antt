@@ -1,0 +1,5 @@
+use Rattle.node_site.proofs.Through.{link_fits}
+use Rattle.node_site.proofs.laws.link_fits.Goals as goal
+
+pub returns : goal.returns
+returns c = link_fits

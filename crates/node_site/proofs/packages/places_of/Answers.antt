@@ -1,0 +1,15 @@
+use Rattle.std.proofs.Common.{arith}
+use Rattle.node_site.specs.Held.{is_package}
+use Rattle.node_site.specs.Site.{package_of}
+use Rattle.node_site.proofs.FirstRows.{all_rows, first_row, next_row}
+use Rattle.node_site.proofs.packages.places_of.Goals as goal
+
+pub loop-index-init : goal.loop-index-init
+loop-index-init c = λ id. first_row package_of (is_package id) c.args.rows.now.items _ (c.new-places.ensures id)
+
+pub loop-index-preserved : goal.loop-index-preserved
+loop-index-preserved c = λ id. next_row package_of (is_package id) c.args.rows.now.items c.loop-index.index c.index.result.now _ _ _
+    (omega (arith, c.loop-index-test.true)) c.index.ensures (c.in_ok-put_package.ensures id) (c.loop-index.invariant id)
+
+pub returns : goal.returns
+returns c = λ id. all_rows package_of (is_package id) c.args.rows.now.items c.loop-index.index _ _ (omega (arith, c.loop-index-test.false)) (c.loop-index.invariant id)

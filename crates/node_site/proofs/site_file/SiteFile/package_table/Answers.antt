@@ -1,0 +1,15 @@
+use Rattle.std.proofs.Common.{ap, codes, ◌∙◌}
+use Rattle.toml.specs.View.{table_view}
+use Rattle.node_site.specs.Held.{is_package}
+use Rattle.node_site.specs.Indexes.{row_in}
+use Rattle.node_site.specs.Lookups.{items_at}
+use Rattle.node_site.specs.Site.{package_of, site_of}
+use Rattle.node_site.proofs.FirstRows.{found_table}
+use Rattle.node_site.proofs.site_file.SiteFile.package_table.Goals as goal
+
+pub returns : goal.returns
+unfolding site_of
+returns c =
+    rw (← c.self.view_is) (found_table package_of (is_package c.args.id.now) (λ m. table_view m.now) c.row_in.result c.get.result
+    (items_at (codes "package") (table_view c.self.inside.document)) (c.row_in.ensures ∙ ap (row_in c.get.result) c.items_at.ensures)
+    (c.get.ensures ∙ c.self.invariant.1.packages c.args.id.now))

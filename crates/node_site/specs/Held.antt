@@ -1,0 +1,53 @@
+-- The holdings of a library among the rows of a list.
+use Rattle.std.specs.Prelude.{ℕ, ℤ, ◌&&◌, Bool, true, List, Option, Some, None, option_map, unwrap_or}
+use Rattle.std.specs.List.{find}
+use Rattle.std.specs.Str.{bytes_eq}
+use Rattle.feed_dates.specs.declared.day_range.DayRange.{DayRange}
+use Rattle.node_site.specs.Site.{HoldingValue, PackageValue, TitleValue, SiteValue}
+use Rattle.node_site.specs.Valid.{is_forward}
+
+-- the table is about this package, or about this title of it
+abbrev pub is_package : List ℕ → PackageValue → Bool
+is_package id rule = bytes_eq rule.id id
+
+abbrev pub is_title : List ℕ → List ℕ → TitleValue → Bool
+is_title package_id id rule = bytes_eq rule.package_id package_id && bytes_eq rule.id id
+
+abbrev pub holding_of_package : PackageValue → HoldingValue
+holding_of_package rule = rule.holding
+
+abbrev pub holding_of_title : TitleValue → HoldingValue
+holding_of_title rule = rule.holding
+
+-- what the first such table says, if there is one
+abbrev pub package_holding : List ℕ → List PackageValue → Option HoldingValue
+package_holding id rules = option_map holding_of_package (find (is_package id) rules)
+
+abbrev pub title_holding : List ℕ → List ℕ → List TitleValue → Option HoldingValue
+title_holding package_id id rules = option_map holding_of_title (find (is_title package_id id) rules)
+
+-- all days
+abbrev pub everything : HoldingValue
+everything = record { is_held = true; first = None; last = None }
+
+-- what the library has of a title of a package: its own table decides over that of the package, and without any it has all
+abbrev pub holding_at : SiteValue → List ℕ → List ℕ → HoldingValue
+holding_at site package_id id =
+    unwrap_or (title_holding package_id id site.titles) (unwrap_or (package_holding package_id site.packages) everything)
+
+-- the days from a first to a last one share a day with others: neither begins after the other has ended
+abbrev pub shares_day : Option ℤ → Option ℤ → Option ℤ → Option ℤ → Bool
+shares_day first last other_first other_last = is_forward first other_last && is_forward other_first last
+
+-- the library has one of the days that are asked for, if there are such
+abbrev pub has_asked : HoldingValue → Option DayRange → Bool
+has_asked holding None = true
+has_asked holding (Some days) = shares_day holding.first holding.last (Some days.first) (Some days.last)
+
+-- the library has a title, a day of its coverage, and a day that is asked for
+abbrev pub has_days : HoldingValue → Option ℤ → Option ℤ → Option DayRange → Bool
+has_days holding first last asked = holding.is_held && (shares_day holding.first holding.last first last && has_asked holding asked)
+
+-- the library has what is asked for of a row: by the package and the title, the coverage, and the days
+unfoldable pub library_has : SiteValue → List ℕ → List ℕ → Option ℤ → Option ℤ → Option DayRange → Bool
+library_has site package_id id first last asked = has_days (holding_at site package_id id) first last asked

@@ -1,0 +1,49 @@
+//! The kinds of values that a site file has.
+ghost use Rattle.std.specs.Prelude.{◌≡◌};
+ghost use Rattle.node_site.specs.Kinds.{is_of};
+
+use crate::cuts::is_sized;
+use crate::hosts::is_link;
+use crate::template::is_template;
+use crate::text::{is_color, is_date, is_language, is_package};
+
+/// A kind of value.
+#[derive(Clone, Copy)]
+pub enum ValueKind {
+    /// A text of at most 250 bytes that is not empty. A page may have it a thousand times.
+    Text,
+    /// A tag of a language, such as `en-GB`.
+    Language,
+    /// A colour, such as `#00539f`.
+    Color,
+    /// A URL of `http` or `https`.
+    Url,
+    /// Such a URL with parts of a citation in braces.
+    Template,
+    /// The name of a package.
+    Package,
+    /// A year, a month or a day.
+    Date,
+    /// `true` or `false`.
+    Switch,
+    /// A list of names of hosts.
+    Hosts,
+}
+
+impl ValueKind {
+    /// Returns whether a text is a value of this kind. A text is never a switch or a list.
+    pub(crate) fn has(self, text: &[u8]) -> bool
+        ensures { result ≡ is_of self text.now }
+    {
+        match self {
+            ValueKind::Text => is_sized(1, 250, text),
+            ValueKind::Language => is_language(text),
+            ValueKind::Color => is_color(text),
+            ValueKind::Url => is_link(text),
+            ValueKind::Template => is_template(text),
+            ValueKind::Package => is_package(text),
+            ValueKind::Date => is_date(text),
+            ValueKind::Switch | ValueKind::Hosts => false,
+        }
+    }
+}

@@ -1,0 +1,85 @@
+//! Laws of the links of a page, of the links to a request form, and of what a library has: each is the contract of a
+//! function with an empty body.
+ghost use Rattle.node_site.specs.Laws.{ExceptedIsDirect, FreeIsDirect, NoProxyIsDirect, OthersGoThrough};
+ghost use Rattle.node_site.specs.Laws.{LinkFits, SubdomainsAreWithin};
+ghost use Rattle.node_site.specs.HostLaws.{HostsAreStandard, LinksAreStandard};
+ghost use Rattle.node_site.specs.HeldLaws.{AllIsHeld, HeldDaysAreShown, OffIsNotHeld};
+ghost use Rattle.node_site.specs.RequestLaws.{PartsAddNoMarks, RequestsAreLinks, RequestsKeepHost};
+ghost use Rattle.node_site.specs.TextLaws.{TextsHaveNames};
+
+/// A link that is free to read does not go through the proxy.
+pub fn free_is_direct()
+    ensures { FreeIsDirect }
+{}
+
+/// Nor does a link to a host that needs no proxy.
+pub fn excepted_is_direct()
+    ensures { ExceptedIsDirect }
+{}
+
+/// Without a proxy each link is its target.
+pub fn no_proxy_is_direct()
+    ensures { NoProxyIsDirect }
+{}
+
+/// Every other link begins with the prefix of the proxy, and the rest is the target, or decodes to it.
+pub fn others_go_through()
+    ensures { OthersGoThrough }
+{}
+
+/// A link has no more bytes than its room.
+pub fn link_fits()
+    ensures { LinkFits }
+{}
+
+/// A domain and its subdomains are within it.
+pub fn subdomains_are_within()
+    ensures { SubdomainsAreWithin }
+{}
+
+/// The host that is shown of an address is the one that the URL Standard parses, and the address has no user, if it has
+/// no spaces and no control characters.
+pub fn hosts_are_standard()
+    ensures { HostsAreStandard }
+{}
+
+/// So is the host that is shown of each link.
+pub fn links_are_standard()
+    ensures { LinksAreStandard }
+{}
+
+/// A library has what a query asks for of a title exactly if the title is held on a day that is covered and asked for.
+pub fn held_days_are_shown()
+    ensures { HeldDaysAreShown }
+{}
+
+/// A library has nothing of a title that is switched off.
+pub fn off_is_not_held()
+    ensures { OffIsNotHeld }
+{}
+
+/// A library whose site file names no package and no title has everything.
+pub fn all_is_held()
+    ensures { AllIsHeld }
+{}
+
+/// A citation adds no byte but letters, digits and `%` to the link to a request form: it ends no value and begins no
+/// parameter.
+pub fn parts_add_no_marks()
+    ensures { PartsAddNoMarks }
+{}
+
+/// The link to a request form has the host of its template.
+pub fn requests_keep_host()
+    ensures { RequestsKeepHost }
+{}
+
+/// The link to a request form is safe in a page.
+pub fn requests_are_links()
+    ensures { RequestsAreLinks }
+{}
+
+/// Each text can be replaced by its name.
+pub fn texts_have_names()
+    ensures { TextsHaveNames }
+{}

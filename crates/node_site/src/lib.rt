@@ -1,0 +1,55 @@
+//! The site file of a library: its name and colour, its proxy, its request form, and which packages it has; and the
+//! texts of the pages in English, German and French, which it may replace.
+#![tactic(auto)]
+
+mod bytes;
+mod checks;
+mod cuts;
+mod domains;
+mod english;
+mod fault;
+mod field;
+mod french;
+mod german;
+mod held;
+mod hosts;
+mod kind;
+mod laws;
+mod links;
+mod lookup;
+mod packages;
+mod places;
+mod position;
+mod request;
+mod section;
+mod site_fault;
+mod site_file;
+mod template;
+mod text;
+mod text_names;
+mod text_table;
+mod text_words;
+mod texts;
+mod title_places;
+mod urls;
+mod values;
+
+pub use fault::ValueFault;
+pub use held::library_has;
+pub use hosts::{host_of, is_link, shown_host};
+pub use laws::{
+    all_is_held, excepted_is_direct, free_is_direct, held_days_are_shown, hosts_are_standard,
+    link_fits, links_are_standard, no_proxy_is_direct, off_is_not_held, others_go_through,
+    parts_add_no_marks, requests_are_links, requests_keep_host, subdomains_are_within,
+    texts_have_names,
+};
+pub use links::{left_beside, link_to, may_be_link, prefix_for, proxied};
+pub use packages::{name_for_readers, package_place, shown_package};
+pub use position::Position;
+pub use request::{CitedTitle, request_link};
+pub use site_fault::{KeyFault, SiteFault};
+pub use site_file::{SITE_LIMIT, SiteFile};
+pub use text_table::{TEXTS, Text};
+pub use text_words::is_name;
+pub use texts::{Language, text_of};
+pub use urls::{begins_with, is_all_visible};

@@ -1,0 +1,4 @@
+pub mod Titles
+pub mod Walks
+pub mod TitleSearches
+pub mod Laws
