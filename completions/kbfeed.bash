@@ -4,7 +4,7 @@ _kbfeed() {
   local word=${COMP_WORDS[COMP_CWORD]} has_options=yes command= places=0 options= index
   COMPREPLY=()
   case ${COMP_WORDS[COMP_CWORD - 1]} in
-    '<' | '>' | '>>' | --token | --site | --wanted | --db | --scholar) compopt -o default; return ;;
+    '<' | '>' | '>>' | --token | --site | --sites | --wanted | --db | --scholar) compopt -o default; return ;;
   esac
 
   # The command, and how many words stand behind it before the cursor. Bash splits --name=VALUE at its =.
@@ -12,8 +12,8 @@ _kbfeed() {
     case $has_options${COMP_WORDS[index]} in
       yes--) has_options= ;;
       yes--name | yes--count | yes--timeout | yes--idle | yes--max-age | yes--metrics | yes--log-queries | yes--piece | \
-        yes--fetch-timeout | yes--clients | yes--from | yes--token | yes--site | yes--wanted | yes--max-removed | \
-        yes--max-changed | yes--db | yes--scholar)
+        yes--fetch-timeout | yes--clients | yes--from | yes--token | yes--site | yes--sites | yes--wanted | \
+        yes--max-removed | yes--max-changed | yes--db | yes--scholar)
         [[ ${COMP_WORDS[index + 1]} == = ]] && ((index++))
         ((index++)) ;;
       yes-?*) ;;
@@ -29,8 +29,8 @@ _kbfeed() {
     openurl) options='-h --help -v --verbose --json' ;;
     serve) options='-h --help -v --verbose --count --timeout' ;;
     node)
-      options='-h --help -v --verbose --check --from --token --site --wanted --piece --fetch-timeout --any-type
-        --max-shrink --clients --timeout --idle --max-age --metrics --forwarded --log-queries' ;;
+      options='-h --help -v --verbose --check --from --token --site --sites --wanted --piece --fetch-timeout
+        --any-type --max-shrink --clients --timeout --idle --max-age --metrics --forwarded --log-queries' ;;
     fetch) options='-h --help -v --verbose --piece --timeout' ;;
     export) options='-h --help -v --verbose --scholar' ;;
     replay | answer | ask | status | why) options='-h --help -v --verbose' ;;

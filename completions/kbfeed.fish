@@ -15,7 +15,7 @@ function __kbfeed_place
                 case --
                     set has_options no
                 case --name --count --timeout --idle --max-age --metrics --log-queries --piece --fetch-timeout --clients --from --token \
-                        --site --wanted --max-removed --max-changed --db --scholar
+                        --site --sites --wanted --max-removed --max-changed --db --scholar
                     set is_value yes
                 case '-?*'
                 case '*'
@@ -78,6 +78,7 @@ complete -c kbfeed -n '__kbfeed_at "node/*"' -l check -d 'Opens all that the nod
 complete -c kbfeed -n '__kbfeed_at "node/*"' -x -l from -d 'The server to fetch releases from'
 complete -c kbfeed -n '__kbfeed_at "node/*"' -r -F -l token -d 'The file with the token that authorizes a fetch'
 complete -c kbfeed -n '__kbfeed_at "node/*"' -r -F -l site -d 'The site file of the library'
+complete -c kbfeed -n '__kbfeed_at "node/*"' -x -l sites -a '(__fish_complete_directories)' -d 'The folder with the site file of each library'
 complete -c kbfeed -n '__kbfeed_at "node/*"' -r -F -l wanted -d 'The file with the packages that readers wait for'
 complete -c kbfeed -n '__kbfeed_at "node/*"' -x -l fetch-timeout -d 'Seconds that a fetch may take'
 complete -c kbfeed -n '__kbfeed_at "node/*"' -l any-type -d 'Fetch lists of any Content-Type'

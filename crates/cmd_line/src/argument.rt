@@ -28,6 +28,11 @@ pub enum ArgumentKind {
         value: &'static str,
         needs: &'static [&'static str],
     },
+    /// As an option with a text, which excludes other options.
+    SoleText {
+        value: &'static str,
+        excludes: &'static [&'static str],
+    },
     /// As an option with a text. It is required.
     RequiredText {
         value: &'static str,
@@ -106,6 +111,7 @@ pub fn arg_of<'a>(alloc: Global, argument: &'static Argument) -> Result<Arg<'a>,
         ArgumentKind::Positionals => Ok(repeat(arg)),
         ArgumentKind::Flag { excludes } => flag(arg.long(id), excludes),
         ArgumentKind::Text { value, needs } => text(arg.long(id), value, needs),
+        ArgumentKind::SoleText { value, excludes } => sole_text(arg.long(id), value, excludes),
         ArgumentKind::RequiredText { value } => Ok(required_text(arg.long(id), value)),
         ArgumentKind::Number {
             value,
@@ -140,6 +146,14 @@ fn text<'a>(
     needs: &[&'static str],
 ) -> Result<Arg<'a>, AllocError> {
     arg.value_name(value).requires_all(needs)
+}
+
+fn sole_text<'a>(
+    arg: Arg<'a>,
+    value: &'static str,
+    excludes: &[&'static str],
+) -> Result<Arg<'a>, AllocError> {
+    arg.value_name(value).conflicts_with_all(excludes)
 }
 
 fn required_text<'a>(arg: Arg<'a>, value: &'static str) -> Arg<'a> {

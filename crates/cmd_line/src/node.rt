@@ -3,10 +3,10 @@ use crate::argument::{Argument, ArgumentKind, CLIENT_TIMEOUT, DATABASE, LISTENIN
 use crate::commands::version;
 use crate::parsing::{number, text};
 use clap::ArgMatches;
-use feed_options::{LogOptions, NodeOptions, Source};
+use feed_options::{LogOptions, NodeOptions, SitePath, Source};
 
 /// The arguments of `node`.
-pub static NODE: [Argument; 18] = [
+pub static NODE: [Argument; 19] = [
     DATABASE,
     LISTENING_ADDRESS,
     Argument {
@@ -32,11 +32,19 @@ pub static NODE: [Argument; 18] = [
     },
     Argument {
         id: "site",
-        kind: ArgumentKind::Text {
+        kind: ArgumentKind::SoleText {
             value: "FILE",
-            needs: &[],
+            excludes: &["sites"],
         },
         help: "The site file of the library: its page, its proxy and what it has",
+    },
+    Argument {
+        id: "sites",
+        kind: ArgumentKind::SoleText {
+            value: "DIR",
+            excludes: &["site"],
+        },
+        help: "The folder with the site file of each library: HOST.toml, and default.toml",
     },
     Argument {
         id: "wanted",
@@ -133,7 +141,7 @@ pub fn node_options<'a>(given: &ArgMatches<'a>) -> NodeOptions<'a> {
             has_open_reports: text(given, "metrics") == "any",
         },
         is_check: given.get_flag("check"),
-        site: given.get_str("site"),
+        site: site_path(given),
         wanted: given.get_str("wanted"),
         source: source(given),
     }
@@ -148,6 +156,14 @@ fn millis(node: &ArgMatches<'_>, id: &str) -> u64 {
 fn max_age(node: &ArgMatches<'_>) -> u32 {
     let seconds = node.get_one::<u64>("max-age").unwrap_or(0);
     seconds.min(u64::from(u32::MAX)) as u32
+}
+
+fn site_path<'a>(node: &ArgMatches<'a>) -> SitePath<'a> {
+    match (node.get_str("site"), node.get_str("sites")) {
+        (Some(file), _) => SitePath::File(file),
+        (None, Some(folder)) => SitePath::Folder(folder),
+        (None, None) => SitePath::None,
+    }
 }
 
 fn source<'a>(node: &ArgMatches<'a>) -> Option<Source<'a>> {

@@ -2,8 +2,10 @@
 #![tactic(auto)]
 
 mod command;
+mod folder;
 mod node;
 mod site;
+mod site_faults;
 mod token;
 mod wanted;
 

@@ -1,7 +1,7 @@
 //! `kbfeed node`: a link resolver that answers readers over HTTP from the database of a node, and fetches releases.
 ghost use Rattle.std.specs.Prelude.{◌≡◌, option_copied};
 
-use crate::site::{note_open_prefix, read_site};
+use crate::site::{note_open_prefixes, read_sites};
 use crate::token::Token;
 use crate::wanted::{note_missing, read_wanted};
 use cmd_database::{Database, begin_feed, close_keeper, open_feed, report_keeper};
@@ -10,10 +10,10 @@ use feed_bytes::read_number;
 use feed_console::{Console, DONE, FAILED, MISUSED, REFUSED, open_plain_file};
 use feed_http::is_host;
 use feed_keep::Keep;
-use feed_options::NodeOptions;
+use feed_options::{NodeOptions, SitePath};
 use feed_releases::{Feed, Opening};
 use node_connection::TimeLimits;
-use node_response::Site;
+use node_resolver::NodeSites;
 use node_server::{Server, Settings};
 use node_service::{
     End, NodeLog, NodeSetup, NodeState, SourceAddrs, StartFault, WantedPackage, WatchedFile, run,
@@ -30,15 +30,15 @@ const MIN_CLIENTS: usize = 16;
 /// records of the database are loaded. Until their lists are checked, readers get 503, and while a package of the file
 /// of wanted ones has no active release, which is reported (`NoRelease`). If the node has a source, a client that has
 /// the token can make it fetch a release from there. It prints a line for each request, at once. The first fault is
-/// reported: of the source (`Host`, `Read`, `Token`), of the site file (`Read`, `Site`), of the file of wanted packages
-/// (`Read`, `Wanted`), of the database, of the address (`Bind`), of a list (`Damaged`), of the sockets (`Poll`), and of
-/// a database whose file is gone (`Device`). Lines of the log that cannot be written are dropped and counted, and that
-/// is reported. A host that has no address yet is reported too (`Resolve`), and the node runs. If there are too few
-/// descriptors for all clients, that is reported (`Descriptors`), and the node answers fewer at a time, or does not
-/// start with fewer than 16.
+/// reported: of the source (`Host`, `Read`, `Token`), of the site files (`Read`, `Site`, `Holdings`, `Sites`), of the
+/// file of wanted packages (`Read`, `Wanted`), of the database, of the address (`Bind`), of a list (`Damaged`), of the
+/// sockets (`Poll`), and of a database whose file is gone (`Device`). Of a folder of site files, what is wrong with
+/// each is reported. Lines of the log that cannot be written are dropped and counted, and that is reported. A host that
+/// has no address yet is reported too (`Resolve`), and the node runs. If there are too few descriptors for all clients,
+/// that is reported (`Descriptors`), and the node answers fewer at a time, or does not start with fewer than 16.
 ///
-/// A check answers no reader, and prints `ok` if all is well. It also reports a prefix of a proxy behind which a list
-/// can add parameters (`Prefix`), which is not a fault.
+/// A check answers no reader, and prints `ok` if all is well, with the number of sites if there is a folder of them. It
+/// also reports a prefix of a proxy behind which a list can add parameters (`Prefix`), which is not a fault.
 ///
 /// # Errors
 ///
@@ -114,38 +114,38 @@ fn run_server<D: Database, O: Write, F: Write + Drop>(
     addrs: SourceAddrs,
     console: &mut Console<'_, O, F>,
 ) -> Result<u8, u8> {
-    let site = read_site(options, console)?;
+    let sites = read_sites(options, console)?;
     let wanted = read_wanted(options.wanted, console)?;
     if options.is_check {
-        note_open_prefix(&site, console);
-        return check_server(database, options, &wanted, console);
+        note_open_prefixes(&sites, console);
+        return check_server(database, options, &wanted, sites.list().len(), console);
     }
     let Ok(state) = NodeState::new(console.rt.alloc()) else {
         return Err(report_end(End::Memory, database.name(), console));
     };
     let (opening, server, file) = begin(database, options, console)?;
-    let setup = setup_of(options, token, site, addrs, &wanted, &state, file);
+    let setup = setup_of(options, token, sites, addrs, &wanted, &state, file);
     Ok(serve(database, opening, server, setup, console))
 }
 
-// Returns the setup of a node that has this token and this site.
+// Returns the setup of a node that has this token and these sites.
 fn setup_of<'a>(
     options: NodeOptions<'a>,
     token: Option<&'a Token>,
-    site: Site,
+    sites: NodeSites,
     addrs: SourceAddrs,
     wanted: &'a [WantedPackage],
     state: &'a NodeState,
     file: WatchedFile<'a>,
 ) -> NodeSetup<'a>
     ensures token { option_copied result.token ≡ option_copied token.entry }
-    ensures site { result.site ≡ site }
+    ensures sites { result.sites ≡ sites }
 {
     NodeSetup {
         options,
         token: token.map(|token| token.text()),
         addrs,
-        site,
+        sites,
         wanted,
         state,
         file,
@@ -157,6 +157,7 @@ fn check_server<D: Database, O: Write, F: Write + Drop>(
     database: &D,
     options: NodeOptions<'_>,
     wanted: &[WantedPackage],
+    sites: usize,
     console: &mut Console<'_, O, F>,
 ) -> Result<u8, u8> {
     let feed = open_feed(database, console)?;
@@ -164,7 +165,7 @@ fn check_server<D: Database, O: Write, F: Write + Drop>(
     let listening = listen(options, console);
     close_keeper(database, feed.restart(), console);
     let _server = listening?;
-    let printed = print_ok(&mut console.out);
+    let printed = print_ok(options.site, sites, &mut console.out);
     Ok(console.faults.check_print(printed, DONE))
 }
 
@@ -303,9 +304,12 @@ fn bind(rt: &HostRuntime, options: NodeOptions<'_>) -> io::Result<Server> {
     Err(last)
 }
 
-// Prints that all is open.
-fn print_ok<O: Write>(out: &mut O) -> io::Result<()> {
-    writeln!(out, "ok")?;
+// Prints that all is open, and how many sites a folder has.
+fn print_ok<O: Write>(path: SitePath<'_>, sites: usize, out: &mut O) -> io::Result<()> {
+    match path {
+        SitePath::Folder(_) => writeln!(out, "ok {sites} sites")?,
+        SitePath::File(_) | SitePath::None => writeln!(out, "ok")?,
+    }
     out.flush()
 }
 

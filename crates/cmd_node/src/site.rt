@@ -1,38 +1,117 @@
-//! The site file of a library.
+//! The site file of a library, and the holdings file beside it.
 ghost use Rattle.std.specs.Prelude.{IfOk, IfSome};
 ghost use Rattle.cmd_node.specs.Sites.{IsSiteRead};
 
-use feed_console::{Console, DONE, FAILED, REFUSED, open_plain_file, read_front};
-use feed_options::NodeOptions;
+use crate::folder::read_folder;
+use crate::site_faults::{report_holdings, report_site};
+use feed_console::{Console, DONE, FAILED, open_plain_file, read_front};
+use feed_options::{NodeOptions, SitePath};
+use node_resolver::{NamedSite, NodeSites};
 use node_response::Site;
-use node_site::{SITE_LIMIT, SiteFault};
-use std::alloc::Global;
+use node_site::{HOLDINGS_LIMIT, SITE_LIMIT, SiteFault};
+use std::alloc::{AllocError, Global};
+use std::fs::File;
 use std::io;
 use std::io::{Read, Write};
 
-/// Returns what the responses of a node with these options depend on beside its releases and the day, with the site
-/// file, if there is one. Otherwise reports the fault and returns the exit status.
-pub fn read_site<O: Write, F: Write + Drop>(
+/// Returns what the responses of a node with these options depend on beside its releases and the day: the site of each
+/// host, with the site file, if there is one, and the holdings file that it names. Otherwise reports what is wrong and
+/// returns the exit status.
+pub fn read_sites<O: Write, F: Write + Drop>(
     options: NodeOptions<'_>,
     console: &mut Console<'_, O, F>,
-) -> Result<Site, u8> {
+) -> Result<NodeSites, u8> {
     let alloc = console.rt.alloc();
-    let read = match options.site {
-        Some(path) => site_in(alloc, options, &mut open_plain_file(path, console)?),
-        None => site_in(alloc, options, &mut io::empty()),
+    let site = match options.site {
+        SitePath::Folder(folder) => return read_folder(folder, options, console),
+        SitePath::File(path) => read_site(path, options, console)?,
+        SitePath::None => match site_in(alloc, options, &mut io::empty()) {
+            Ok(Ok(site)) => site,
+            _ => return Err(console.faults.report("Memory", FAILED)),
+        },
     };
-    match read {
-        Ok(Ok(site)) => Ok(site),
-        Ok(Err(fault)) => Err(report_site(options.site, fault, console)),
-        Err(error) => Err(
-            console
-                .faults
-                .report_read(options.site.unwrap_or(""), error),
-        ),
+    let name = Vec::new(alloc);
+    match NodeSites::of_all(alloc, NamedSite { site, name }) {
+        Ok(sites) => Ok(sites),
+        Err(_) => Err(console.faults.report("Memory", FAILED)),
     }
 }
 
-// Returns the same with a site file that is read from here.
+// Reads a site file, and the holdings file that it names.
+fn read_site<O: Write, F: Write + Drop>(
+    path: &str,
+    options: NodeOptions<'_>,
+    console: &mut Console<'_, O, F>,
+) -> Result<Site, u8> {
+    let mut file = open_plain_file(path, console)?;
+    let mut site = site_of(path, None, options, &mut file, console)?;
+    let Some(list) = holdings_path(path, &site, console)? else {
+        return Ok(site);
+    };
+    let mut file = open_plain_file(list.as_str(), console)?;
+    add_holdings(list.as_str(), None, &mut site, &mut file, console)?;
+    Ok(site)
+}
+
+/// Returns the site of an open file, or reports what is wrong with it and returns the exit status. The name is that of
+/// the file in a folder.
+pub fn site_of<O: Write, F: Write + Drop>(
+    path: &str,
+    name: Option<&str>,
+    options: NodeOptions<'_>,
+    file: &mut File,
+    console: &mut Console<'_, O, F>,
+) -> Result<Site, u8> {
+    match site_in(console.rt.alloc(), options, file) {
+        Ok(Ok(site)) => Ok(site),
+        Ok(Err(fault)) => Err(report_site(path, name, fault, console)),
+        Err(error) => Err(console.faults.report_read(path, error)),
+    }
+}
+
+/// Returns the path of the holdings file that a site file names, which is beside it.
+pub fn holdings_path<O: Write, F: Write + Drop>(
+    path: &str,
+    site: &Site,
+    console: &mut Console<'_, O, F>,
+) -> Result<Option<String>, u8> {
+    let Some(name) = site.library().holdings() else {
+        return Ok(None);
+    };
+    match beside(console.rt.alloc(), path, name) {
+        Ok(list) => Ok(Some(list)),
+        Err(_) => Err(console.faults.report("Memory", FAILED)),
+    }
+}
+
+// Returns the path of a file beside another one.
+fn beside(alloc: Global, path: &str, name: &str) -> Result<String, AllocError> {
+    match path.rsplit_once('/') {
+        Some((folder, _)) => format!(in alloc; "{folder}/{name}"),
+        None => String::from_str(alloc, name),
+    }
+}
+
+/// Reads the holdings file of a site, or reports what is wrong with it and returns the exit status. The name is that of
+/// the file in a folder.
+pub fn add_holdings<O: Write, F: Write + Drop>(
+    path: &str,
+    name: Option<&str>,
+    site: &mut Site,
+    file: &mut File,
+    console: &mut Console<'_, O, F>,
+) -> Result<(), u8> {
+    let alloc = console.rt.alloc();
+    match read_front(alloc, file, HOLDINGS_LIMIT + 1) {
+        Ok(bytes) => match site.read_holdings(alloc, bytes) {
+            Ok(()) => Ok(()),
+            Err(fault) => Err(report_holdings(path, name, fault, console)),
+        },
+        Err(error) => Err(console.faults.report_read(path, error)),
+    }
+}
+
+// Returns the site that is read from here.
 fn site_in<R: Read>(
     alloc: Global,
     options: NodeOptions<'_>,
@@ -52,9 +131,18 @@ const WHOLE_REST: &str = "login?url=";
 // The end of a prefix behind which the address is percent-encoded.
 const ENCODING_END: &str = "qurl=";
 
-/// Reports a prefix of the proxy behind which a list can add parameters: one that ends in `=` and gets the address as
+/// Reports each prefix of a proxy behind which a list can add parameters: one that ends in `=` and gets the address as
 /// it is. The node runs with it.
-pub fn note_open_prefix<O: Write, F: Write + Drop>(site: &Site, console: &mut Console<'_, O, F>) {
+pub fn note_open_prefixes<O: Write, F: Write + Drop>(
+    sites: &NodeSites,
+    console: &mut Console<'_, O, F>,
+) {
+    for named in sites.list() {
+        note_open_prefix(&named.site, console);
+    }
+}
+
+fn note_open_prefix<O: Write, F: Write + Drop>(site: &Site, console: &mut Console<'_, O, F>) {
     let Some(prefix) = site.library().prefix() else {
         return;
     };
@@ -67,22 +155,4 @@ pub fn note_open_prefix<O: Write, F: Write + Drop>(site: &Site, console: &mut Co
         "addresses are not encoded behind it, so a list can add parameters: end it in qurl= if the proxy takes that",
         DONE,
     );
-}
-
-// Reports what is wrong with a site file, and returns the exit status.
-fn report_site<O: Write, F: Write + Drop>(
-    path: Option<&str>,
-    fault: SiteFault,
-    console: &mut Console<'_, O, F>,
-) -> u8 {
-    match fault {
-        SiteFault::Memory => console.faults.report("Memory", FAILED),
-        fault => {
-            let words = fault.words();
-            let line = format_args!("Site {fault}");
-            console
-                .faults
-                .report_with(line, path.unwrap_or(""), words, REFUSED)
-        }
-    }
 }

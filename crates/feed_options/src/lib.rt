@@ -7,4 +7,4 @@ mod node;
 
 pub use command::{Command, DatabaseCommand, FetchOptions, NodeCommand};
 pub use files::{CheckOptions, ComparisonForm, DiffOptions, Form, ServeOptions};
-pub use node::{LogOptions, NodeOptions, Source};
+pub use node::{LogOptions, NodeOptions, SitePath, Source};

@@ -18,8 +18,7 @@ pub struct NodeOptions<'a> {
     pub log: LogOptions,
     /// Whether the node ends once it has opened all that it needs.
     pub is_check: bool,
-    /// The path of the site file.
-    pub site: Option<&'a str>,
+    pub site: SitePath<'a>,
     /// The path of the file with the packages that readers wait for.
     pub wanted: Option<&'a str>,
     pub source: Option<Source<'a>>,
@@ -33,6 +32,17 @@ impl<'a> NodeOptions<'a> {
             None => self.version,
         }
     }
+}
+
+/// Where the site files of a node are.
+#[derive(Clone, Copy)]
+pub enum SitePath<'a> {
+    /// It has none.
+    None,
+    /// The path of one file, for all hosts.
+    File(&'a str),
+    /// The path of a folder with a file for each host.
+    Folder(&'a str),
 }
 
 /// What the log of a node shows, and who may have reports of the node.

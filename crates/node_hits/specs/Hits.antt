@@ -26,12 +26,13 @@ use Rattle.node_hits.specs.Searches.{SearchValue, compared, is_dated, is_first_a
 use Rattle.node_hits.specs.declared.search.Scope.{Scope}
 use Rattle.node_hits.specs.declared.search.Scope.TheVariants.{Hits, Dated, Others}
 
--- a hit, its release, how the days that the query asks for lie in those that are open to readers, the prefix of its link, if
--- that goes through a proxy, the place of its package in the order of the site, whether the library has all those days, and
--- whether it is a book that comes before its series
+-- a hit, its release, the days that are asked for of it, how those lie in the days that are open to readers, the prefix of its
+-- link, if that goes through a proxy, the place of its package in the order of the site, whether the library has all the days
+-- that are asked for, and whether it is a book that comes before its series
 pub record ReleaseHitValue : Type 0 where
   pub name : Name
   pub hit : HitValue
+  pub asked : Option DayRange
   pub availability : Availability
   pub prefix : Option (List ℕ)
   pub place : ℕ
@@ -46,9 +47,15 @@ is_word word text = str_eq_ignore_ascii_case (trimmed text) word
 abbrev pub is_free : RowValue → Bool
 is_free row = is_word (codes "F") row.access
 
--- the row covers full texts (coverage_depth)
+-- the row covers full texts, selected articles or abstracts (coverage_depth)
 abbrev pub is_full_text : RowValue → Bool
 is_full_text row = is_word (codes "fulltext") row.depth
+
+abbrev pub is_selection : RowValue → Bool
+is_selection row = is_word (codes "selected articles") row.depth
+
+abbrev pub is_abstracts : RowValue → Bool
+is_abstracts row = is_word (codes "abstracts") row.depth
 
 -- the days that are asked for of a title; those of a book are the days of its publication, which are not compared
 abbrev pub days_asked : Kind → Option DayRange → Option DayRange
@@ -70,6 +77,7 @@ abbrev pub release_hit : site_file.SiteValue → TodayValue → SearchValue → 
 release_hit site today search name hit = record {
   name = name;
   hit = hit;
+  asked = days_asked (kind hit.row.identifiers) (compared search).days;
   availability = availability_of today hit.row.embargo hit.row.first_day hit.row.last_day (compared search).days;
   prefix = prefix_for site hit.row.url (is_free hit.row);
   place = package_place site name.package_name;

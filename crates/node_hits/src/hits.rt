@@ -33,16 +33,15 @@ pub struct LibraryRelease<'a> {
     pub holdings: &'a Holdings,
 }
 
-/// A hit, its release, how the days that the query asks for lie in those that are open to readers, the prefix of its
-/// link, if that goes through a proxy, the place of its package in the order of the site, whether the library has all
-/// those days, and whether it is a book that comes before its series. The prefix, and whether the library has all days,
-/// are computed when they are asked for: most hits of a long answer are only counted.
+/// A hit, its release, the days that are asked for of it, how those lie in the days that are open to readers, the
+/// prefix of its link, if that goes through a proxy, the place of its package in the order of the site, whether the
+/// library has all the days that are asked for, and whether it is a book that comes before its series. The prefix, and
+/// whether the library has all days, are computed when they are asked for: most hits of a long answer are only counted.
 #[derive(Drop)]
 pub struct ReleaseHit<'a> {
     site: &'a SiteFile,
     name: &'a ReleaseName,
     row: &'a Row,
-    // The days that are asked for of the title.
     asked: Option<DayRange>,
     grade: Grade,
     availability: Availability,
@@ -62,6 +61,7 @@ impl<'a> Model for ReleaseHit<'a> {
     ghost view = { λ f. record {
       name = f.name.now;
       hit = record { row = f.row.now; grade = f.grade };
+      asked = f.asked;
       availability = f.availability;
       prefix = prefix_for f.site.now f.row.now.url (is_free f.row.now);
       place = f.place;
@@ -178,6 +178,13 @@ impl<'a> ReleaseHit<'a> {
             (Availability::Available, Grade::Inside)
         ) && is_full_text(self.row)
             && holds_days(self.site, self.name, self.row, self.asked)
+    }
+
+    /// Returns the days that are asked for of the hit.
+    pub fn asked(&self) -> Option<DayRange>
+        ensures { result ≡ self.now.asked }
+    {
+        self.asked
     }
 
     /// Returns how the days that the query asks for lie in those that are open to readers.

@@ -34,7 +34,7 @@ pub use laws::{
 };
 pub use lookup::Lookup;
 pub use query_facts::{QueryFacts, is_blank, names_work};
-pub use rank::{is_free, is_full_text};
+pub use rank::{is_abstracts, is_free, is_full_text, is_selection};
 pub use ranked_hit::RankedHit;
 pub use received_openurl::ReceivedOpenUrl;
 pub use search::{Scope, Search};

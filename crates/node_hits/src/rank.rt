@@ -1,7 +1,7 @@
 //! The rank of a hit among those of a query.
 ghost use Rattle.std.specs.Prelude.{◌≡◌, ◌<◌};
-ghost use Rattle.node_hits.specs.Hits.{availability_rank, grade_rank, is_free, is_full_text, is_word};
-ghost use Rattle.node_hits.specs.Hits.{first_rank, place_rank, rank_by, text_rank};
+ghost use Rattle.node_hits.specs.Hits.{availability_rank, grade_rank, is_abstracts, is_free, is_full_text};
+ghost use Rattle.node_hits.specs.Hits.{first_rank, is_selection, is_word, place_rank, rank_by, text_rank};
 
 use feed_answer::{Availability, Grade};
 use feed_bytes::trim_spaces;
@@ -49,6 +49,20 @@ pub fn is_full_text(row: &Row) -> bool
     ensures { result ≡ is_full_text row.now }
 {
     is_word(row.depth(), b"fulltext")
+}
+
+/// Returns whether a row covers selected articles.
+pub fn is_selection(row: &Row) -> bool
+    ensures { result ≡ is_selection row.now }
+{
+    is_word(row.depth(), b"selected articles")
+}
+
+/// Returns whether a row covers abstracts.
+pub fn is_abstracts(row: &Row) -> bool
+    ensures { result ≡ is_abstracts row.now }
+{
+    is_word(row.depth(), b"abstracts")
 }
 
 fn text_rank(row: &Row) -> u32

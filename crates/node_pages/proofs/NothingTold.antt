@@ -1,5 +1,5 @@
 -- The JSON of a query for which nothing is looked up.
-use Rattle.std.proofs.Common.{◌≡◌, ℕ, List, [], ◌++◌, true, ap, ◌∙◌}
+use Rattle.std.proofs.Common.{◌≡◌, ℕ, List, [], ◌++◌, ap, ◌∙◌}
 use Rattle.feed_openurl.specs.declared.fault.OpenUrlFault.{OpenUrlFault}
 use Rattle.node_hits.specs.AnswerJson.{answer_json}
 use Rattle.node_hits.specs.QueryFacts.{QueryFactsValue}

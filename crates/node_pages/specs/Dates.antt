@@ -1,7 +1,6 @@
 -- Dates in words.
 use Rattle.std.specs.Prelude.{ℕ, ◌==◌, ◌&&◌, Bool, false, if◌then◌else◌, List, [], ◌∷◌, ◌++◌, codes}
 use Rattle.node_site.specs.Site as site_file
-use Rattle.node_response.specs.Escapes.{escaped}
 use Rattle.node_response.specs.Fragments.{joined}
 use Rattle.node_site.specs.Texts.{text_of}
 use Rattle.node_site.specs.declared.text_table.Text.{Text}
@@ -30,18 +29,18 @@ month_of tens ones =
 
 -- the digits of a day, and the mark after them
 unfoldable pub marked : site_file.SiteValue → List ℕ → List ℕ
-marked site digits = joined (digits ∷ escaped (text_of site text.DayMark) ∷ [])
+marked site digits = joined (digits ∷ text_of site text.DayMark ∷ [])
 
 -- a day of the month, without a leading zero; the first has a text of its own
 unfoldable pub day_words : site_file.SiteValue → ℕ → ℕ → List ℕ
 day_words site tens ones =
     if tens == 48
-    then (if ones == 49 then joined (escaped (text_of site text.FirstDay) ∷ []) else marked site (ones ∷ []))
+    then (if ones == 49 then joined (text_of site text.FirstDay ∷ []) else marked site (ones ∷ []))
     else marked site (tens ∷ ones ∷ [])
 
 -- a month and its year, after a day
 unfoldable pub month_words : site_file.SiteValue → Text → List ℕ → List ℕ
-month_words site month year = joined (codes " " ∷ escaped (text_of site month) ∷ codes " " ∷ year ∷ [])
+month_words site month year = joined (codes " " ∷ text_of site month ∷ codes " " ∷ year ∷ [])
 
 -- a date is the first day of a year
 abbrev pub begins_year : List ℕ → Bool

@@ -8,29 +8,29 @@ use Rattle.feed_answer.specs.declared.wall.Span.{Span}
 use Rattle.feed_answer.specs.declared.wall.Span.TheVariants.{Days, Months, Years}
 use Rattle.node_site.specs.Site as site_file
 use Rattle.node_site.specs.Texts.{text_of}
-use Rattle.node_response.specs.Escapes.{escaped}
 use Rattle.node_response.specs.Fragments.{joined}
 use Rattle.node_site.specs.declared.text_table.Text.{Text}
 use Rattle.node_site.specs.declared.text_table.Text.TheVariants as text
 
 -- a text as a sentence, if there is one
 unfoldable pub sentence : List ℕ → List ℕ
-sentence words = if is_empty words then [] else joined (escaped words ∷ codes ". " ∷ [])
+sentence words = if is_empty words then [] else joined (words ∷ codes ". " ∷ [])
 
--- a number of things: the text for one, or the number and the text for many
-unfoldable pub number_words : ℕ → List ℕ → List ℕ → List ℕ
-number_words number one many =
-    if number == 1 then joined (escaped one ∷ []) else joined (decimal number ∷ codes " " ∷ escaped many ∷ [])
+-- the most recent ones of a kind: the text for one, or the number between the texts for more
+unfoldable pub number_words : site_file.SiteValue → ℕ → Text → Text → List ℕ
+number_words site number one many =
+    if number == 1 then text_of site one
+    else joined (text_of site text.MostRecent ∷ codes " " ∷ decimal number ∷ codes " " ∷ text_of site many ∷ [])
 
 -- the most recent days, months or years
 abbrev pub span_words : site_file.SiteValue → Span → List ℕ
-span_words site (Days number) = number_words number (text_of site text.Day) (text_of site text.Days)
-span_words site (Months number) = number_words number (text_of site text.Month) (text_of site text.Months)
-span_words site (Years number) = number_words number (text_of site text.Year) (text_of site text.Years)
+span_words site (Days number) = number_words site number text.Day text.Days
+span_words site (Months number) = number_words site number text.Month text.Months
+span_words site (Years number) = number_words site number text.Year text.Years
 
 -- a text, and a span after it
 unfoldable pub limit_words : site_file.SiteValue → Text → Span → List ℕ
-limit_words site name span = joined (escaped (text_of site name) ∷ codes " " ∷ []) ++ span_words site span
+limit_words site name span = joined (text_of site name ∷ codes " " ∷ []) ++ span_words site span
 
 unfoldable pub limit_sentence : site_file.SiteValue → Text → Span → List ℕ
 limit_sentence site name span = limit_words site name span ++ codes ". "

@@ -16,13 +16,18 @@ use Rattle.node_response.specs.declared.status.Status.TheVariants as status
 use Rattle.node_hits.specs.AnswerJson.{answer_json}
 use Rattle.node_hits.specs.QueryFacts.{QueryFactsValue, names_work}
 use Rattle.node_hits.specs.Tallies.{tally_of}
-use Rattle.node_pages.specs.CitationPage.{citation_part}
-use Rattle.node_pages.specs.ErrorPages.{error_response}
-use Rattle.node_pages.specs.Frames.{page_top}
-use Rattle.node_pages.specs.HitsPage.{page_bottom, page_foot, paragraph}
-use Rattle.node_pages.specs.SearchForms.{search_form}
-use Rattle.node_pages.specs.TitlesForms.{titles_form}
+use Rattle.node_site.specs.Texts.{text_of}
+use Rattle.node_templates.specs.Pages.{Part, page_text, with_values}
+use Rattle.node_templates.specs.declared.slot.Slot.TheVariants as slot
 use Rattle.node_site.specs.declared.text_table.Text.TheVariants as page
+use Rattle.node_pages.specs.Citations.{cited_top}
+use Rattle.node_pages.specs.ErrorPages.{error_response}
+use Rattle.node_pages.specs.HitsPage.{request_of}
+use Rattle.node_pages.specs.HomePage.{form_page}
+use Rattle.node_pages.specs.NumberFaults.{fault_words}
+use Rattle.node_pages.specs.SearchForms.{form_end, isbn_in, issn_in}
+use Rattle.node_pages.specs.declared.number_faults.NumberKind.TheVariants.{Issn, Isbn}
+use Rattle.node_pages.specs.declared.refusals.TheConstants.{NOTHING}
 
 -- the name of a reason
 abbrev pub reason_text : OpenUrlFault → List ℕ
@@ -37,15 +42,30 @@ abbrev pub is_numberless : OpenUrlFault → Bool
 is_numberless reason.TooMany = false
 is_numberless reason = true
 
--- the citation of the query, that nothing is looked up, and the form for its title
-unfoldable pub nothing_part : site_file.SiteValue → List (List ℕ × List ℕ) → QueryFactsValue → List ℕ
-nothing_part site pairs ask =
-    citation_part site pairs ask ++ (paragraph site page.NoNumber ++ titles_form site (text_at ask.citation part.Title))
+-- that nothing is looked up, what is wrong with the ISSN and the ISBN, the form for the title, and the link to the request
+-- form
+unfoldable pub reasons_with : site_file.SiteValue → List (List ℕ × List ℕ) → QueryFactsValue → List ℕ → List ℕ → List ℕ → List Part
+reasons_with site pairs ask issn_fault isbn_fault request = with_values (
+    (slot.Note, text_of site page.NoNumber)
+    ∷ (slot.Issn, issn_in pairs)
+    ∷ (slot.IssnFault, issn_fault)
+    ∷ (slot.Isbn, isbn_in pairs)
+    ∷ (slot.IsbnFault, isbn_fault)
+    ∷ (slot.Wanted, text_at ask.citation part.Title)
+    ∷ (slot.Request, request)
+    ∷ []) NOTHING
 
--- the page with the form, for a query with these pairs
+unfoldable pub reasons : site_file.SiteValue → List (List ℕ × List ℕ) → QueryFactsValue → List ℕ → List Part
+reasons site pairs ask request =
+    reasons_with site pairs ask (fault_words site Issn (issn_in pairs)) (fault_words site Isbn (isbn_in pairs)) request
+
+-- the page with the forms, for a query with these pairs
+abbrev pub nothing_parts : site_file.SiteValue → List (List ℕ × List ℕ) → QueryFactsValue → List Part
+nothing_parts site pairs ask =
+    cited_top (text_of site page.NothingToLookUp) pairs ask ++ (reasons site pairs ask (request_of site ask pairs) ++ form_end pairs)
+
 unfoldable pub page_of_nothing : site_file.SiteValue → List (List ℕ × List ℕ) → QueryFactsValue → List ℕ
-page_of_nothing site pairs ask =
-    page_top site page.NothingToLookUp ++ (nothing_part site pairs ask ++ page_bottom site pairs ask)
+page_of_nothing site pairs ask = page_text site (nothing_parts site pairs ask)
 
 -- the same for a query as it is sent
 abbrev pub nothing_page : site_file.SiteValue → List ℕ → QueryFactsValue → List ℕ
@@ -79,10 +99,6 @@ numberless_response site query code representation ask why =
 abbrev pub asks_for_form : List ℕ → Representation → Bool
 asks_for_form [] Html = true
 asks_for_form query representation = false
-
--- the page with the forms alone
-unfoldable pub form_page : site_file.SiteValue → List ℕ
-form_page site = page_top site page.FindHoldings ++ (search_form site [] ++ (titles_form site [] ++ page_foot site))
 
 -- the response to a query for which nothing is looked up: the form, if the query is empty and the response is a page;
 -- one for a query without a number; and one with too many is rejected

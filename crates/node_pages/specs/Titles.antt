@@ -14,33 +14,29 @@ use Rattle.node_titles.specs.TitleSearches.{TitleSearchValue}
 use Rattle.node_titles.specs.Titles.{EntryValue}
 use Rattle.node_titles.specs.Walks.{WalkValue}
 
--- a text behind another, if there is one
-abbrev pub behind : List ℕ → Option (List ℕ) → List ℕ
-behind front None = []
-behind front (Some text) = front ++ text
+-- a text between two others, if there is one
+abbrev pub between : List ℕ → Option (List ℕ) → List ℕ → List ℕ
+between front None back = []
+between front (Some text) back = front ++ (text ++ back)
 
--- the printed identifier of a row, an ISSN or an ISBN, or nothing
-abbrev pub print_text : Identifiers → List ℕ
-print_text identifiers = behind [] (print_issn identifiers) ++ behind [] (print_isbn identifiers)
+-- an ISSN or an ISBN, or nothing
+abbrev pub number_text : Option (List ℕ) → Option (List ℕ) → List ℕ
+number_text issn isbn = between [] issn [] ++ between [] isbn []
 
-abbrev pub online_text : Identifiers → List ℕ
-online_text identifiers = behind [] (online_issn identifiers) ++ behind [] (online_isbn identifiers)
-
--- the pairs of the identifiers of a row, behind others
+-- the pairs of the query for a title in all packages, and the target of this query, whose response is JSON
 unfoldable pub issn_pairs : Identifiers → List ℕ
 issn_pairs identifiers =
-    behind (codes "&rft.issn=") (print_issn identifiers) ++ behind (codes "&rft.eissn=") (online_issn identifiers)
+    between (codes "&rft.issn=") (print_issn identifiers) [] ++ between (codes "&rft.eissn=") (online_issn identifiers) []
 
 unfoldable pub isbn_pairs : Identifiers → List ℕ
 isbn_pairs identifiers =
-    behind (codes "&rft.isbn=") (print_isbn identifiers) ++ behind (codes "&rft.isbn=") (online_isbn identifiers)
+    between (codes "&rft.isbn=") (print_isbn identifiers) [] ++ between (codes "&rft.isbn=") (online_isbn identifiers) []
 
--- the query for a title in all packages, whose response has this format
-unfoldable pub link_start : List ℕ → List ℕ
-link_start format = codes "/resolve?format=" ++ format
+abbrev pub title_pairs : Identifiers → List ℕ
+title_pairs identifiers = issn_pairs identifiers ++ isbn_pairs identifiers
 
-unfoldable pub title_link : List ℕ → Identifiers → List ℕ
-title_link format identifiers = link_start format ++ (issn_pairs identifiers ++ isbn_pairs identifiers)
+unfoldable pub title_target : Identifiers → List ℕ
+title_target identifiers = codes "/resolve?format=json" ++ title_pairs identifiers
 
 -- fields and the end of their line, joined by tabs
 unfoldable pub front_fields : List ℕ → ℕ → List ℕ → List ℕ
@@ -54,7 +50,8 @@ back_fields print online days volumes =
 unfoldable pub title_line : EntryValue → List ℕ
 title_line entry =
     front_fields entry.name.package_name entry.row.number entry.row.title
-    ++ back_fields (print_text entry.row.identifiers) (online_text entry.row.identifiers) (days_words entry.row) (volumes_words entry.row)
+    ++ back_fields (number_text (print_issn entry.row.identifiers) (print_isbn entry.row.identifiers))
+    (number_text (online_issn entry.row.identifiers) (online_isbn entry.row.identifiers)) (days_words entry.row) (volumes_words entry.row)
 
 -- the line with the place where the next walk begins
 abbrev pub next_line : Option ℕ → List ℕ
@@ -65,26 +62,21 @@ next_line (Some place) = joined (codes "next " ∷ decimal place ∷ codes "\n" 
 unfoldable pub titles_text : WalkValue → List ℕ
 titles_text walk = flat_map title_line walk.found ++ next_line walk.next
 
--- the members for a record and its title, for its identifiers, and for its coverage and the query for its title
-unfoldable pub record_members : ℕ → List ℕ → List ℕ
-record_members number title = joined (codes ",\"record\":" ∷ decimal number ∷ codes ",\"title\":" ∷ json_string title ∷ [])
+-- the members for a record, its title and its identifiers
+unfoldable pub row_members : RowValue → List ℕ
+row_members row = joined (
+    codes ",\"record\":" ∷ decimal row.number ∷ codes ",\"title\":" ∷ json_string row.title
+    ∷ codes ",\"print_identifier\":" ∷ json_string (number_text (print_issn row.identifiers) (print_isbn row.identifiers))
+    ∷ codes ",\"online_identifier\":" ∷ json_string (number_text (online_issn row.identifiers) (online_isbn row.identifiers)) ∷ [])
 
-unfoldable pub identifier_members : List ℕ → List ℕ → List ℕ
-identifier_members print online = joined (
-    codes ",\"print_identifier\":" ∷ json_string print ∷ codes ",\"online_identifier\":" ∷ json_string online ∷ [])
-
+-- the members for its coverage and the query for its title
 unfoldable pub coverage_members : List ℕ → List ℕ → List ℕ → List ℕ
 coverage_members days volumes link = joined (
     codes ",\"days_words\":" ∷ json_string days ∷ codes ",\"volumes_words\":" ∷ json_string volumes
     ∷ codes ",\"resolve\":" ∷ json_string link ∷ codes "}" ∷ [])
 
--- those of a row
-unfoldable pub row_members : RowValue → List ℕ
-row_members row =
-    record_members row.number row.title ++ identifier_members (print_text row.identifiers) (online_text row.identifiers)
-
 unfoldable pub end_members : RowValue → List ℕ
-end_members row = coverage_members (days_words row) (volumes_words row) (title_link (codes "json") row.identifiers)
+end_members row = coverage_members (days_words row) (volumes_words row) (title_target row.identifiers)
 
 -- a row as a JSON object
 unfoldable pub title_object : EntryValue → List ℕ

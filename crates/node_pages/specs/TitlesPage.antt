@@ -1,13 +1,11 @@
 -- The titles that contain a text, as an HTML page, and the response to a query for them.
-use Rattle.std.specs.Prelude.{ℕ, if◌then◌else◌, List, [], ◌∷◌, ◌++◌, codes, Option, Some, None, Result, Ok, Err}
+use Rattle.std.specs.Prelude.{ℕ, Bool, List, [], ◌∷◌, ◌++◌, codes, Result, Ok, Err}
 use Rattle.std.specs.List.{flat_map}
-use Rattle.std.specs.Fmt.{decimal}
 use Rattle.percent_encoding.specs.Percent.{percent_encode}
 use Rattle.percent_encoding.specs.declared.ascii_set.TheConstants.{NON_ALPHANUMERIC}
 use Rattle.feed_answer.specs.Pairs.{is_empty}
 use Rattle.feed_kbart.specs.Identifiers.{online_isbn, online_issn, print_isbn, print_issn}
 use Rattle.feed_kbart.specs.RowValue.{RowValue}
-use Rattle.feed_kbart.specs.declared.identifiers.Identifiers.{Identifiers}
 use Rattle.feed_releases.specs.Actives.{ActiveValue}
 use Rattle.node_site.specs.Packages.{shown_package}
 use Rattle.node_site.specs.Site as site_file
@@ -15,8 +13,6 @@ use Rattle.node_site.specs.Texts.{text_of}
 use Rattle.node_site.specs.declared.text_table.Text.TheVariants as text
 use Rattle.node_request.specs.declared.representation.Representation.{Representation}
 use Rattle.node_request.specs.declared.representation.Representation.TheVariants.{Text, Json, Html}
-use Rattle.node_response.specs.Escapes.{escaped}
-use Rattle.node_response.specs.Fragments.{joined}
 use Rattle.node_response.specs.Responses.{ResponseValue, refusal, response_with}
 use Rattle.node_response.specs.declared.status.Status.TheVariants as status
 use Rattle.node_titles.specs.TitleSearches.{TitleSearchValue, ask_of}
@@ -25,74 +21,59 @@ use Rattle.node_titles.specs.Walks.{WalkValue, titles_from}
 use Rattle.node_titles.specs.declared.title_search.TitleFault.{TitleFault}
 use Rattle.node_titles.specs.declared.title_search.TitleFault.TheVariants as fault
 use Rattle.node_pages.specs.Coverage.{coverage_words}
-use Rattle.node_pages.specs.ErrorPages.{advice_part}
-use Rattle.node_pages.specs.Frames.{page_top}
-use Rattle.node_pages.specs.HitsPage.{link_to, page_foot, paragraph}
-use Rattle.node_pages.specs.Titles.{title_link, titles_json, titles_text}
-use Rattle.node_pages.specs.TitlesForms.{titles_form}
-use Rattle.node_pages.specs.declared.titles_page.TheConstants.{CARDS, CARDS_END, FURTHER}
+use Rattle.node_templates.specs.Values.{text_if}
+use Rattle.node_templates.specs.Pages.{Part, page_text, with_values}
+use Rattle.node_templates.specs.declared.slot.Slot.TheVariants as slot
+use Rattle.node_templates.specs.declared.template.Template.TheVariants as template
+use Rattle.node_pages.specs.HitsPage.{digits_of, list_mark}
+use Rattle.node_pages.specs.Titles.{between, title_pairs, titles_json, titles_text}
+use Rattle.node_pages.specs.declared.titles_page.TheConstants.{LIST_START, LIST_END, FORM_PAGE}
 
--- an identifier as a sentence
-abbrev pub number_sentence : List ℕ → Option (List ℕ) → List ℕ
-number_sentence label None = []
-number_sentence label (Some number) = label ++ (number ++ codes ". ")
+-- the identifiers of a row, each as a sentence, and what it covers
+abbrev pub title_words : site_file.SiteValue → RowValue → List ℕ
+title_words site row =
+    between (codes "ISSN ") (print_issn row.identifiers) (codes ". ")
+    ++ (between (codes "ISSN ") (online_issn row.identifiers) (codes ". ")
+    ++ (between (codes "ISBN ") (print_isbn row.identifiers) (codes ". ")
+    ++ (between (codes "ISBN ") (online_isbn row.identifiers) (codes ". ")
+    ++ coverage_words site row)))
 
--- the identifiers of a row
-abbrev pub numbers_words : Identifiers → List ℕ
-numbers_words identifiers =
-    number_sentence (codes "ISSN ") (print_issn identifiers)
-    ++ (number_sentence (codes "ISSN ") (online_issn identifiers)
-    ++ (number_sentence (codes "ISBN ") (print_isbn identifiers)
-    ++ number_sentence (codes "ISBN ") (online_isbn identifiers)))
+-- the card of a title
+unfoldable pub title_card : site_file.SiteValue → EntryValue → List Part
+title_card site entry = with_values (
+    (slot.Numbers, title_pairs entry.row.identifiers)
+    ∷ (slot.Title, entry.row.title)
+    ∷ (slot.Package, shown_package site entry.name.package_name)
+    ∷ (slot.Coverage, title_words site entry.row)
+    ∷ []) (template.TitleCard ∷ [])
 
--- the title of a row, which is a link, and the name of its package
-unfoldable pub card_front : List ℕ → List ℕ → List ℕ → List ℕ
-card_front link title package_name = joined (
-    codes "<li>\n<p class=\"name\"><a href=\"" ∷ escaped link ∷ codes "\"><bdi>" ∷ escaped title
-    ∷ codes "</bdi></a></p>\n<p class=\"title\"><bdi>" ∷ escaped package_name ∷ codes "</bdi></p>\n<div class=\"more\">" ∷ [])
+abbrev pub title_cards : site_file.SiteValue → List EntryValue → List Part
+title_cards site found = flat_map (title_card site) found
 
--- the identifiers and the coverage of a row
-unfoldable pub card_back : site_file.SiteValue → RowValue → List ℕ
-card_back site row = numbers_words row.identifiers ++ (coverage_words site row ++ codes "</div>\n</li>\n")
+-- the form, and that no title is found, if none is
+abbrev pub titles_start : site_file.SiteValue → List ℕ → Bool → List Part
+titles_start site asked is_empty = with_values (
+    (slot.Heading, text_of site text.FindTitles)
+    ∷ (slot.Wanted, asked)
+    ∷ (slot.Note, text_if is_empty (text_of site text.NoTitles))
+    ∷ (slot.Listed, list_mark is_empty)
+    ∷ []) LIST_START
 
-unfoldable pub row_card : site_file.SiteValue → List ℕ → RowValue → List ℕ
-row_card site package_name row =
-    card_front (title_link (codes "html") row.identifiers) row.title (shown_package site package_name) ++ card_back site row
+-- the order of the titles, and the link to the next ones, if rows are left
+unfoldable pub titles_end : List ℕ → WalkValue → List Part
+titles_end asked walk = with_values (
+    (slot.Listed, list_mark (is_empty walk.found))
+    ∷ (slot.Encoded, percent_encode NON_ALPHANUMERIC asked)
+    ∷ (slot.Start, digits_of walk.next)
+    ∷ []) LIST_END
 
-abbrev pub title_card : site_file.SiteValue → EntryValue → List ℕ
-title_card site entry = row_card site entry.name.package_name entry.row
+-- the page with the form and the rows
+abbrev pub titles_parts : site_file.SiteValue → List ℕ → WalkValue → List Part
+titles_parts site asked walk =
+    titles_start site asked (is_empty walk.found) ++ (title_cards site walk.found ++ titles_end asked walk)
 
-unfoldable pub title_cards : site_file.SiteValue → List EntryValue → List ℕ
-title_cards site found = CARDS.now ++ (flat_map (title_card site) found ++ CARDS_END.now)
-
--- the rows, or that there are none
-abbrev pub found_titles : site_file.SiteValue → List EntryValue → List ℕ
-found_titles site found = if is_empty found then paragraph site text.NoTitles else title_cards site found
-
--- the order of the rows
-unfoldable pub order_part : site_file.SiteValue → List ℕ
-order_part site = joined (codes "<p>" ∷ escaped (text_of site text.TitleOrder) ∷ codes "</p>\n" ∷ [])
-
--- the target of the next walk, for a text that is percent-encoded
-unfoldable pub further_target : List ℕ → ℕ → List ℕ
-further_target encoded place = joined (FURTHER.now ∷ encoded ∷ codes "&start=" ∷ decimal place ∷ [])
-
--- the link to it
-abbrev pub further_part : site_file.SiteValue → List ℕ → Option ℕ → List ℕ
-further_part site asked None = []
-further_part site asked (Some place) =
-    link_to (text_of site text.FurtherTitles) (further_target (percent_encode NON_ALPHANUMERIC asked) place)
-
-unfoldable pub titles_part : site_file.SiteValue → List ℕ → WalkValue → List ℕ
-titles_part site asked walk = found_titles site walk.found ++ (order_part site ++ further_part site asked walk.next)
-
--- the page with the form and the rows, and the page with the form alone
 unfoldable pub titles_page : site_file.SiteValue → List ℕ → WalkValue → List ℕ
-titles_page site asked walk =
-    page_top site text.FindTitles ++ (titles_form site asked ++ (titles_part site asked walk ++ page_foot site))
-
-unfoldable pub titles_form_page : site_file.SiteValue → List ℕ
-titles_form_page site = page_top site text.FindTitles ++ (titles_form site [] ++ page_foot site)
+titles_page site asked walk = page_text site (titles_parts site asked walk)
 
 -- the rows that a walk found
 unfoldable pub titles_body : site_file.SiteValue → Representation → TitleSearchValue → WalkValue → List ℕ
@@ -106,19 +87,19 @@ fault_text fault.NoText = codes "NoText"
 fault_text fault.TooLong = codes "TooLong"
 fault_text fault.BadStart = codes "BadStart"
 
--- the page for a query that is not read
-unfoldable pub titles_error_page : site_file.SiteValue → List ℕ → List ℕ
-titles_error_page site name =
-    page_top site text.NotAnswered
-    ++ (advice_part site text.TitlesNotRead name ++ (titles_form site [] ++ page_foot site))
+-- the form alone, under this heading, and below a statement and the name of an error, if there are any
+abbrev pub form_parts : List ℕ → List ℕ → List ℕ → List Part
+form_parts heading note name = with_values ((slot.Heading, heading) ∷ (slot.Note, note) ∷ (slot.Fault, name) ∷ []) FORM_PAGE
+
+unfoldable pub titles_form_page : site_file.SiteValue → List ℕ → List ℕ → List ℕ → List ℕ
+titles_form_page site heading note name = page_text site (form_parts heading note name)
 
 -- a browser that asks for nothing gets the form
 abbrev pub titles_refusal : site_file.SiteValue → Representation → TitleFault → ResponseValue
-titles_refusal site Html fault.NoText = response_with status.Good Html (titles_form_page site)
-titles_refusal site Html fault.TooLong =
-    response_with status.BadRequest Html (titles_error_page site (fault_text fault.TooLong))
-titles_refusal site Html fault.BadStart =
-    response_with status.BadRequest Html (titles_error_page site (fault_text fault.BadStart))
+titles_refusal site Html fault.NoText = response_with status.Good Html (titles_form_page site (text_of site text.FindTitles) [] [])
+titles_refusal site Html why =
+    response_with status.BadRequest Html
+    (titles_form_page site (text_of site text.NotAnswered) (text_of site text.TitlesNotRead) (fault_text why))
 titles_refusal site Text why = refusal status.BadRequest Text (fault_text why)
 titles_refusal site Json why = refusal status.BadRequest Json (fault_text why)
 

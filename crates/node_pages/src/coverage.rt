@@ -1,50 +1,30 @@
 //! Writes in words what a row covers, and how it is read.
-ghost use Rattle.std.specs.Prelude.{◌≡◌, ◌++◌, OnOk};
+ghost use Rattle.std.specs.Prelude.{◌≡◌, ◌++◌, IfOk, OnOk};
 ghost use Rattle.std.specs.Option.{option_and_then};
 ghost use Rattle.feed_dates.specs.Days.{date_of_day};
-ghost use Rattle.node_pages.specs.Dates.{ends_year};
-ghost use Rattle.node_pages.specs.Coverage.{access_words, coverage_words, date_after, date_sentence};
-ghost use Rattle.node_pages.specs.Coverage.{days_between, days_words, depth_text, free_text};
-ghost use Rattle.node_pages.specs.Coverage.{from_text, from_words, span_words, to_text, until_text};
-ghost use Rattle.node_pages.specs.Coverage.{volume_sentence, volumes_between, volumes_words, when_words};
+ghost use Rattle.node_pages.specs.Coverage.{coverage_words, date_after, date_sentence, days_between};
+ghost use Rattle.node_pages.specs.Coverage.{days_words, depth_name, depth_text, from_words, text_by, volume_sentence};
+ghost use Rattle.node_pages.specs.Coverage.{volumes_between, volumes_words, when_words};
 
 use crate::dates::{begins_year, ends_year, put_date, put_year};
 use crate::embargo::{put_embargo, put_sentence};
 use feed_bytes::put_all;
 use feed_dates::write_date;
 use feed_kbart::Row;
-use node_hits::{is_free, is_full_text};
+use node_hits::{is_abstracts, is_free, is_full_text, is_selection};
 use node_response::{Fragment, put};
 use node_site::{SiteFile, Text, text_of};
-use std::alloc::AllocError;
+use node_templates::text_if;
+use std::alloc::{AllocError, Global};
 
-// Returns the text before the first date.
-fn from_text(in_years: bool) -> Text
-    ensures { result ≡ from_text in_years }
-{
-    if in_years {
-        Text::AvailableFromYear
-    } else {
-        Text::AvailableFrom
-    }
-}
+// The room for what a row covers. Most need less.
+const COVERAGE_ROOM: usize = 256;
 
-// Returns the text before the last date, behind a first one.
-fn to_text(in_years: bool) -> Text
-    ensures { result ≡ to_text in_years }
+// Returns one of two texts: for a day, or for a whole year.
+fn text_by(in_years: bool, day: Text, year: Text) -> Text
+    ensures { result ≡ text_by in_years day year }
 {
-    if in_years { Text::ToYear } else { Text::To }
-}
-
-// Returns the text before a last date without a first one.
-fn until_text(in_years: bool) -> Text
-    ensures { result ≡ until_text in_years }
-{
-    if in_years {
-        Text::AvailableToYear
-    } else {
-        Text::AvailableTo
-    }
+    if in_years { year } else { day }
 }
 
 // Writes a date in words, or its year alone.
@@ -63,9 +43,9 @@ fn put_when(
     }
 }
 
-// Writes a text, and a date or a year after it.
+/// Writes a text, and a date or a year after it.
 #[tactic(auto, unfolding(crate::specs::Coverage::date_after))]
-fn put_date_after(
+pub(crate) fn put_date_after(
     out: &mut Vec<u8>,
     site: &SiteFile,
     name: Text,
@@ -76,10 +56,7 @@ fn put_date_after(
 {
     put_all(
         out,
-        &[
-            Fragment::Escaped(text_of(site, name)),
-            Fragment::Plain(b" "),
-        ],
+        &[Fragment::Plain(text_of(site, name)), Fragment::Plain(b" ")],
     )?;
     put_when(out, site, in_years, date)
 }
@@ -108,12 +85,13 @@ fn put_from(
 ) -> Result<(), AllocError>
     ensures { OnOk result (out.new.items ≡ out.old.items ++ from_words site.now in_years first.now) }
 {
-    put_date_after(out, site, from_text(in_years), in_years, first)?;
+    let from = text_by(in_years, Text::AvailableFrom, Text::AvailableFromYear);
+    put_date_after(out, site, from, in_years, first)?;
     put_all(
         out,
         &[
             Fragment::Plain(b" "),
-            Fragment::Escaped(text_of(site, Text::ToPresent)),
+            Fragment::Plain(text_of(site, Text::ToPresent)),
             Fragment::Plain(b". "),
         ],
     )
@@ -130,18 +108,11 @@ fn put_days_between(
     ensures { OnOk result (out.new.items
         ≡ out.old.items ++ days_between site.now in_years first.now last.now) }
 {
-    put_date_after(out, site, from_text(in_years), in_years, first)?;
+    let from = text_by(in_years, Text::AvailableFrom, Text::AvailableFromYear);
+    let to = text_by(in_years, Text::To, Text::ToYear);
+    put_date_after(out, site, from, in_years, first)?;
     put(out, b" ")?;
-    put_date_sentence(out, site, to_text(in_years), in_years, last)
-}
-
-// Writes the last day of a coverage that has no first one.
-fn put_until(out: &mut Vec<u8>, site: &SiteFile, last: &[u8]) -> Result<(), AllocError>
-    ensures { OnOk result (out.new.items
-        ≡ out.old.items ++ date_sentence site.now (until_text (ends_year last.now)) (ends_year last.now) last.now) }
-{
-    let in_years = ends_year(last);
-    put_date_sentence(out, site, until_text(in_years), in_years, last)
+    put_date_sentence(out, site, to, in_years, last)
 }
 
 fn date_of(day: Option<i32>) -> Option<[u8; 10]>
@@ -162,7 +133,11 @@ fn put_days(out: &mut Vec<u8>, site: &SiteFile, row: &Row) -> Result<(), AllocEr
             put_days_between(out, site, in_years, first, last)
         }
         (Some(first), None) => put_from(out, site, begins_year(first), first),
-        (None, Some(last)) => put_until(out, site, last),
+        (None, Some(last)) => {
+            let in_years = ends_year(last);
+            let until = text_by(in_years, Text::AvailableTo, Text::AvailableToYear);
+            put_date_sentence(out, site, until, in_years, last)
+        }
         (None, None) => Ok(()),
     }
 }
@@ -179,7 +154,7 @@ fn put_volume_sentence(
     put_all(
         out,
         &[
-            Fragment::Escaped(text_of(site, name)),
+            Fragment::Plain(text_of(site, name)),
             Fragment::Plain(b" "),
             Fragment::Number(u64::from(volume)),
             Fragment::Plain(b". "),
@@ -199,7 +174,7 @@ fn put_volumes_between(
     put_all(
         out,
         &[
-            Fragment::Escaped(text_of(site, Text::FromVolume)),
+            Fragment::Plain(text_of(site, Text::FromVolume)),
             Fragment::Plain(b" "),
             Fragment::Number(u64::from(first)),
             Fragment::Plain(b" "),
@@ -220,40 +195,28 @@ fn put_volumes(out: &mut Vec<u8>, site: &SiteFile, row: &Row) -> Result<(), Allo
     }
 }
 
+// Returns the text for the depth of a coverage, if it is one that a list may have.
+fn depth_name(row: &Row) -> Option<Text>
+    ensures { result ≡ depth_name row.now }
+{
+    if is_full_text(row) {
+        Some(Text::Depth)
+    } else if is_selection(row) {
+        Some(Text::Selected)
+    } else if is_abstracts(row) {
+        Some(Text::Abstracts)
+    } else {
+        None
+    }
+}
+
 fn depth_text<'a>(site: &'a SiteFile, row: &'a Row) -> &'a [u8]
     ensures { result.now ≡ depth_text site.now row.now }
 {
-    if is_full_text(row) {
-        text_of(site, Text::Depth)
-    } else {
-        row.depth()
+    match depth_name(row) {
+        Some(name) => text_of(site, name),
+        None => row.depth(),
     }
-}
-
-fn free_text<'a>(site: &'a SiteFile, row: &Row) -> &'a [u8]
-    ensures { result.now ≡ free_text site.now row.now }
-{
-    if is_free(row) {
-        text_of(site, Text::Free)
-    } else {
-        b""
-    }
-}
-
-#[tactic(auto, unfolding(crate::specs::Coverage::access_words))]
-fn put_access(out: &mut Vec<u8>, site: &SiteFile, row: &Row) -> Result<(), AllocError>
-    ensures { OnOk result (out.new.items ≡ out.old.items ++ access_words site.now row.now) }
-{
-    put_sentence(out, depth_text(site, row))?;
-    put_sentence(out, free_text(site, row))
-}
-
-#[tactic(auto, unfolding(crate::specs::Coverage::span_words))]
-fn put_span(out: &mut Vec<u8>, site: &SiteFile, row: &Row) -> Result<(), AllocError>
-    ensures { OnOk result (out.new.items ≡ out.old.items ++ span_words site.now row.now) }
-{
-    put_days(out, site, row)?;
-    put_volumes(out, site, row)
 }
 
 /// Writes what a row covers, its depth, whether it is free to read, and its embargo, each as a sentence.
@@ -261,7 +224,22 @@ fn put_span(out: &mut Vec<u8>, site: &SiteFile, row: &Row) -> Result<(), AllocEr
 pub(crate) fn put_coverage(out: &mut Vec<u8>, site: &SiteFile, row: &Row) -> Result<(), AllocError>
     ensures { OnOk result (out.new.items ≡ out.old.items ++ coverage_words site.now row.now) }
 {
-    put_span(out, site, row)?;
-    put_access(out, site, row)?;
+    put_days(out, site, row)?;
+    put_volumes(out, site, row)?;
+    put_sentence(out, depth_text(site, row))?;
+    put_sentence(out, text_if(is_free(row), text_of(site, Text::Free)))?;
     put_embargo(out, site, row.embargo())
+}
+
+/// Returns what a row covers, its depth, whether it is free to read, and its embargo, each as a sentence.
+pub(crate) fn coverage_words(
+    alloc: Global,
+    site: &SiteFile,
+    row: &Row,
+) -> Result<Vec<u8>, AllocError>
+    ensures { IfOk result (λ words. words.items ≡ coverage_words site.now row.now) }
+{
+    let mut words = Vec::with_capacity(alloc, COVERAGE_ROOM)?;
+    put_coverage(&mut words, site, row)?;
+    Ok(words)
 }

@@ -46,7 +46,7 @@ fn put_marked<'a>(out: &mut Vec<u8>, site: &'a SiteFile, digits: &'a [u8]) -> Re
         out,
         &[
             Fragment::Plain(digits),
-            Fragment::Escaped(text_of(site, Text::DayMark)),
+            Fragment::Plain(text_of(site, Text::DayMark)),
         ],
     )
 }
@@ -59,7 +59,7 @@ fn put_day(out: &mut Vec<u8>, site: &SiteFile, tens: u8, ones: u8) -> Result<(),
         return put_marked(out, site, &[tens, ones]);
     }
     if ones == b'1' {
-        return put_all(out, &[Fragment::Escaped(text_of(site, Text::FirstDay))]);
+        return put_all(out, &[Fragment::Plain(text_of(site, Text::FirstDay))]);
     }
     put_marked(out, site, &[ones])
 }
@@ -77,7 +77,7 @@ fn put_month<'a>(
         out,
         &[
             Fragment::Plain(b" "),
-            Fragment::Escaped(text_of(site, month)),
+            Fragment::Plain(text_of(site, month)),
             Fragment::Plain(b" "),
             Fragment::Plain(year),
         ],

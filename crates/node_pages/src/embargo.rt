@@ -17,27 +17,30 @@ pub(crate) fn put_sentence<'a>(out: &mut Vec<u8>, text: &'a [u8]) -> Result<(), 
     if text.is_empty() {
         return Ok(());
     }
-    put_all(out, &[Fragment::Escaped(text), Fragment::Plain(b". ")])
+    put_all(out, &[Fragment::Plain(text), Fragment::Plain(b". ")])
 }
 
 #[tactic(auto, unfolding(crate::specs::EmbargoTexts::number_words))]
-fn put_number<'a>(
+fn put_number(
     out: &mut Vec<u8>,
+    site: &SiteFile,
     number: u32,
-    one: &'a [u8],
-    many: &'a [u8],
+    one: Text,
+    many: Text,
 ) -> Result<(), AllocError>
-    ensures { OnOk result (out.new.items ≡ out.old.items ++ number_words number one.now many.now) }
+    ensures { OnOk result (out.new.items ≡ out.old.items ++ number_words site.now number one many) }
 {
     if number == 1 {
-        return put_all(out, &[Fragment::Escaped(one)]);
+        return put(out, text_of(site, one));
     }
     put_all(
         out,
         &[
+            Fragment::Plain(text_of(site, Text::MostRecent)),
+            Fragment::Plain(b" "),
             Fragment::Number(u64::from(number)),
             Fragment::Plain(b" "),
-            Fragment::Escaped(many),
+            Fragment::Plain(text_of(site, many)),
         ],
     )
 }
@@ -46,18 +49,9 @@ fn put_span(out: &mut Vec<u8>, site: &SiteFile, span: Span) -> Result<(), AllocE
     ensures { OnOk result (out.new.items ≡ out.old.items ++ span_words site.now span) }
 {
     match span {
-        Span::Days(number) => {
-            let (one, many) = (text_of(site, Text::Day), text_of(site, Text::Days));
-            put_number(out, number, one, many)
-        }
-        Span::Months(number) => {
-            let (one, many) = (text_of(site, Text::Month), text_of(site, Text::Months));
-            put_number(out, number, one, many)
-        }
-        Span::Years(number) => {
-            let (one, many) = (text_of(site, Text::Year), text_of(site, Text::Years));
-            put_number(out, number, one, many)
-        }
+        Span::Days(number) => put_number(out, site, number, Text::Day, Text::Days),
+        Span::Months(number) => put_number(out, site, number, Text::Month, Text::Months),
+        Span::Years(number) => put_number(out, site, number, Text::Year, Text::Years),
     }
 }
 
@@ -68,10 +62,7 @@ fn put_limit(out: &mut Vec<u8>, site: &SiteFile, name: Text, span: Span) -> Resu
 {
     put_all(
         out,
-        &[
-            Fragment::Escaped(text_of(site, name)),
-            Fragment::Plain(b" "),
-        ],
+        &[Fragment::Plain(text_of(site, name)), Fragment::Plain(b" ")],
     )?;
     put_span(out, site, span)
 }

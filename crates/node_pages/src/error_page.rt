@@ -1,60 +1,27 @@
 //! The responses to requests that are not answered: the name of the error, or a page that says what to do.
 ghost use Rattle.std.specs.Prelude.{◌≡◌, ◌++◌, IfOk, OnOk};
-ghost use Rattle.node_pages.specs.ErrorPages.{advice_part, ask_again, error_body, error_page, error_response};
-ghost use Rattle.node_pages.specs.ErrorPages.{name_part};
+ghost use Rattle.node_pages.specs.ErrorPages.{error_body, error_page, error_response};
 
-use crate::form::put_search_form;
-use crate::frame::put_page_top;
-use crate::hits_page::{put_page_foot, put_paragraph, put_section_heading};
+use crate::form::put_form_end;
 use crate::openurl_text::OpenUrlText;
 use feed_answer::{Pair, decode_pairs};
-use feed_bytes::put_all;
 use node_request::Representation;
-use node_response::{Fragment, Response, Status, put_fault};
+use node_response::{Response, Status, put_fault};
 use node_site::{SiteFile, Text, text_of};
+use node_templates::{Slot, Template, put_page};
 use std::alloc::{AllocError, Global};
 
-#[tactic(auto, unfolding(crate::specs::ErrorPages::name_part))]
-fn put_name<'a>(out: &mut Vec<u8>, name: &'a [u8]) -> Result<(), AllocError>
-    ensures { OnOk result (out.new.items ≡ out.old.items ++ name_part name.now) }
-{
-    put_all(
-        out,
-        &[
-            Fragment::Plain(b"<p class=\"more\">"),
-            Fragment::Escaped(name),
-            Fragment::Plain(b"</p>\n"),
-        ],
-    )
-}
+const ERROR_PAGE: [Template; 4] = [
+    Template::Top,
+    Template::Note,
+    Template::Fault,
+    Template::AskAgain,
+];
 
-/// Writes what the reader may do about an error, and its name.
-#[tactic(auto, unfolding(crate::specs::ErrorPages::advice_part))]
-pub(crate) fn put_advice(
-    out: &mut Vec<u8>,
-    site: &SiteFile,
-    advice: Text,
-    name: &[u8],
-) -> Result<(), AllocError>
-    ensures { OnOk result (out.new.items ≡ out.old.items ++ advice_part site.now advice name.now) }
-{
-    put_paragraph(out, site, advice)?;
-    put_name(out, name)
-}
-
-// Writes the form, with what the query has for its fields, and the end of the page.
-#[tactic(auto, unfolding(crate::specs::ErrorPages::ask_again))]
-fn put_ask_again(out: &mut Vec<u8>, site: &SiteFile, pairs: &[Pair<'_>]) -> Result<(), AllocError>
-    ensures { OnOk result (out.new.items ≡ out.old.items ++ ask_again site.now pairs.now) }
-{
-    put_section_heading(out, text_of(site, Text::AskAgain))?;
-    put_search_form(out, site, pairs)?;
-    put_page_foot(out, site)
-}
-
-/// Writes the page of an error, for a query with these pairs.
-#[tactic(auto, unfolding(crate::specs::ErrorPages::error_page))]
-pub(crate) fn put_error_page(
+// Writes the page of an error, for a query with these pairs: what the reader may do, the name of the error, and the
+// form with what the query has for its fields.
+#[tactic(auto, unfolding(node_templates::specs::Pages::page_text, crate::specs::ErrorPages::error_page))]
+fn put_error_page(
     out: &mut Vec<u8>,
     site: &SiteFile,
     pairs: &[Pair<'_>],
@@ -63,9 +30,17 @@ pub(crate) fn put_error_page(
 ) -> Result<(), AllocError>
     ensures { OnOk result (out.new.items ≡ out.old.items ++ error_page site.now pairs.now advice name.now) }
 {
-    put_page_top(out, site, Text::NotAnswered)?;
-    put_advice(out, site, advice, name)?;
-    put_ask_again(out, site, pairs)
+    put_page(
+        out,
+        site,
+        &ERROR_PAGE,
+        &[
+            (Slot::Heading, text_of(site, Text::NotAnswered)),
+            (Slot::Note, text_of(site, advice)),
+            (Slot::Fault, name),
+        ],
+    )?;
+    put_form_end(out, site, pairs)
 }
 
 // Writes the body of the response to a request that is not answered.

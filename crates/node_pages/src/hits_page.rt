@@ -1,25 +1,20 @@
 //! Writes the hits of a query as an HTML page.
-ghost use Rattle.std.specs.Prelude.{◌≡◌, ◌++◌, OnOk, option_copied};
-ghost use Rattle.std.specs.List.{flat_map};
+ghost use Rattle.std.specs.Prelude.{◌≡◌, ◌++◌, IfOk, OnOk};
+ghost use Rattle.node_templates.specs.Pages.{page_text};
 ghost use Rattle.node_hits.specs.Tallying.{tally_from};
-ghost use Rattle.node_pages.specs.HitsPage.{also_card, answer_part, cards, cards_part, cited_of, found_part};
-ghost use Rattle.node_pages.specs.HitsPage.{fewer_part, fewer_text, has_no_hits, held_part, help_part};
-ghost use Rattle.node_pages.specs.HitsPage.{hit_card, hits_page, is_none, least, left_out_text, none_part};
-ghost use Rattle.node_pages.specs.HitsPage.{link_part, link_to, more_part, more_text};
-ghost use Rattle.node_pages.specs.HitsPage.{other_card, page_bottom, page_foot};
-ghost use Rattle.node_pages.specs.HitsPage.{page_name, page_of_hits, paragraph, request_part, request_section};
-ghost use Rattle.node_pages.specs.HitsPage.{search_part, section_heading};
+ghost use Rattle.node_pages.specs.HitsPage.{cited_of, digits_of, hint, hits_end, is_none, least, list_mark};
+ghost use Rattle.node_pages.specs.HitsPage.{note_of, number_left_out, page_of_hits, request_of};
 
-use crate::card::{Fit, put_card};
-use crate::citation_page::put_citation;
-use crate::form::{isbn_in, issn_in, put_search_form};
-use crate::frame::{put_page_end, put_page_top};
+use crate::card::{Fit, put_cards};
+use crate::citation::put_cited_top;
+use crate::form::{isbn_in, issn_in, put_form_end};
+use crate::heading::heading_of;
 use feed_answer::Pair;
-use feed_bytes::put_all;
+use feed_bytes::put_number;
 use feed_openurl::CitationPart;
-use node_hits::{QueryFacts, RankedHit, ReleaseHit, Tally};
-use node_response::{Fragment, put};
+use node_hits::{QueryFacts, Tally};
 use node_site::{CitedTitle, SiteFile, Text, request_link, text_of};
+use node_templates::{Slot, Template, put_page, text_or_nothing};
 use std::alloc::{AllocError, Global};
 
 /// The tallies of a query that a page shows.
@@ -33,86 +28,41 @@ pub struct Tallies<'a> {
     pub others: Tally<'a>,
 }
 
-// The list of cards.
-const LIST: &[u8] = b"<ul class=\"hits\">\n";
+// The statement about the hits, and the beginning of their list.
+const LIST_START: [Template; 2] = [Template::Note, Template::Cards];
 
-const LIST_END: &[u8] = b"</ul>\n";
+// The end of the list, the number of hits that are left out, and the link to the request form.
+const LIST_END: [Template; 2] = [Template::LeftOut, Template::Request];
 
-fn put_hit(
-    out: &mut Vec<u8>,
-    site: &SiteFile,
-    cited: &[u8],
-    found: &ReleaseHit<'_>,
-) -> Result<(), AllocError>
-    ensures { OnOk result (out.new.items ≡ out.old.items ++ hit_card site.now cited.now found.now) }
+fn is_none(found: &Tallies<'_>) -> bool
+    ensures { result
+        ≡ is_none (tally_from found.now.hits) (tally_from found.now.also) (tally_from found.now.others) }
 {
-    put_card(out, site, cited, Fit::Hit(found.grade()), found)
+    found.hits.count() == 0 && (found.also.count() == 0 && found.others.count() == 0)
 }
 
-fn put_hits(
-    out: &mut Vec<u8>,
-    site: &SiteFile,
-    cited: &[u8],
-    hits: &[RankedHit<'_>],
-) -> Result<(), AllocError>
-    ensures { OnOk result (out.new.items ≡ out.old.items ++ flat_map (hit_card site.now cited.now) hits.now) }
+// Returns what is said if all rows were looked at, and none is a hit: that no holdings match, or that the library has
+// the titles only for another date or volume.
+fn note_of(tally: &Tally<'_>, is_none: bool) -> Option<Text>
+    ensures { result ≡ note_of (tally_from tally.now) is_none }
 {
-    for found in hits {
-        put_hit(out, site, cited, found.hit())?;
+    if !tally.is_whole() || tally.count() != 0 {
+        None
+    } else if is_none {
+        Some(Text::NoHoldings)
+    } else {
+        Some(Text::HeldOther)
     }
-    Ok(())
 }
 
-fn put_also(
-    out: &mut Vec<u8>,
-    site: &SiteFile,
-    cited: &[u8],
-    found: &ReleaseHit<'_>,
-) -> Result<(), AllocError>
-    ensures { OnOk result (out.new.items ≡ out.old.items ++ also_card site.now cited.now found.now) }
+/// Returns a value for the slot of a list that has items.
+pub(crate) fn list_mark(is_empty: bool) -> &'static [u8]
+    ensures { result.now ≡ list_mark is_empty }
 {
-    put_card(out, site, cited, Fit::Dated, found)
+    if is_empty { b"" } else { b"list" }
 }
 
-fn put_dated(
-    out: &mut Vec<u8>,
-    site: &SiteFile,
-    cited: &[u8],
-    hits: &[RankedHit<'_>],
-) -> Result<(), AllocError>
-    ensures { OnOk result (out.new.items ≡ out.old.items ++ flat_map (also_card site.now cited.now) hits.now) }
-{
-    for found in hits {
-        put_also(out, site, cited, found.hit())?;
-    }
-    Ok(())
-}
-
-fn put_other(
-    out: &mut Vec<u8>,
-    site: &SiteFile,
-    cited: &[u8],
-    found: &ReleaseHit<'_>,
-) -> Result<(), AllocError>
-    ensures { OnOk result (out.new.items ≡ out.old.items ++ other_card site.now cited.now found.now) }
-{
-    put_card(out, site, cited, Fit::Outside, found)
-}
-
-fn put_others(
-    out: &mut Vec<u8>,
-    site: &SiteFile,
-    cited: &[u8],
-    hits: &[RankedHit<'_>],
-) -> Result<(), AllocError>
-    ensures { OnOk result (out.new.items ≡ out.old.items ++ flat_map (other_card site.now cited.now) hits.now) }
-{
-    for found in hits {
-        put_other(out, site, cited, found.hit())?;
-    }
-    Ok(())
-}
-
+// Returns the words before a number of hits, which may be too small.
 fn least(is_whole: bool) -> Text
     ensures { result ≡ least is_whole }
 {
@@ -123,270 +73,37 @@ fn least(is_whole: bool) -> Text
     }
 }
 
-// Writes how to ask for fewer hits. A search that stopped would look at the same rows again.
-#[tactic(auto, unfolding(crate::specs::HitsPage::fewer_text))]
-fn put_fewer_text(out: &mut Vec<u8>, site: &SiteFile) -> Result<(), AllocError>
-    ensures { OnOk result (out.new.items ≡ out.old.items ++ fewer_text site.now) }
+// Returns how to ask for fewer hits, if some are left out. A search that stopped would look at the same rows again.
+fn hint<'a>(site: &'a SiteFile, tally: &Tally<'_>) -> &'a [u8]
+    ensures { result.now ≡ hint site.now (tally_from tally.now) }
 {
-    put_all(
-        out,
-        &[
-            Fragment::Plain(b" "),
-            Fragment::Escaped(text_of(site, Text::NotShownHint)),
-        ],
-    )
-}
-
-fn put_fewer(out: &mut Vec<u8>, site: &SiteFile, is_whole: bool) -> Result<(), AllocError>
-    ensures { OnOk result (out.new.items ≡ out.old.items ++ fewer_part site.now is_whole) }
-{
-    if is_whole {
-        put_fewer_text(out, site)
+    if tally.is_whole() && !tally.shows_all() {
+        text_of(site, Text::NotShownHint)
     } else {
-        Ok(())
+        b""
     }
 }
 
-#[tactic(auto, unfolding(crate::specs::HitsPage::left_out_text))]
-fn put_left_out(
-    out: &mut Vec<u8>,
-    site: &SiteFile,
-    left_out: u64,
-    is_whole: bool,
-) -> Result<(), AllocError>
-    ensures { OnOk result (out.new.items ≡ out.old.items ++ left_out_text site.now left_out is_whole) }
-{
-    put_all(
-        out,
-        &[
-            Fragment::Plain(b"<p>"),
-            Fragment::Escaped(text_of(site, least(is_whole))),
-            Fragment::Plain(b" "),
-            Fragment::Number(left_out),
-            Fragment::Plain(b"."),
-        ],
-    )
-}
-
-#[tactic(auto, unfolding(crate::specs::HitsPage::more_text))]
-fn put_more_text(
-    out: &mut Vec<u8>,
-    site: &SiteFile,
-    left_out: u64,
-    is_whole: bool,
-) -> Result<(), AllocError>
-    ensures { OnOk result (out.new.items ≡ out.old.items ++ more_text site.now left_out is_whole) }
-{
-    put_left_out(out, site, left_out, is_whole)?;
-    put_fewer(out, site, is_whole)?;
-    put(out, b"</p>\n")
-}
-
-// Writes how many hits are left out, unless all are shown.
-fn put_more(out: &mut Vec<u8>, site: &SiteFile, tally: &Tally<'_>) -> Result<(), AllocError>
-    ensures { OnOk result (out.new.items ≡ out.old.items ++ more_part site.now (tally_from tally.now)) }
+// Returns how many hits are left out, if any are.
+fn number_left_out(tally: &Tally<'_>) -> Option<usize>
+    ensures { result ≡ number_left_out (tally_from tally.now) }
 {
     if tally.shows_all() {
-        return Ok(());
-    }
-    put_more_text(out, site, tally.left_out() as u64, tally.is_whole())
-}
-
-#[tactic(auto, unfolding(crate::specs::HitsPage::paragraph))]
-pub(crate) fn put_paragraph(
-    out: &mut Vec<u8>,
-    site: &SiteFile,
-    name: Text,
-) -> Result<(), AllocError>
-    ensures { OnOk result (out.new.items ≡ out.old.items ++ paragraph site.now name) }
-{
-    put_all(
-        out,
-        &[
-            Fragment::Plain(b"<p class=\"note\">"),
-            Fragment::Escaped(text_of(site, name)),
-            Fragment::Plain(b"</p>\n"),
-        ],
-    )
-}
-
-// Writes the cards: those of hits, then those of titles whose date is covered, then those of other dates.
-#[tactic(auto, unfolding(crate::specs::HitsPage::cards))]
-fn put_cards(
-    out: &mut Vec<u8>,
-    site: &SiteFile,
-    cited: &[u8],
-    hits: &[RankedHit<'_>],
-    also: &[RankedHit<'_>],
-    others: &[RankedHit<'_>],
-) -> Result<(), AllocError>
-    ensures { OnOk result (out.new.items
-        ≡ out.old.items ++ cards site.now cited.now hits.now also.now others.now) }
-{
-    put(out, LIST)?;
-    put_hits(out, site, cited, hits)?;
-    put_dated(out, site, cited, also)?;
-    put_others(out, site, cited, others)?;
-    put(out, LIST_END)
-}
-
-// Returns whether all rows were looked at, and none is a hit.
-fn has_no_hits(tally: &Tally<'_>) -> bool
-    ensures { result ≡ has_no_hits (tally_from tally.now) }
-{
-    tally.is_whole() && tally.count() == 0
-}
-
-// Writes that the library has the titles only for another date or volume, if no row is a hit.
-fn put_held(out: &mut Vec<u8>, site: &SiteFile, tally: &Tally<'_>) -> Result<(), AllocError>
-    ensures { OnOk result (out.new.items ≡ out.old.items ++ held_part site.now (tally_from tally.now)) }
-{
-    if has_no_hits(tally) {
-        put_paragraph(out, site, Text::HeldOther)
+        None
     } else {
-        Ok(())
+        Some(tally.left_out())
     }
 }
 
-#[tactic(auto, unfolding(crate::specs::HitsPage::cards_part))]
-fn put_cards_part(
-    out: &mut Vec<u8>,
-    site: &SiteFile,
-    cited: &[u8],
-    found: &Tallies<'_>,
-) -> Result<(), AllocError>
-    ensures { OnOk result (out.new.items
-        ≡ out.old.items
-        ++ cards_part site.now cited.now (tally_from found.now.hits) (tally_from found.now.also)
-        (tally_from found.now.others)) }
+/// Returns the digits of a number, if there is one.
+pub(crate) fn digits_of(alloc: Global, number: Option<usize>) -> Result<Vec<u8>, AllocError>
+    ensures { IfOk result (λ digits. digits.items ≡ digits_of number) }
 {
-    let (hits, also, others) = (found.hits.top(), found.also.top(), found.others.top());
-    put_held(out, site, &found.hits)?;
-    put_cards(out, site, cited, hits, also, others)?;
-    put_more(out, site, &found.hits)
-}
-
-fn is_none(found: &Tallies<'_>) -> bool
-    ensures { result
-        ≡ is_none (tally_from found.now.hits) (tally_from found.now.also) (tally_from found.now.others) }
-{
-    found.hits.count() == 0 && (found.also.count() == 0 && found.others.count() == 0)
-}
-
-// Writes that no holdings match, or that rows which were not looked at may.
-fn put_none(out: &mut Vec<u8>, site: &SiteFile, tally: &Tally<'_>) -> Result<(), AllocError>
-    ensures { OnOk result (out.new.items ≡ out.old.items ++ none_part site.now (tally_from tally.now)) }
-{
-    if tally.is_whole() {
-        put_paragraph(out, site, Text::NoHoldings)
-    } else {
-        put_more(out, site, tally)
+    let mut digits = Vec::new(alloc);
+    if let Some(number) = number {
+        put_number(&mut digits, number as u64)?;
     }
-}
-
-fn put_found(
-    out: &mut Vec<u8>,
-    site: &SiteFile,
-    cited: &[u8],
-    found: &Tallies<'_>,
-) -> Result<(), AllocError>
-    ensures { OnOk result (out.new.items
-        ≡ out.old.items
-        ++ found_part site.now cited.now (tally_from found.now.hits) (tally_from found.now.also)
-        (tally_from found.now.others)) }
-{
-    if is_none(found) {
-        put_none(out, site, &found.hits)
-    } else {
-        put_cards_part(out, site, cited, found)
-    }
-}
-
-#[tactic(auto, unfolding(crate::specs::HitsPage::answer_part))]
-fn put_answer(
-    out: &mut Vec<u8>,
-    site: &SiteFile,
-    pairs: &[Pair<'_>],
-    ask: &QueryFacts,
-    found: &Tallies<'_>,
-) -> Result<(), AllocError>
-    ensures { OnOk result (out.new.items
-        ≡ out.old.items
-        ++ answer_part site.now pairs.now ask.now (tally_from found.now.hits) (tally_from found.now.also)
-        (tally_from found.now.others)) }
-{
-    put_citation(out, site, pairs, ask)?;
-    let cited = ask.citation.text(CitationPart::Title).as_bytes();
-    put_found(out, site, cited, found)
-}
-
-/// Writes a link with its label.
-#[tactic(auto, unfolding(crate::specs::HitsPage::link_to))]
-pub(crate) fn put_link_to<'a>(
-    out: &mut Vec<u8>,
-    label: &'a [u8],
-    url: &'a [u8],
-) -> Result<(), AllocError>
-    ensures { OnOk result (out.new.items ≡ out.old.items ++ link_to label.now url.now) }
-{
-    put_all(
-        out,
-        &[
-            Fragment::Plain(b"<p><a href=\""),
-            Fragment::Escaped(url),
-            Fragment::Plain(b"\">"),
-            Fragment::Escaped(label),
-            Fragment::Plain(b"</a></p>\n"),
-        ],
-    )
-}
-
-// Writes a link of the library, if it has one.
-fn put_link(
-    out: &mut Vec<u8>,
-    site: &SiteFile,
-    name: Text,
-    url: Option<&str>,
-) -> Result<(), AllocError>
-    ensures { OnOk result (out.new.items
-        ≡ out.old.items ++ link_part site.now name (option_copied url.entry)) }
-{
-    match url {
-        Some(url) => put_link_to(out, text_of(site, name), url.as_bytes()),
-        None => Ok(()),
-    }
-}
-
-// Writes the links to the library's help and contact.
-#[tactic(auto, unfolding(crate::specs::HitsPage::help_part))]
-fn put_help(out: &mut Vec<u8>, site: &SiteFile) -> Result<(), AllocError>
-    ensures { OnOk result (out.new.items ≡ out.old.items ++ help_part site.now) }
-{
-    put_link(out, site, Text::Help, site.help())?;
-    put_link(out, site, Text::Contact, site.contact())
-}
-
-/// Writes the heading of a section.
-#[tactic(auto, unfolding(crate::specs::HitsPage::section_heading))]
-pub fn put_section_heading<'a>(out: &mut Vec<u8>, label: &'a [u8]) -> Result<(), AllocError>
-    ensures { OnOk result (out.new.items ≡ out.old.items ++ section_heading label.now) }
-{
-    put_all(
-        out,
-        &[
-            Fragment::Plain(b"<h2>"),
-            Fragment::Escaped(label),
-            Fragment::Plain(b"</h2>\n"),
-        ],
-    )
-}
-
-#[tactic(auto, unfolding(crate::specs::HitsPage::search_part))]
-fn put_search(out: &mut Vec<u8>, site: &SiteFile, pairs: &[Pair<'_>]) -> Result<(), AllocError>
-    ensures { OnOk result (out.new.items ≡ out.old.items ++ search_part site.now pairs.now) }
-{
-    put_section_heading(out, text_of(site, Text::NewSearch))?;
-    put_search_form(out, site, pairs)
+    Ok(digits)
 }
 
 // Returns the parts of a query's citation that a request form may take.
@@ -400,71 +117,55 @@ fn cited_of<'p>(ask: &'p QueryFacts, pairs: &'p [Pair<'_>]) -> CitedTitle<'p>
     }
 }
 
-#[tactic(auto, unfolding(crate::specs::HitsPage::request_section))]
-fn put_request_section(out: &mut Vec<u8>, site: &SiteFile, url: &[u8]) -> Result<(), AllocError>
-    ensures { OnOk result (out.new.items ≡ out.old.items ++ request_section site.now url.now) }
-{
-    put_section_heading(out, text_of(site, Text::OtherWays))?;
-    put_link_to(out, text_of(site, Text::Request), url)
-}
-
-// Writes the link to the library's request form, filled with the citation, if the library has one.
-fn put_request(
+/// Returns the link to the library's request form, filled with the citation, or nothing.
+pub(crate) fn request_of(
     alloc: Global,
-    out: &mut Vec<u8>,
     site: &SiteFile,
     ask: &QueryFacts,
     pairs: &[Pair<'_>],
-) -> Result<(), AllocError>
-    ensures { OnOk result (out.new.items ≡ out.old.items ++ request_part site.now ask.now pairs.now) }
+) -> Result<Vec<u8>, AllocError>
+    ensures { IfOk result (λ link. link.items ≡ request_of site.now ask.now pairs.now) }
 {
     match request_link(alloc, site, &cited_of(ask, pairs))? {
-        Some(url) => put_request_section(out, site, &url),
-        None => Ok(()),
+        Some(link) => Ok(link),
+        None => Ok(Vec::new(alloc)),
     }
 }
 
-/// Writes what follows an answer: the link to the library's request form, the form for a new search with what the
-/// query has for its fields, and the library's help and contact.
-#[tactic(auto, unfolding(crate::specs::HitsPage::page_bottom))]
-pub(crate) fn put_bottom(
+// Writes what is behind the cards.
+#[tactic(auto, unfolding(node_templates::specs::Pages::page_text, crate::specs::HitsPage::hits_end))]
+fn put_hits_end(
     alloc: Global,
     out: &mut Vec<u8>,
     site: &SiteFile,
     pairs: &[Pair<'_>],
     ask: &QueryFacts,
+    tally: &Tally<'_>,
+    is_none: bool,
 ) -> Result<(), AllocError>
-    ensures { OnOk result (out.new.items ≡ out.old.items ++ page_bottom site.now pairs.now ask.now) }
+    ensures { OnOk result (out.new.items
+        ≡ out.old.items ++ page_text site.now (hits_end site.now pairs.now ask.now (tally_from tally.now) is_none)) }
 {
-    put_request(alloc, out, site, ask, pairs)?;
-    put_search(out, site, pairs)?;
-    put_page_foot(out, site)
-}
-
-/// Writes the library's help and contact, and the end of a page.
-#[tactic(auto, unfolding(crate::specs::HitsPage::page_foot))]
-pub fn put_page_foot(out: &mut Vec<u8>, site: &SiteFile) -> Result<(), AllocError>
-    ensures { OnOk result (out.new.items ≡ out.old.items ++ page_foot site.now) }
-{
-    put_help(out, site)?;
-    put_page_end(out)
-}
-
-fn page_name(tally: &Tally<'_>) -> Text
-    ensures { result ≡ page_name (tally_from tally.now) }
-{
-    if tally.count() != 0 {
-        Text::FullText
-    } else if tally.is_whole() {
-        Text::NoFullText
-    } else {
-        Text::NoFullTextSoFar
-    }
+    let left_out = digits_of(alloc, number_left_out(tally))?;
+    let request = request_of(alloc, site, ask, pairs)?;
+    put_page(
+        out,
+        site,
+        &LIST_END,
+        &[
+            (Slot::Listed, list_mark(is_none)),
+            (Slot::LeastText, text_of(site, least(tally.is_whole()))),
+            (Slot::LeftOut, &left_out),
+            (Slot::Hint, hint(site, tally)),
+            (Slot::Request, &request),
+        ],
+    )?;
+    put_form_end(out, site, pairs)
 }
 
 /// Writes the page with the citation of a query with these pairs, and the cards of the hits that their tally shows. If
 /// others are left out, it says how many. Behind them are the cards of the two other tallies.
-#[tactic(auto, unfolding(crate::specs::HitsPage::page_of_hits))]
+#[tactic(auto, unfolding(node_templates::specs::Pages::page_text, crate::specs::HitsPage::page_of_hits))]
 pub fn put_hits_page(
     alloc: Global,
     out: &mut Vec<u8>,
@@ -478,7 +179,24 @@ pub fn put_hits_page(
         ++ page_of_hits site.now pairs.now ask.now (tally_from found.now.hits) (tally_from found.now.also)
         (tally_from found.now.others)) }
 {
-    put_page_top(out, site, page_name(&found.hits))?;
-    put_answer(out, site, pairs, ask, found)?;
-    put_bottom(alloc, out, site, pairs, ask)
+    let cited = ask.citation.text(CitationPart::Title).as_bytes();
+    let is_none = is_none(found);
+    let note = text_or_nothing(site, note_of(&found.hits, is_none));
+    put_cited_top(
+        out,
+        site,
+        &heading_of(alloc, site, &found.hits)?,
+        pairs,
+        ask,
+    )?;
+    put_page(
+        out,
+        site,
+        &LIST_START,
+        &[(Slot::Note, note), (Slot::Listed, list_mark(is_none))],
+    )?;
+    put_cards(out, site, cited, Fit::Hit, found.hits.top())?;
+    put_cards(out, site, cited, Fit::Dated, found.also.top())?;
+    put_cards(out, site, cited, Fit::Outside, found.others.top())?;
+    put_hits_end(alloc, out, site, pairs, ask, &found.hits, is_none)
 }

@@ -1,32 +1,37 @@
 //! The responses to queries for which nothing is looked up.
-ghost use Rattle.std.specs.Prelude.{◌≡◌, ◌++◌, IfOk, OnOk, true, false};
-ghost use Rattle.node_request.specs.declared.representation.Representation.TheVariants as representation;
+ghost use Rattle.std.specs.Prelude.{◌≡◌, ◌++◌, IfOk, OnOk};
 ghost use Rattle.node_hits.specs.QueryFacts.{ask_of, names_work};
-ghost use Rattle.node_response.specs.Responses.{response_with};
-ghost use Rattle.node_response.specs.declared.status.Status.TheVariants as status;
-ghost use Rattle.node_site.specs.declared.text_table.Text.TheVariants as page;
-ghost use Rattle.node_pages.specs.ErrorPages.{error_body, error_response};
-ghost use Rattle.node_pages.specs.QueryRefusals.{asks_for_form, form_page};
-ghost use Rattle.node_pages.specs.QueryRefusals.{is_numberless, nothing_json, nothing_part};
+ghost use Rattle.node_pages.specs.QueryRefusals.{asks_for_form, is_numberless, nothing_json};
 ghost use Rattle.node_pages.specs.QueryRefusals.{nothing_text, numberless_body, numberless_response};
-ghost use Rattle.node_pages.specs.QueryRefusals.{numberless_status};
-ghost use Rattle.node_pages.specs.QueryRefusals.{page_of_nothing};
-ghost use Rattle.node_pages.specs.QueryRefusals.{reason_text, unasked_response};
+ghost use Rattle.node_pages.specs.QueryRefusals.{numberless_status, page_of_nothing, reason_text};
+ghost use Rattle.node_pages.specs.QueryRefusals.{reasons, reasons_with, unasked_response};
+ghost use Rattle.node_templates.specs.Pages.{page_text};
 
-use crate::citation_page::put_citation;
-use crate::error_page::put_error_page;
-use crate::form::put_search_form;
-use crate::frame::put_page_top;
-use crate::hits_page::{put_bottom, put_page_foot, put_paragraph};
-use crate::titles_form::put_titles_form;
+use crate::citation::put_cited_top;
+use crate::error_page::error_response;
+use crate::form::{isbn_in, issn_in, put_form_end};
+use crate::hits_page::request_of;
+use crate::home_page::form_response;
+use crate::number_faults::{NumberKind, fault_words};
+use crate::openurl_text::OpenUrlText;
 use feed_answer::Pair;
 use feed_bytes::put_all;
 use feed_openurl::{CitationPart, OpenUrlFault};
 use node_hits::{QueryFacts, ReceivedOpenUrl, Tally, names_work, put_answer_json};
 use node_request::Representation;
 use node_response::{Fragment, Response, Status, put_fault};
-use node_site::{SiteFile, Text};
+use node_site::{SiteFile, Text, text_of};
+use node_templates::{Slot, Template, put_page};
 use std::alloc::{AllocError, Global};
+
+// The statement that nothing is looked up, what is wrong with the numbers, the form for the title, and the link to the
+// request form.
+const NOTHING: [Template; 4] = [
+    Template::Note,
+    Template::NumberFaults,
+    Template::TitlesForm,
+    Template::Request,
+];
 
 fn reason_text(reason: OpenUrlFault) -> &'static [u8]
     ensures { result.now ≡ reason_text reason }
@@ -46,22 +51,60 @@ fn is_numberless(reason: OpenUrlFault) -> bool
     !matches!(reason, OpenUrlFault::TooMany)
 }
 
-#[tactic(auto, unfolding(crate::specs::QueryRefusals::nothing_part))]
-fn put_nothing(
+// Writes that nothing is looked up, what is wrong with the numbers, and this link to the request form.
+#[tactic(auto, unfolding(crate::specs::QueryRefusals::reasons_with))]
+fn put_reasons_with(
     out: &mut Vec<u8>,
     site: &SiteFile,
     pairs: &[Pair<'_>],
     ask: &QueryFacts,
+    issn_fault: &[u8],
+    isbn_fault: &[u8],
+    request: &[u8],
 ) -> Result<(), AllocError>
-    ensures { OnOk result (out.new.items ≡ out.old.items ++ nothing_part site.now pairs.now ask.now) }
+    ensures { OnOk result (out.new.items
+        ≡ out.old.items
+        ++ page_text site.now (reasons_with site.now pairs.now ask.now issn_fault.now isbn_fault.now request.now)) }
 {
-    put_citation(out, site, pairs, ask)?;
-    put_paragraph(out, site, Text::NoNumber)?;
-    put_titles_form(out, site, ask.citation.text(CitationPart::Title).as_bytes())
+    put_page(
+        out,
+        site,
+        &NOTHING,
+        &[
+            (Slot::Note, text_of(site, Text::NoNumber)),
+            (Slot::Issn, issn_in(pairs)),
+            (Slot::IssnFault, issn_fault),
+            (Slot::Isbn, isbn_in(pairs)),
+            (Slot::IsbnFault, isbn_fault),
+            (
+                Slot::Wanted,
+                ask.citation.text(CitationPart::Title).as_bytes(),
+            ),
+            (Slot::Request, request),
+        ],
+    )
 }
 
-#[tactic(auto, unfolding(crate::specs::QueryRefusals::page_of_nothing))]
-fn put_page(
+// Writes that nothing is looked up, and why.
+#[tactic(auto, unfolding(crate::specs::QueryRefusals::reasons))]
+fn put_reasons(
+    alloc: Global,
+    out: &mut Vec<u8>,
+    site: &SiteFile,
+    pairs: &[Pair<'_>],
+    ask: &QueryFacts,
+    request: &[u8],
+) -> Result<(), AllocError>
+    ensures { OnOk result (out.new.items
+        ≡ out.old.items ++ page_text site.now (reasons site.now pairs.now ask.now request.now)) }
+{
+    let issn_fault = fault_words(alloc, site, NumberKind::Issn, issn_in(pairs))?;
+    let isbn_fault = fault_words(alloc, site, NumberKind::Isbn, isbn_in(pairs))?;
+    put_reasons_with(out, site, pairs, ask, &issn_fault, &isbn_fault, request)
+}
+
+#[tactic(auto, unfolding(node_templates::specs::Pages::page_text, crate::specs::QueryRefusals::page_of_nothing))]
+fn put_nothing(
     alloc: Global,
     out: &mut Vec<u8>,
     site: &SiteFile,
@@ -70,9 +113,10 @@ fn put_page(
 ) -> Result<(), AllocError>
     ensures { OnOk result (out.new.items ≡ out.old.items ++ page_of_nothing site.now pairs.now ask.now) }
 {
-    put_page_top(out, site, Text::NothingToLookUp)?;
-    put_nothing(out, site, pairs, ask)?;
-    put_bottom(alloc, out, site, pairs, ask)
+    let request = request_of(alloc, site, ask, pairs)?;
+    put_cited_top(out, site, text_of(site, Text::NothingToLookUp), pairs, ask)?;
+    put_reasons(alloc, out, site, pairs, ask, &request)?;
+    put_form_end(out, site, pairs)
 }
 
 #[tactic(auto, unfolding(crate::specs::QueryRefusals::nothing_text))]
@@ -118,7 +162,7 @@ fn put_numberless(
 {
     let named = names_work(&ask.citation);
     match query.representation {
-        Representation::Html => put_page(alloc, out, site, query.pairs(), ask),
+        Representation::Html => put_nothing(alloc, out, site, query.pairs(), ask),
         Representation::Text if named => put_text(out, reason),
         Representation::Json if named => put_json(alloc, out, ask, reason),
         _ => put_fault(out, query.representation, reason_text(reason)),
@@ -155,63 +199,6 @@ fn asks_for_form(text: &[u8], representation: Representation) -> bool
     text.is_empty() && representation == Representation::Html
 }
 
-#[tactic(auto, unfolding(crate::specs::QueryRefusals::form_page))]
-fn put_form_page(out: &mut Vec<u8>, site: &SiteFile) -> Result<(), AllocError>
-    ensures { OnOk result (out.new.items ≡ out.old.items ++ form_page site.now) }
-{
-    put_page_top(out, site, Text::FindHoldings)?;
-    put_search_form(out, site, &[])?;
-    put_titles_form(out, site, b"")?;
-    put_page_foot(out, site)
-}
-
-fn form_response(alloc: Global, site: &SiteFile) -> Result<Response, AllocError>
-    ensures { IfOk result (λ reply. reply
-        ≡ response_with status.Good representation.Html (form_page site.now)) }
-{
-    let mut body = Vec::new(alloc);
-    put_form_page(&mut body, site)?;
-    Ok(Response::new(Status::Good, Representation::Html, body))
-}
-
-#[tactic(auto, unfolding(crate::specs::ErrorPages::error_body))]
-fn put_too_many(
-    out: &mut Vec<u8>,
-    site: &SiteFile,
-    query: &ReceivedOpenUrl<'_>,
-    name: &[u8],
-) -> Result<(), AllocError>
-    ensures { OnOk result (out.new.items
-        ≡ out.old.items
-        ++ error_body site.now query.now.text.now query.now.representation page.TooManyNumbers name.now) }
-{
-    match query.representation {
-        Representation::Html => put_error_page(
-            out,
-            site,
-            query.pairs(),
-            Text::TooManyNumbers,
-            name,
-        ),
-        Representation::Text | Representation::Json => put_fault(out, query.representation, name),
-    }
-}
-
-fn too_many_response(
-    alloc: Global,
-    site: &SiteFile,
-    query: &ReceivedOpenUrl<'_>,
-    name: &[u8],
-) -> Result<Response, AllocError>
-    ensures { IfOk result (λ reply. reply
-        ≡ error_response site.now query.now.text.now status.BadRequest query.now.representation page.TooManyNumbers
-        name.now) }
-{
-    let mut body = Vec::new(alloc);
-    put_too_many(&mut body, site, query, name)?;
-    Ok(Response::new(Status::BadRequest, query.representation, body))
-}
-
 /// Returns the response to a query for which nothing is looked up: the form, if the query is empty and the response is
 /// a page. A query without an ISSN and an ISBN, of any format and version, has a response with this status if its
 /// citation names a work. Any other is rejected.
@@ -236,5 +223,17 @@ pub fn unasked_response(
     if is_numberless(reason) {
         return numberless_response(alloc, site, query, status, reason);
     }
-    too_many_response(alloc, site, query, reason_text(reason))
+    let asked = OpenUrlText {
+        text: query.text,
+        representation: query.representation,
+    };
+    let name = reason_text(reason);
+    error_response(
+        alloc,
+        site,
+        &asked,
+        Status::BadRequest,
+        Text::TooManyNumbers,
+        name,
+    )
 }

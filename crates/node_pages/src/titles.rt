@@ -2,11 +2,10 @@
 ghost use Rattle.std.specs.Prelude.{◌≡◌, ◌++◌, IfOk, OnOk};
 ghost use Rattle.std.specs.List.{flat_map};
 ghost use Rattle.node_response.specs.JsonLists.{items_from, json_list};
-ghost use Rattle.node_pages.specs.Titles.{ask_members, back_fields, behind, coverage_members, end_members};
-ghost use Rattle.node_pages.specs.Titles.{front_fields, identifier_members, isbn_pairs, issn_pairs, link_start};
-ghost use Rattle.node_pages.specs.Titles.{next_line, next_member, next_value, online_text, print_text};
-ghost use Rattle.node_pages.specs.Titles.{record_members, row_members};
-ghost use Rattle.node_pages.specs.Titles.{title_line, title_link, title_object, titles_json, titles_text};
+ghost use Rattle.node_pages.specs.Titles.{ask_members, back_fields, between, coverage_members, end_members};
+ghost use Rattle.node_pages.specs.Titles.{front_fields, isbn_pairs, issn_pairs, next_line, next_member, next_value};
+ghost use Rattle.node_pages.specs.Titles.{number_text, row_members, title_line, title_object, title_pairs};
+ghost use Rattle.node_pages.specs.Titles.{title_target, titles_json, titles_text};
 
 use feed_bytes::{put_all, put_number};
 use feed_identifiers::{Isbn, Issn};
@@ -16,47 +15,51 @@ use node_response::{Fragment, put, put_comma, put_list_end, put_list_start};
 use node_titles::{ListedRow, TitleSearch, Walk};
 use std::alloc::{AllocError, Global};
 
-// Writes an ISSN behind a text, if there is one.
-fn put_issn(out: &mut Vec<u8>, front: &[u8], issn: Option<Issn>) -> Result<(), AllocError>
-    ensures { OnOk result (out.new.items ≡ out.old.items ++ behind front.now issn) }
+/// Writes an ISSN between two texts, if there is one.
+pub(crate) fn put_issn(
+    out: &mut Vec<u8>,
+    front: &[u8],
+    issn: Option<Issn>,
+    back: &[u8],
+) -> Result<(), AllocError>
+    ensures { OnOk result (out.new.items ≡ out.old.items ++ between front.now issn back.now) }
 {
     match issn {
         Some(issn) => {
             put(out, front)?;
-            put(out, &issn.text())
+            put(out, &issn.text())?;
+            put(out, back)
         }
         None => Ok(()),
     }
 }
 
-fn put_isbn(out: &mut Vec<u8>, front: &[u8], isbn: Option<Isbn>) -> Result<(), AllocError>
-    ensures { OnOk result (out.new.items ≡ out.old.items ++ behind front.now isbn) }
+/// Writes an ISBN between two texts, if there is one.
+pub(crate) fn put_isbn(
+    out: &mut Vec<u8>,
+    front: &[u8],
+    isbn: Option<Isbn>,
+    back: &[u8],
+) -> Result<(), AllocError>
+    ensures { OnOk result (out.new.items ≡ out.old.items ++ between front.now isbn back.now) }
 {
     match isbn {
         Some(isbn) => {
             put(out, front)?;
-            put(out, &isbn.text())
+            put(out, &isbn.text())?;
+            put(out, back)
         }
         None => Ok(()),
     }
 }
 
-// Returns the identifier of a row in print, an ISSN or an ISBN, or nothing.
-fn print_text(alloc: Global, row: &Row) -> Result<Vec<u8>, AllocError>
-    ensures { IfOk result (λ text. text.items ≡ print_text row.now.identifiers) }
+// Returns an ISSN or an ISBN, or nothing.
+fn number_text(alloc: Global, issn: Option<Issn>, isbn: Option<Isbn>) -> Result<Vec<u8>, AllocError>
+    ensures { IfOk result (λ text. text.items ≡ number_text issn isbn) }
 {
     let mut text = Vec::new(alloc);
-    put_issn(&mut text, b"", row.print())?;
-    put_isbn(&mut text, b"", row.print_isbn())?;
-    Ok(text)
-}
-
-fn online_text(alloc: Global, row: &Row) -> Result<Vec<u8>, AllocError>
-    ensures { IfOk result (λ text. text.items ≡ online_text row.now.identifiers) }
-{
-    let mut text = Vec::new(alloc);
-    put_issn(&mut text, b"", row.online())?;
-    put_isbn(&mut text, b"", row.online_isbn())?;
+    put_issn(&mut text, b"", issn, b"")?;
+    put_isbn(&mut text, b"", isbn, b"")?;
     Ok(text)
 }
 
@@ -64,42 +67,43 @@ fn online_text(alloc: Global, row: &Row) -> Result<Vec<u8>, AllocError>
 fn put_issn_pairs(out: &mut Vec<u8>, row: &Row) -> Result<(), AllocError>
     ensures { OnOk result (out.new.items ≡ out.old.items ++ issn_pairs row.now.identifiers) }
 {
-    put_issn(out, b"&rft.issn=", row.print())?;
-    put_issn(out, b"&rft.eissn=", row.online())
+    put_issn(out, b"&rft.issn=", row.print(), b"")?;
+    put_issn(out, b"&rft.eissn=", row.online(), b"")
 }
 
 #[tactic(auto, unfolding(crate::specs::Titles::isbn_pairs))]
 fn put_isbn_pairs(out: &mut Vec<u8>, row: &Row) -> Result<(), AllocError>
     ensures { OnOk result (out.new.items ≡ out.old.items ++ isbn_pairs row.now.identifiers) }
 {
-    put_isbn(out, b"&rft.isbn=", row.print_isbn())?;
-    put_isbn(out, b"&rft.isbn=", row.online_isbn())
+    put_isbn(out, b"&rft.isbn=", row.print_isbn(), b"")?;
+    put_isbn(out, b"&rft.isbn=", row.online_isbn(), b"")
 }
 
-#[tactic(auto, unfolding(crate::specs::Titles::link_start))]
-fn put_link_start(out: &mut Vec<u8>, format: &[u8]) -> Result<(), AllocError>
-    ensures { OnOk result (out.new.items ≡ out.old.items ++ link_start format.now) }
+fn put_title_pairs(out: &mut Vec<u8>, row: &Row) -> Result<(), AllocError>
+    ensures { OnOk result (out.new.items ≡ out.old.items ++ title_pairs row.now.identifiers) }
 {
-    put(out, b"/resolve?format=")?;
-    put(out, format)
-}
-
-#[tactic(auto, unfolding(crate::specs::Titles::title_link))]
-fn put_title_link(out: &mut Vec<u8>, format: &[u8], row: &Row) -> Result<(), AllocError>
-    ensures { OnOk result (out.new.items ≡ out.old.items ++ title_link format.now row.now.identifiers) }
-{
-    put_link_start(out, format)?;
     put_issn_pairs(out, row)?;
     put_isbn_pairs(out, row)
 }
 
-/// Returns the target of the query for a title in all packages, whose response has a format.
-pub(crate) fn title_target(alloc: Global, format: &[u8], row: &Row) -> Result<Vec<u8>, AllocError>
-    ensures { IfOk result (λ link. link.items ≡ title_link format.now row.now.identifiers) }
+/// Returns the pairs of the query for a title in all packages, each behind `&`.
+pub(crate) fn title_pairs(alloc: Global, row: &Row) -> Result<Vec<u8>, AllocError>
+    ensures { IfOk result (λ pairs. pairs.items ≡ title_pairs row.now.identifiers) }
 {
-    let mut link = Vec::new(alloc);
-    put_title_link(&mut link, format, row)?;
-    Ok(link)
+    let mut pairs = Vec::new(alloc);
+    put_title_pairs(&mut pairs, row)?;
+    Ok(pairs)
+}
+
+// Returns the target of that query, whose response is JSON.
+#[tactic(auto, unfolding(crate::specs::Titles::title_target))]
+fn title_target(alloc: Global, row: &Row) -> Result<Vec<u8>, AllocError>
+    ensures { IfOk result (λ target. target.items ≡ title_target row.now.identifiers) }
+{
+    let mut target = Vec::new(alloc);
+    put(&mut target, b"/resolve?format=json")?;
+    put_title_pairs(&mut target, row)?;
+    Ok(target)
 }
 
 #[tactic(auto, unfolding(crate::specs::Titles::front_fields))]
@@ -155,8 +159,8 @@ fn put_line(out: &mut Vec<u8>, entry: &ListedRow<'_>) -> Result<(), AllocError>
     ensures { OnOk result (out.new.items ≡ out.old.items ++ title_line entry.now) }
 {
     let row = entry.row();
-    let print = print_text(*out.allocator(), row)?;
-    let online = online_text(*out.allocator(), row)?;
+    let print = number_text(*out.allocator(), row.print(), row.print_isbn())?;
+    let online = number_text(*out.allocator(), row.online(), row.online_isbn())?;
     let days = days_words(*out.allocator(), row)?;
     let volumes = volumes_words(*out.allocator(), row)?;
     put_front_fields(out, entry.name().package(), row.number(), row.title())?;
@@ -197,36 +201,23 @@ pub(crate) fn put_titles_text(out: &mut Vec<u8>, walk: &Walk<'_>) -> Result<(), 
     put_next_line(out, walk.next())
 }
 
-#[tactic(auto, unfolding(crate::specs::Titles::record_members))]
-fn put_record_members<'a>(out: &mut Vec<u8>, number: u32, title: &'a [u8]) -> Result<(), AllocError>
-    ensures { OnOk result (out.new.items ≡ out.old.items ++ record_members number title.now) }
+#[tactic(auto, unfolding(crate::specs::Titles::row_members))]
+fn put_row_members(out: &mut Vec<u8>, row: &Row) -> Result<(), AllocError>
+    ensures { OnOk result (out.new.items ≡ out.old.items ++ row_members row.now) }
 {
+    let print = number_text(*out.allocator(), row.print(), row.print_isbn())?;
+    let online = number_text(*out.allocator(), row.online(), row.online_isbn())?;
     put_all(
         out,
         &[
             Fragment::Plain(b",\"record\":"),
-            Fragment::Number(u64::from(number)),
+            Fragment::Number(u64::from(row.number())),
             Fragment::Plain(b",\"title\":"),
-            Fragment::Quoted(title),
-        ],
-    )
-}
-
-#[tactic(auto, unfolding(crate::specs::Titles::identifier_members))]
-fn put_identifier_members<'a>(
-    out: &mut Vec<u8>,
-    print: &'a [u8],
-    online: &'a [u8],
-) -> Result<(), AllocError>
-    ensures { OnOk result (out.new.items ≡ out.old.items ++ identifier_members print.now online.now) }
-{
-    put_all(
-        out,
-        &[
+            Fragment::Quoted(row.title()),
             Fragment::Plain(b",\"print_identifier\":"),
-            Fragment::Quoted(print),
+            Fragment::Quoted(&print),
             Fragment::Plain(b",\"online_identifier\":"),
-            Fragment::Quoted(online),
+            Fragment::Quoted(&online),
         ],
     )
 }
@@ -254,23 +245,13 @@ fn put_coverage_members<'a>(
     )
 }
 
-#[tactic(auto, unfolding(crate::specs::Titles::row_members))]
-fn put_row_members(out: &mut Vec<u8>, row: &Row) -> Result<(), AllocError>
-    ensures { OnOk result (out.new.items ≡ out.old.items ++ row_members row.now) }
-{
-    let print = print_text(*out.allocator(), row)?;
-    let online = online_text(*out.allocator(), row)?;
-    put_record_members(out, row.number(), row.title())?;
-    put_identifier_members(out, &print, &online)
-}
-
 #[tactic(auto, unfolding(crate::specs::Titles::end_members))]
 fn put_end_members(out: &mut Vec<u8>, row: &Row) -> Result<(), AllocError>
     ensures { OnOk result (out.new.items ≡ out.old.items ++ end_members row.now) }
 {
     let days = days_words(*out.allocator(), row)?;
     let volumes = volumes_words(*out.allocator(), row)?;
-    let link = title_target(*out.allocator(), b"json", row)?;
+    let link = title_target(*out.allocator(), row)?;
     put_coverage_members(out, &days, &volumes, &link)
 }
 

@@ -1,136 +1,91 @@
 //! Writes the titles that contain a text as an HTML page, and makes the response to a query for them.
-ghost use Rattle.std.specs.Prelude.{◌≡◌, ◌++◌, IfOk, OnOk, codes, string_bytes};
-ghost use Rattle.std.specs.List.{flat_map};
-ghost use Rattle.percent_encoding.specs.Percent.{percent_encode};
-ghost use Rattle.percent_encoding.specs.declared.ascii_set.TheConstants.{NON_ALPHANUMERIC};
-ghost use Rattle.node_pages.specs.TitlesPage.{card_back, card_front, fault_text, found_titles};
-ghost use Rattle.node_pages.specs.TitlesPage.{further_part, further_target, number_sentence, numbers_words};
-ghost use Rattle.node_pages.specs.TitlesPage.{order_part, row_card, title_card, title_cards, titles_body};
-ghost use Rattle.node_pages.specs.TitlesPage.{titles_error_page, titles_form_page, titles_page, titles_part};
-ghost use Rattle.node_pages.specs.TitlesPage.{titles_refusal, titles_response};
+ghost use Rattle.std.specs.Prelude.{◌≡◌, ◌++◌, IfOk, OnOk};
+ghost use Rattle.node_templates.specs.Pages.{page_text};
+ghost use Rattle.node_pages.specs.TitlesPage.{fault_text, title_card, title_cards, title_words, titles_body};
+ghost use Rattle.node_pages.specs.TitlesPage.{titles_end, titles_form_page, titles_page, titles_refusal};
+ghost use Rattle.node_pages.specs.TitlesPage.{titles_response};
 ghost use Rattle.node_request.specs.declared.representation.Representation.TheVariants as representation;
 ghost use Rattle.node_response.specs.Responses.{response_with};
 ghost use Rattle.node_response.specs.declared.status.Status.TheVariants as status;
 ghost use Rattle.node_titles.specs.Walks.{titles_from};
 
 use crate::coverage::put_coverage;
-use crate::error_page::put_advice;
-use crate::frame::put_page_top;
-use crate::hits_page::{put_link_to, put_page_foot, put_paragraph};
+use crate::hits_page::{digits_of, list_mark};
 use crate::openurl_text::OpenUrlText;
-use crate::titles::{put_titles_json, put_titles_text, title_target};
-use crate::titles_form::put_titles_form;
-use feed_bytes::put_all;
-use feed_identifiers::{Isbn, Issn};
+use crate::titles::{put_isbn, put_issn, put_titles_json, put_titles_text, title_pairs};
 use feed_kbart::Row;
 use feed_releases::ActiveRelease;
 use node_request::Representation;
-use node_response::{Fragment, Response, Status, put, refusal};
+use node_response::{Response, Status, refusal};
 use node_site::{SiteFile, Text, shown_package, text_of};
+use node_templates::{Slot, Template, put_page, text_if};
 use node_titles::{ListedRow, TitleFault, TitleSearch, Walk, find_titles};
 use percent_encoding::{NON_ALPHANUMERIC, percent_encode};
 use std::alloc::{AllocError, Global};
 
-// The list of cards.
-const CARDS: &[u8] = b"<ul class=\"hits\">\n";
+// The form, and the list of titles, or that there are none.
+const LIST_START: [Template; 4] = [
+    Template::Top,
+    Template::TitlesForm,
+    Template::Note,
+    Template::Cards,
+];
 
-const CARDS_END: &[u8] = b"</ul>\n";
+const LIST_END: [Template; 2] = [Template::TitlesEnd, Template::Foot];
 
-// The target of a further walk, up to the text that is asked for.
-const FURTHER: &[u8] = b"/titles?format=html&q=";
+const FORM_PAGE: [Template; 5] = [
+    Template::Top,
+    Template::Note,
+    Template::Fault,
+    Template::TitlesForm,
+    Template::Foot,
+];
 
-fn put_issn(out: &mut Vec<u8>, issn: Option<Issn>) -> Result<(), AllocError>
-    ensures { OnOk result (out.new.items ≡ out.old.items ++ number_sentence (codes "ISSN ") issn) }
+// Returns the identifiers of a row and what it covers, in words.
+fn title_words(alloc: Global, site: &SiteFile, row: &Row) -> Result<Vec<u8>, AllocError>
+    ensures { IfOk result (λ words. words.items ≡ title_words site.now row.now) }
 {
-    match issn {
-        Some(issn) => {
-            put(out, b"ISSN ")?;
-            put(out, &issn.text())?;
-            put(out, b". ")
-        }
-        None => Ok(()),
-    }
+    let mut words = Vec::new(alloc);
+    put_issn(&mut words, b"ISSN ", row.print(), b". ")?;
+    put_issn(&mut words, b"ISSN ", row.online(), b". ")?;
+    put_isbn(&mut words, b"ISBN ", row.print_isbn(), b". ")?;
+    put_isbn(&mut words, b"ISBN ", row.online_isbn(), b". ")?;
+    put_coverage(&mut words, site, row)?;
+    Ok(words)
 }
 
-fn put_isbn(out: &mut Vec<u8>, isbn: Option<Isbn>) -> Result<(), AllocError>
-    ensures { OnOk result (out.new.items ≡ out.old.items ++ number_sentence (codes "ISBN ") isbn) }
-{
-    match isbn {
-        Some(isbn) => {
-            put(out, b"ISBN ")?;
-            put(out, &isbn.text())?;
-            put(out, b". ")
-        }
-        None => Ok(()),
-    }
-}
-
-fn put_numbers(out: &mut Vec<u8>, row: &Row) -> Result<(), AllocError>
-    ensures { OnOk result (out.new.items ≡ out.old.items ++ numbers_words row.now.identifiers) }
-{
-    put_issn(out, row.print())?;
-    put_issn(out, row.online())?;
-    put_isbn(out, row.print_isbn())?;
-    put_isbn(out, row.online_isbn())
-}
-
-#[tactic(auto, unfolding(crate::specs::TitlesPage::card_front))]
-fn put_card_front<'a>(
-    out: &mut Vec<u8>,
-    link: &'a [u8],
-    title: &'a [u8],
-    package_name: &'a [u8],
-) -> Result<(), AllocError>
-    ensures { OnOk result (out.new.items ≡ out.old.items ++ card_front link.now title.now package_name.now) }
-{
-    put_all(
-        out,
-        &[
-            Fragment::Plain(b"<li>\n<p class=\"name\"><a href=\""),
-            Fragment::Escaped(link),
-            Fragment::Plain(b"\"><bdi>"),
-            Fragment::Escaped(title),
-            Fragment::Plain(b"</bdi></a></p>\n<p class=\"title\"><bdi>"),
-            Fragment::Escaped(package_name),
-            Fragment::Plain(b"</bdi></p>\n<div class=\"more\">"),
-        ],
-    )
-}
-
-#[tactic(auto, unfolding(crate::specs::TitlesPage::card_back))]
-fn put_card_back(out: &mut Vec<u8>, site: &SiteFile, row: &Row) -> Result<(), AllocError>
-    ensures { OnOk result (out.new.items ≡ out.old.items ++ card_back site.now row.now) }
-{
-    put_numbers(out, row)?;
-    put_coverage(out, site, row)?;
-    put(out, b"</div>\n</li>\n")
-}
-
-#[tactic(auto, unfolding(crate::specs::TitlesPage::row_card))]
-fn put_row_card(out: &mut Vec<u8>, site: &SiteFile, key: &[u8], row: &Row) -> Result<(), AllocError>
-    ensures { OnOk result (out.new.items ≡ out.old.items ++ row_card site.now key.now row.now) }
-{
-    let link = title_target(*out.allocator(), b"html", row)?;
-    put_card_front(out, &link, row.title(), shown_package(site, key))?;
-    put_card_back(out, site, row)
-}
-
+#[tactic(auto, unfolding(crate::specs::TitlesPage::title_card))]
 fn put_title_card(
     out: &mut Vec<u8>,
     site: &SiteFile,
     entry: &ListedRow<'_>,
 ) -> Result<(), AllocError>
-    ensures { OnOk result (out.new.items ≡ out.old.items ++ title_card site.now entry.now) }
+    ensures { OnOk result (out.new.items
+        ≡ out.old.items ++ page_text site.now (title_card site.now entry.now)) }
 {
-    put_row_card(out, site, entry.name().package(), entry.row())
+    let pairs = title_pairs(*out.allocator(), entry.row())?;
+    let words = title_words(*out.allocator(), site, entry.row())?;
+    put_page(
+        out,
+        site,
+        &[Template::TitleCard],
+        &[
+            (Slot::Numbers, &pairs),
+            (Slot::Title, entry.row().title()),
+            (Slot::Package, shown_package(site, entry.name().package())),
+            (Slot::Coverage, &words),
+        ],
+    )
 }
 
-fn put_each_card(
+#[tactic(auto, unfolding(node_templates::specs::Pages::page_text))]
+fn put_title_cards(
     out: &mut Vec<u8>,
     site: &SiteFile,
     found: &[ListedRow<'_>],
 ) -> Result<(), AllocError>
-    ensures { OnOk result (out.new.items ≡ out.old.items ++ flat_map (title_card site.now) found.now) }
+    ensures { OnOk result (out.new.items
+        ≡ out.old.items ++ page_text site.now (title_cards site.now found.now)) }
 {
     for entry in found {
         put_title_card(out, site, entry)?;
@@ -138,112 +93,33 @@ fn put_each_card(
     Ok(())
 }
 
-#[tactic(auto, unfolding(crate::specs::TitlesPage::title_cards))]
-fn put_title_cards(
-    out: &mut Vec<u8>,
-    site: &SiteFile,
-    found: &[ListedRow<'_>],
-) -> Result<(), AllocError>
-    ensures { OnOk result (out.new.items ≡ out.old.items ++ title_cards site.now found.now) }
-{
-    put(out, CARDS)?;
-    put_each_card(out, site, found)?;
-    put(out, CARDS_END)
-}
-
-// Writes the rows that were found, or that there are none.
-fn put_found(out: &mut Vec<u8>, site: &SiteFile, found: &[ListedRow<'_>]) -> Result<(), AllocError>
-    ensures { OnOk result (out.new.items ≡ out.old.items ++ found_titles site.now found.now) }
-{
-    if found.is_empty() {
-        put_paragraph(out, site, Text::NoTitles)
-    } else {
-        put_title_cards(out, site, found)
-    }
-}
-
-#[tactic(auto, unfolding(crate::specs::TitlesPage::order_part))]
-fn put_order(out: &mut Vec<u8>, site: &SiteFile) -> Result<(), AllocError>
-    ensures { OnOk result (out.new.items ≡ out.old.items ++ order_part site.now) }
-{
-    put_all(
-        out,
-        &[
-            Fragment::Plain(b"<p>"),
-            Fragment::Escaped(text_of(site, Text::TitleOrder)),
-            Fragment::Plain(b"</p>\n"),
-        ],
-    )
-}
-
-#[tactic(auto, unfolding(crate::specs::TitlesPage::further_target))]
-fn put_target<'a>(out: &mut Vec<u8>, encoded: &'a [u8], place: usize) -> Result<(), AllocError>
-    ensures { OnOk result (out.new.items ≡ out.old.items ++ further_target encoded.now place) }
-{
-    put_all(
-        out,
-        &[
-            Fragment::Plain(FURTHER),
-            Fragment::Plain(encoded),
-            Fragment::Plain(b"&start="),
-            Fragment::Number(place as u64),
-        ],
-    )
-}
-
-fn encoded(alloc: Global, text: &[u8]) -> Result<String, AllocError>
-    ensures { IfOk result (λ encoded. string_bytes encoded ≡ percent_encode NON_ALPHANUMERIC text.now) }
-{
-    let mut encoded = String::new(alloc);
-    percent_encode(text, NON_ALPHANUMERIC).append_to(&mut encoded)?;
-    Ok(encoded)
-}
-
-// Returns the target of the next walk.
-fn target_of(alloc: Global, asked: &[u8], place: usize) -> Result<Vec<u8>, AllocError>
-    ensures { IfOk result (λ target. target.items
-        ≡ further_target (percent_encode NON_ALPHANUMERIC asked.now) place) }
-{
-    let text = encoded(alloc, asked)?;
-    let mut target = Vec::new(alloc);
-    put_target(&mut target, text.as_bytes(), place)?;
-    Ok(target)
-}
-
-// Writes the link to the next walk, if rows are left.
-fn put_further(
-    out: &mut Vec<u8>,
-    site: &SiteFile,
-    asked: &[u8],
-    next: Option<usize>,
-) -> Result<(), AllocError>
-    ensures { OnOk result (out.new.items ≡ out.old.items ++ further_part site.now asked.now next) }
-{
-    match next {
-        Some(place) => {
-            let target = target_of(*out.allocator(), asked, place)?;
-            put_link_to(out, text_of(site, Text::FurtherTitles), &target)
-        }
-        None => Ok(()),
-    }
-}
-
-#[tactic(auto, unfolding(crate::specs::TitlesPage::titles_part))]
-fn put_titles(
+#[tactic(auto, unfolding(crate::specs::TitlesPage::titles_end))]
+fn put_titles_end(
     out: &mut Vec<u8>,
     site: &SiteFile,
     asked: &[u8],
     walk: &Walk<'_>,
 ) -> Result<(), AllocError>
-    ensures { OnOk result (out.new.items ≡ out.old.items ++ titles_part site.now asked.now walk.now) }
+    ensures { OnOk result (out.new.items
+        ≡ out.old.items ++ page_text site.now (titles_end asked.now walk.now)) }
 {
-    put_found(out, site, walk.found())?;
-    put_order(out, site)?;
-    put_further(out, site, asked, walk.next())
+    let mut encoded = String::new(*out.allocator());
+    percent_encode(asked, NON_ALPHANUMERIC).append_to(&mut encoded)?;
+    let next = digits_of(*out.allocator(), walk.next())?;
+    put_page(
+        out,
+        site,
+        &LIST_END,
+        &[
+            (Slot::Listed, list_mark(walk.found().is_empty())),
+            (Slot::Encoded, encoded.as_bytes()),
+            (Slot::Start, &next),
+        ],
+    )
 }
 
-#[tactic(auto, unfolding(crate::specs::TitlesPage::titles_page))]
-fn put_page(
+#[tactic(auto, unfolding(node_templates::specs::Pages::page_text, crate::specs::TitlesPage::titles_page))]
+fn put_titles_page(
     out: &mut Vec<u8>,
     site: &SiteFile,
     asked: &[u8],
@@ -251,29 +127,20 @@ fn put_page(
 ) -> Result<(), AllocError>
     ensures { OnOk result (out.new.items ≡ out.old.items ++ titles_page site.now asked.now walk.now) }
 {
-    put_page_top(out, site, Text::FindTitles)?;
-    put_titles_form(out, site, asked)?;
-    put_titles(out, site, asked, walk)?;
-    put_page_foot(out, site)
-}
-
-#[tactic(auto, unfolding(crate::specs::TitlesPage::titles_form_page))]
-fn put_form_page(out: &mut Vec<u8>, site: &SiteFile) -> Result<(), AllocError>
-    ensures { OnOk result (out.new.items ≡ out.old.items ++ titles_form_page site.now) }
-{
-    put_page_top(out, site, Text::FindTitles)?;
-    put_titles_form(out, site, b"")?;
-    put_page_foot(out, site)
-}
-
-#[tactic(auto, unfolding(crate::specs::TitlesPage::titles_error_page))]
-fn put_error_page(out: &mut Vec<u8>, site: &SiteFile, name: &[u8]) -> Result<(), AllocError>
-    ensures { OnOk result (out.new.items ≡ out.old.items ++ titles_error_page site.now name.now) }
-{
-    put_page_top(out, site, Text::NotAnswered)?;
-    put_advice(out, site, Text::TitlesNotRead, name)?;
-    put_titles_form(out, site, b"")?;
-    put_page_foot(out, site)
+    let is_empty = walk.found().is_empty();
+    put_page(
+        out,
+        site,
+        &LIST_START,
+        &[
+            (Slot::Heading, text_of(site, Text::FindTitles)),
+            (Slot::Wanted, asked),
+            (Slot::Note, text_if(is_empty, text_of(site, Text::NoTitles))),
+            (Slot::Listed, list_mark(is_empty)),
+        ],
+    )?;
+    put_title_cards(out, site, walk.found())?;
+    put_titles_end(out, site, asked, walk)
 }
 
 #[tactic(auto, unfolding(crate::specs::TitlesPage::titles_body))]
@@ -290,7 +157,7 @@ fn put_body(
     match representation {
         Representation::Text => put_titles_text(out, walk),
         Representation::Json => put_titles_json(out, ask, walk),
-        Representation::Html => put_page(out, site, ask.text(), walk),
+        Representation::Html => put_titles_page(out, site, ask.text(), walk),
     }
 }
 
@@ -320,21 +187,30 @@ fn fault_text(fault: TitleFault) -> &'static [u8]
     }
 }
 
-fn form_response(alloc: Global, site: &SiteFile) -> Result<Response, AllocError>
-    ensures { IfOk result (λ reply. reply ≡ response_with status.Good representation.Html (titles_form_page site.now)) }
-{
-    let mut body = Vec::new(alloc);
-    put_form_page(&mut body, site)?;
-    Ok(Response::new(Status::Good, Representation::Html, body))
-}
-
-fn error_response(alloc: Global, site: &SiteFile, name: &[u8]) -> Result<Response, AllocError>
+#[tactic(auto, unfolding(crate::specs::TitlesPage::titles_form_page))]
+fn form_response(
+    alloc: Global,
+    site: &SiteFile,
+    status: Status,
+    heading: &[u8],
+    note: &[u8],
+    name: &[u8],
+) -> Result<Response, AllocError>
     ensures { IfOk result (λ reply. reply
-        ≡ response_with status.BadRequest representation.Html (titles_error_page site.now name.now)) }
+        ≡ response_with status representation.Html (titles_form_page site.now heading.now note.now name.now)) }
 {
     let mut body = Vec::new(alloc);
-    put_error_page(&mut body, site, name)?;
-    Ok(Response::new(Status::BadRequest, Representation::Html, body))
+    put_page(
+        &mut body,
+        site,
+        &FORM_PAGE,
+        &[
+            (Slot::Heading, heading),
+            (Slot::Note, note),
+            (Slot::Fault, name),
+        ],
+    )?;
+    Ok(Response::new(status, Representation::Html, body))
 }
 
 fn titles_refusal(
@@ -350,10 +226,12 @@ fn titles_refusal(
         return refusal(alloc, Status::BadRequest, representation, name);
     }
     if fault == TitleFault::NoText {
-        form_response(alloc, site)
-    } else {
-        error_response(alloc, site, name)
+        let heading = text_of(site, Text::FindTitles);
+        return form_response(alloc, site, Status::Good, heading, b"", b"");
     }
+    let heading = text_of(site, Text::NotAnswered);
+    let note = text_of(site, Text::TitlesNotRead);
+    form_response(alloc, site, Status::BadRequest, heading, note, name)
 }
 
 /// Returns the response to a query for titles in the given releases: those that contain the text of `q`, from the place

@@ -1,5 +1,5 @@
 -- Bytes begin with one head at most, so a fact about it has one proof at most.
-use Rattle.std.proofs.Common.{◌≡◌, ◌≤◌, ℕ, List, length, ap}
+use Rattle.std.proofs.Common.{◌≤◌, ℕ, List, length, ap}
 use Rattle.std.specs.Prelude.{Option, MatchOption}
 use Rattle.std.proofs.Props.{props}
 use mathlib.Core.HLevel.{Σ_prop_path}

@@ -4,3 +4,5 @@ pub mod FoundRequests
 pub mod FetchRequests
 pub mod Forms
 pub mod Conditions
+pub mod Hosts
+pub mod HostLaws

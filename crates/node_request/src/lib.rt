@@ -1,11 +1,12 @@
-//! What a request asks of a node: the route that its target names, the representation that it prefers, and whether it
-//! may make the node fetch a release.
+//! What a request asks of a node: the host and the route that its target names, the representation that it prefers, and
+//! whether it may make the node fetch a release.
 #![tactic(auto)]
 
 mod authorization;
 mod condition;
 mod fetch_target;
 mod form;
+mod host;
 mod received;
 mod representation;
 mod route;
@@ -14,6 +15,7 @@ pub use authorization::{FetchPolicy, is_authorized};
 pub use condition::has_tag;
 pub use fetch_target::{fetch_request, fetch_to_begin, name_to_fetch};
 pub use form::{FormFault, form_length, form_of, takes_form};
+pub use host::{host_of, other_fields_do_not_count, whole_target_decides};
 pub use received::{ParsedRequest, ReceivedRequest};
 pub use representation::{Representation, accepted_representation, representation_of};
 pub use route::{Route, is_unsupported_method, package_in, path_in, query_in, route_at};

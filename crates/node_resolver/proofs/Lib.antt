@@ -10,3 +10,4 @@ pub mod Tagged
 pub mod Conditions
 pub mod SameTags
 pub mod Held
+pub mod Hosted

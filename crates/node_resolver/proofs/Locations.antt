@@ -30,7 +30,8 @@ use Rattle.node_hits.proofs.SoleHits.{sole_is}
 use Rattle.node_hits.specs.Laws.{IsSoleHit}
 use Rattle.node_site.specs.declared.text_table.Text.TheVariants as advice
 use Rattle.node_pages.specs.ErrorPages.{error_response}
-use Rattle.node_pages.specs.QueryRefusals.{asks_for_form, form_page, is_numberless, numberless_body, numberless_status, reason_text, unasked_response}
+use Rattle.node_pages.specs.HomePage.{form_page}
+use Rattle.node_pages.specs.QueryRefusals.{asks_for_form, is_numberless, numberless_body, numberless_status, reason_text, unasked_response}
 use Rattle.node_pages.specs.TitlesPage.{titles_by}
 use Rattle.node_titles.specs.TitleSearches as title_searches
 use Rattle.node_titles.specs.declared.title_search.TitleFault.{TitleFault}

@@ -14,15 +14,16 @@ use Rattle.feed_http_heads.specs.Targets.{origin_form}
 use Rattle.node_hits.specs.Searches.{SearchValue}
 use Rattle.feed_openurl.specs.declared.fault.OpenUrlFault.{OpenUrlFault}
 use Rattle.node_request.specs.FoundRequests.{BeginsWith}
-use Rattle.node_request.specs.FetchRequests.{FetchPolicyValue, name_at, name_to_fetch}
-use Rattle.node_response.specs.FetchResponses.{fetch_response, IsFetchMessage}
+use Rattle.node_request.specs.FetchRequests.{name_at, name_to_fetch}
+use Rattle.node_response.specs.FetchResponses.{IsFetchMessage}
 use Rattle.node_request.specs.Representations.{accepted_representation, representation_of, preferred_in, format_of}
 use Rattle.node_request.specs.Forms.{form_of, form_in, form_by, is_form_post, takes_form, has_form_type, stated_length}
 use Rattle.node_request.specs.declared.form.FormFault.{FormFault}
 use Rattle.node_request.specs.declared.form.FormFault.TheVariants as fault
 use Rattle.node_request.specs.declared.representation.Representation.{Representation}
 use Rattle.node_request.specs.Routes.{path_in, query_in, route_at, route_of, package_in, is_unsupported_method}
-use Rattle.node_resolver.specs.Status.{home_page, status_body}
+use Rattle.node_resolver.specs.Status.{status_body}
+use Rattle.node_pages.specs.HomePage.{home_page}
 use Rattle.node_request.specs.declared.representation.Representation.TheVariants.{Text, Json, Html}
 use Rattle.node_pages.specs.TitlesPage.{titles_response}
 use Rattle.node_request.specs.declared.route.Route.{Route}
@@ -48,7 +49,6 @@ use Rattle.node_resolver.specs.Responses.{route_response, resolve_response, pack
 use Rattle.node_resolver.specs.Responses.{method_refusal, has_coded_body, resolve_response_at, response_by_form, untagged_response, site_response, tagged_response, response_to, IsResponse}
 use Rattle.node_resolver.specs.Answered.{IsGoodIn, IsAnswered, IsAnsweredTo}
 use Rattle.node_resolver.specs.Validators.{is_tagged, has_validator}
-use Rattle.node_resolver.specs.NodeResponses.{node_response, IsNodeResponse, AsksForNoFetch}
 use Rattle.node_resolver.specs.Messages.{as_get, HeadIsHeadOfGet, AsksToGo, GoesTo, GoesToBest, FormIsGet, RedirectsSoleHit}
 use Rattle.node_resolver.proofs.Locations.{link_location, response_located, sole_hit}
 use Rattle.node_resolver.proofs.Tagged.{final_by, tag_asked, tagged_cases, no_preflight, tagged_statable, tagged_young}
@@ -403,23 +403,6 @@ form_is_get site keeps actives bytes body other post get n response form same be
     )
 
 -- ---- nodes
-
-plain_chosen : (lacks : Bool) (named : Option (List ℕ)) (fetch plain : ResponseTextValue) → (lacks ≡ true) ⊎ (named ≡ None)
-    → (if lacks then plain else option_map_or (λ name. fetch) named plain) ≡ plain
-plain_chosen true named fetch plain other = refl
-plain_chosen false None fetch plain other = refl
-plain_chosen false (Some name) fetch plain (inl e) = absurd (cc)
-plain_chosen false (Some name) fetch plain (inr e) = absurd (cc)
-
-resolves : (site : SiteValue) (policy : FetchPolicyValue) (keeps : Bool) (actives : Dated) (head : RequestHead) (body : List ℕ) → (lacks_host head ≡ true) ⊎ (name_to_fetch head ≡ None)
-    → node_response site policy keeps actives head body ≡ response_to site keeps head body actives
-resolves site policy keeps actives head body other = plain_chosen (lacks_host head) (name_to_fetch head) (fetch_response policy keeps head) (response_to site keeps head body actives) other
-
--- a node responds as a resolver to a request that does not ask it to fetch
-pub as_resolver : (site : SiteValue) (policy : FetchPolicyValue) (bytes body : List ℕ) (keeps : Bool) (actives : Dated) (response : ResponseTextValue) → AsksForNoFetch bytes
-    → IsNodeResponse site policy bytes body keeps actives response → IsResponse site bytes body keeps actives response
-as_resolver site policy bytes body keeps actives response plain (inl (head, begins, is)) = inl (head, begins, is ∙ resolves site policy keeps actives head body (plain head begins))
-as_resolver site policy bytes body keeps actives response plain (inr none) = inr none
 
 only_then : (b : Bool) (o : Option (List ℕ)) (text : List ℕ) → (if b then o else None) ≡ Some text → b ≡ true
 only_then true o text e = refl

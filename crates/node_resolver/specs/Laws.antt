@@ -18,7 +18,8 @@ use Rattle.node_resolver.specs.Answers.{Sited, hits_among, tally_among, answers_
 use Rattle.node_resolver.specs.Status.{IsCountable, active_value, status_body}
 use Rattle.node_response.specs.Tags.{SiteValue}
 use Rattle.node_resolver.specs.Responses.{IsResponseAt}
-use Rattle.node_resolver.specs.NodeResponses.{IsNodeResponseAt, AsksForNoFetch}
+use Rattle.node_resolver.specs.declared.node_sites.NodeSites.{NodeSites}
+use Rattle.node_resolver.specs.NodeResponses.{IsNodeResponseAt, AsksForNoFetch, HaveSameSite}
 use Rattle.node_request.specs.FetchRequests.{FetchPolicyValue}
 
 -- the complete files that a node has stored are the published ones
@@ -34,15 +35,15 @@ SameReleasesSameBytes =
     → KeepsPublished file h → KeepsPublished file k → ReportAlike h k
     → IsResponseAt site today h bytes body keeps response → IsResponseAt site today k bytes body keeps reply → response ≡ reply
 
--- two nodes of the same version, settings and site file that report the same releases, and have stored the published files,
--- response on a day with the same bytes to each request that does not ask them to fetch, whatever their tokens are and
--- whether they are fetching
+-- two nodes of the same version and settings that have the same site for the host of a request, report the same releases,
+-- and have stored the published files, respond to it on a day with the same bytes, unless it asks them to fetch: whatever
+-- their other sites and their tokens are, and whether they are fetching
 abbrev pub SameReleasesSameNodeBytes : Type 0
 SameReleasesSameNodeBytes =
-    (file : Name → List ℕ) (site : SiteValue) (today : TodayValue) (h k : History) (policy other : FetchPolicyValue)
+    (file : Name → List ℕ) (sites others : NodeSites) (today : TodayValue) (h k : History) (policy other : FetchPolicyValue)
     (bytes body : List ℕ) (keeps : Bool) (response reply : ResponseTextValue)
-    → KeepsPublished file h → KeepsPublished file k → ReportAlike h k → AsksForNoFetch bytes
-    → IsNodeResponseAt site policy today h bytes body keeps response → IsNodeResponseAt site other today k bytes body keeps reply
+    → KeepsPublished file h → KeepsPublished file k → ReportAlike h k → HaveSameSite bytes sites others → AsksForNoFetch bytes
+    → IsNodeResponseAt sites policy today h bytes body keeps response → IsNodeResponseAt others other today k bytes body keeps reply
     → response ≡ reply
 
 -- the active releases in JSON are, by its grammar (RFC 8259), an array with one object for each, in their order

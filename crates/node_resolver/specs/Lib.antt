@@ -1,4 +1,5 @@
 pub mod Answers
+pub mod NodeSites
 pub mod AnswerTexts
 pub mod Status
 pub mod Validators
@@ -8,4 +9,5 @@ pub mod Messages
 pub mod NodeResponses
 pub mod FeedResponses
 pub mod Laws
+pub mod SiteLaws
 pub mod TagLaws

@@ -32,7 +32,8 @@ use Rattle.node_pages.specs.QueryRefusals.{unasked_response}
 use Rattle.node_pages.specs.TitlesPage.{titles_response}
 use Rattle.node_resolver.specs.Answers.{Dated, Sited, dated, is_of, only_at, sited, tally_among, answers_body}
 use Rattle.node_response.specs.Tags.{SiteValue}
-use Rattle.node_resolver.specs.Status.{status_body, home_page}
+use Rattle.node_resolver.specs.Status.{status_body}
+use Rattle.node_pages.specs.HomePage.{home_page}
 use Rattle.node_resolver.specs.Validators.{final_response, tag_to}
 
 -- the response to what a query asks for, or the one that says why nothing is looked up

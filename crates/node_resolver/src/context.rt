@@ -1,7 +1,7 @@
 //! The circumstances of a response beside its request.
 use feed_answer::Today;
 use feed_releases::ActiveRelease;
-use node_response::Site;
+use node_response::{Digested, Site};
 use node_site::SiteFile;
 use std::marker::Model;
 
@@ -11,6 +11,8 @@ pub struct Context<'a> {
     pub site: &'a Site,
     pub today: &'a Today,
     pub actives: &'a [ActiveRelease<'a>],
+    /// A text about releases whose digest is known, mostly about these.
+    pub releases: Option<&'a Digested>,
 }
 
 impl<'a> Model for Context<'a> {
@@ -23,7 +25,26 @@ impl<'a> Model for Context<'a> {
 
 impl<'a> Context<'a> {
     ghost use Rattle.std.specs.Prelude.{◌≡◌, ◌<◌, length};
-    ghost use Rattle.node_resolver.specs.Answers.{only_at, sited_in};
+    ghost use Rattle.node_resolver.specs.Answers.{dated, only_at, sited_in};
+
+    /// Returns the circumstances of a response by a site. No digest is known of the releases.
+    pub(crate) fn new(
+        site: &'a Site,
+        today: &'a Today,
+        actives: &'a [ActiveRelease<'a>],
+    ) -> Context<'a>
+        ensures { result ≡ record {
+          site = site.entry.now;
+          actives = dated today.entry.now actives.entry.now;
+        } }
+    {
+        Context {
+            site,
+            today,
+            actives,
+            releases: None,
+        }
+    }
 
     /// Returns the site file of the library.
     pub(crate) fn library(&self) -> &'a SiteFile
@@ -41,6 +62,7 @@ impl<'a> Context<'a> {
             site: self.site,
             today: self.today,
             actives: &self.actives[place..place + 1],
+            releases: self.releases,
         }
     }
 }

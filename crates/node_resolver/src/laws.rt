@@ -3,6 +3,8 @@ ghost use Rattle.node_resolver.specs.Laws.{SameReleasesSameBytes, SameReleasesSa
 ghost use Rattle.node_resolver.specs.Laws.{HitsAreHeld, LinksAreHeld, WholeTextIsWritten};
 ghost use Rattle.node_resolver.specs.Messages.{EveryPageIsUtf8, FormIsGet, GoesToBest, HeadIsHeadOfGet};
 ghost use Rattle.node_resolver.specs.Messages.{RedirectsSoleHit};
+ghost use Rattle.node_resolver.specs.SiteLaws.{HostHasItsSite, HostWithoutSiteIsMisdirected};
+ghost use Rattle.node_resolver.specs.SiteLaws.{OtherSitesDoNotCount};
 ghost use Rattle.node_resolver.specs.TagLaws.{SameReleasesSameTag, SameInputsSameBytes, NotModifiedHasTagOfGood};
 
 /// Two nodes that report the same releases, and have stored their published files, give each request of a day the same
@@ -11,7 +13,8 @@ pub fn same_releases_same_bytes()
     ensures { SameReleasesSameBytes }
 {}
 
-/// The same of the responses of `respond_as_node`, to each request that does not ask a node to fetch.
+/// The same of the responses of `respond_as_node`, to each request that does not ask a node to fetch, if both nodes
+/// have the same site for its host.
 pub fn same_releases_same_node_bytes()
     ensures { SameReleasesSameNodeBytes }
 {}
@@ -78,4 +81,19 @@ pub fn not_modified_has_tag_of_good()
 /// Each page is UTF-8, whatever the query, the lists and the site file have.
 pub fn every_page_is_utf8()
     ensures { EveryPageIsUtf8 }
+{}
+
+/// The response to a request does not depend on the sites of other hosts.
+pub fn other_sites_do_not_count()
+    ensures { OtherSitesDoNotCount }
+{}
+
+/// The response to a request for a host that has a site is that of a resolver with this site.
+pub fn host_has_its_site()
+    ensures { HostHasItsSite }
+{}
+
+/// A request for a host without a site gets 421 (RFC 9110, section 15.5.20).
+pub fn host_without_site_is_misdirected()
+    ensures { HostWithoutSiteIsMisdirected }
 {}

@@ -1,5 +1,5 @@
 //! A link resolver over HTTP/1.1: the target of a request is an OpenURL (ANSI/NISO Z39.88-2004), and the response is a
-//! function of the request's head and of the active releases of a feed.
+//! function of the request's head, of the site of its host and of the active releases of a feed.
 #![tactic(auto)]
 
 mod answers;
@@ -7,6 +7,7 @@ mod context;
 mod feed_responses;
 mod laws;
 mod node;
+mod node_sites;
 mod request;
 mod responses;
 mod status;
@@ -16,10 +17,12 @@ pub use context::Context;
 pub use feed_responses::{Activity, FeedTarget, LastFetch, ends_fetch, respond_about_feed};
 pub use laws::{
     every_page_is_utf8, form_is_get, goes_to_best, head_is_head_of_get, hits_are_held,
-    links_are_held, not_modified_has_tag_of_good, redirects_sole_hit, same_inputs_same_bytes,
-    same_releases_same_bytes, same_releases_same_node_bytes, same_releases_same_tag,
-    status_is_json, whole_text_is_written,
+    host_has_its_site, host_without_site_is_misdirected, links_are_held,
+    not_modified_has_tag_of_good, other_sites_do_not_count, redirects_sole_hit,
+    same_inputs_same_bytes, same_releases_same_bytes, same_releases_same_node_bytes,
+    same_releases_same_tag, status_is_json, whole_text_is_written,
 };
 pub use node::respond_as_node;
+pub use node_sites::{NamedSite, NodeSites};
 pub use responses::{respond, respond_with};
 pub use validators::keep_releases;

@@ -23,19 +23,20 @@ ghost use Rattle.node_resolver.specs.Responses.{method_refusal, plain_response, 
 ghost use Rattle.node_resolver.specs.Responses.{untagged_response, response_to};
 ghost use Rattle.node_resolver.specs.Validators.{unless_preflight};
 ghost use Rattle.node_resolver.specs.Messages.{IsMessageTo};
-ghost use Rattle.node_resolver.specs.Status.{home_page, status_body};
+ghost use Rattle.node_resolver.specs.Status.{status_body};
+ghost use Rattle.node_pages.specs.HomePage.{home_page};
 
 use crate::answers::{put_answer, put_counted, tally_among};
 use crate::context::Context;
 use crate::request::ReaderRequest;
-use crate::status::{put_home_page, put_status};
+use crate::status::put_status;
 use crate::validators::{preflight_status, tag_to, validated_response};
 use feed_answer::Today;
 use feed_http_heads::Request;
 use feed_keep::Keep;
 use feed_releases::{ActiveRelease, Feed};
 use node_hits::{Lookup, ReceivedOpenUrl, Tally};
-use node_pages::{OpenUrlText, error_response, unasked_response};
+use node_pages::{OpenUrlText, error_response, put_home_page, unasked_response};
 use node_request::{
     FormFault, ParsedRequest, ReceivedRequest, Representation, Route, accepted_representation,
     form_of, is_unsupported_method, package_in, representation_of, takes_form,
@@ -482,10 +483,6 @@ pub fn respond<K: Keep>(
     ensures says { IfOk result (λ response. SaysWhetherItKeeps keeps response.bytes) }
 {
     let actives = feed.actives()?;
-    let context = Context {
-        site,
-        today,
-        actives: &actives,
-    };
+    let context = Context::new(site, today, &actives);
     respond_with(alloc, received, body, keeps, &context)
 }

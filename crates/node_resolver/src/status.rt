@@ -1,67 +1,18 @@
-//! Writes the active releases as text, as JSON and as an HTML page, and the home page.
+//! Writes the active releases as text, as JSON and as an HTML page.
 ghost use Rattle.std.specs.Prelude.{◌≡◌, ◌++◌, OnOk};
 ghost use Rattle.std.specs.List.{flat_map};
 ghost use Rattle.node_response.specs.JsonLists.{items_from, json_list};
-ghost use Rattle.node_resolver.specs.Status.{active_item, active_items, active_line, active_object, status_body};
-ghost use Rattle.node_resolver.specs.Status.{counts_end, home_page, packages_part};
+ghost use Rattle.node_resolver.specs.Status.{active_line, active_object, counts_end, status_body};
 
 use feed_bytes::put_all;
 use feed_kbart::Holdings;
 use feed_releases::ActiveRelease;
 use node_hits::{name_text, put_release_members};
-use node_pages::{
-    put_page_foot, put_page_top, put_search_form, put_section_heading, put_titles_form,
-};
+use node_pages::put_home_page;
 use node_request::Representation;
 use node_response::{Fragment, put, put_comma, put_list_end, put_list_start};
-use node_site::{SiteFile, Text, shown_package, text_of};
+use node_site::SiteFile;
 use std::alloc::AllocError;
-
-#[tactic(auto, unfolding(crate::specs::Status::active_item))]
-fn put_item<'a>(
-    out: &mut Vec<u8>,
-    site: &'a SiteFile,
-    active: &'a ActiveRelease<'_>,
-) -> Result<(), AllocError>
-    ensures { OnOk result (out.new.items ≡ out.old.items ++ active_item site.now active.now) }
-{
-    put_all(
-        out,
-        &[
-            Fragment::Plain(b"<li>"),
-            Fragment::Escaped(shown_package(site, active.name().package())),
-            Fragment::Plain(b" ("),
-            Fragment::Escaped(name_text(active.name())),
-            Fragment::Plain(b")</li>\n"),
-        ],
-    )
-}
-
-fn put_each_item(
-    out: &mut Vec<u8>,
-    site: &SiteFile,
-    actives: &[ActiveRelease<'_>],
-) -> Result<(), AllocError>
-    ensures { OnOk result (out.new.items ≡ out.old.items ++ flat_map (active_item site.now) actives.now) }
-{
-    for active in actives {
-        put_item(out, site, active)?;
-    }
-    Ok(())
-}
-
-#[tactic(auto, unfolding(crate::specs::Status::active_items))]
-fn put_items(
-    out: &mut Vec<u8>,
-    site: &SiteFile,
-    actives: &[ActiveRelease<'_>],
-) -> Result<(), AllocError>
-    ensures { OnOk result (out.new.items ≡ out.old.items ++ active_items site.now actives.now) }
-{
-    put(out, b"<ul>\n")?;
-    put_each_item(out, site, actives)?;
-    put(out, b"</ul>\n")
-}
 
 #[tactic(auto, unfolding(crate::specs::Status::active_line))]
 fn put_line(out: &mut Vec<u8>, active: &ActiveRelease<'_>) -> Result<(), AllocError>
@@ -140,32 +91,4 @@ pub(crate) fn put_status(
         Representation::Json => put_json(out, actives),
         Representation::Html => put_home_page(out, site, actives),
     }
-}
-
-#[tactic(auto, unfolding(crate::specs::Status::packages_part))]
-fn put_packages(
-    out: &mut Vec<u8>,
-    site: &SiteFile,
-    actives: &[ActiveRelease<'_>],
-) -> Result<(), AllocError>
-    ensures { OnOk result (out.new.items ≡ out.old.items ++ packages_part site.now actives.now) }
-{
-    put_section_heading(out, text_of(site, Text::Packages))?;
-    put_items(out, site, actives)?;
-    put_page_foot(out, site)
-}
-
-/// Writes the page with the forms and the packages.
-#[tactic(auto, unfolding(crate::specs::Status::home_page))]
-pub(crate) fn put_home_page(
-    out: &mut Vec<u8>,
-    site: &SiteFile,
-    actives: &[ActiveRelease<'_>],
-) -> Result<(), AllocError>
-    ensures { OnOk result (out.new.items ≡ out.old.items ++ home_page site.now actives.now) }
-{
-    put_page_top(out, site, Text::FindHoldings)?;
-    put_search_form(out, site, &[])?;
-    put_titles_form(out, site, b"")?;
-    put_packages(out, site, actives)
 }

@@ -16,6 +16,7 @@ ghost use Rattle.node_resolver.specs.Answered.{IsAnswered, IsAnsweredTo};
 ghost use Rattle.node_resolver.specs.Responses.{untagged_response};
 
 use crate::context::Context;
+use crate::node_sites::NodeSites;
 use crate::request::ReaderRequest;
 use crate::responses::{position_of, untagged_response};
 use crate::status::put_lines;
@@ -51,22 +52,24 @@ fn lines_of(alloc: Global, actives: &[ActiveRelease<'_>]) -> Result<Vec<u8>, All
     Ok(text)
 }
 
-// Returns the tag by a text about the releases. Computes its digest only if the site keeps that of another text.
+// Returns the tag by a text about the releases. Computes its digest only if that of another text is known.
 fn tag_by(
     alloc: Global,
     site: &Site,
     today: &Today,
+    known: Option<&Digested>,
     text: Vec<u8>,
     representation: Representation,
 ) -> Result<Vec<u8>, AllocError>
     ensures { IfOk result (λ tag. tag.items
         ≡ entity_tag (inputs_of site.now today.now text.items representation)) }
 {
-    let kept = site.releases();
-    if kept.text() == text.as_slice() {
-        return site.tag(alloc, today, kept, representation);
+    match known {
+        Some(known) if known.text() == text.as_slice() => {
+            site.tag(alloc, today, known, representation)
+        }
+        _ => site.tag(alloc, today, &Digested::new(text), representation),
     }
-    site.tag(alloc, today, &Digested::new(text), representation)
 }
 
 fn tag_of(
@@ -77,11 +80,18 @@ fn tag_of(
     ensures { IfOk result (λ tag. tag.items ≡ tag_of context.now.site context.now.actives representation) }
 {
     let lines = lines_of(alloc, context.actives)?;
-    tag_by(alloc, context.site, context.today, lines, representation)
+    tag_by(
+        alloc,
+        context.site,
+        context.today,
+        context.releases,
+        lines,
+        representation,
+    )
 }
 
 /// Returns the entity tag of what a request asks for on a day. It is empty if there is none. Computes the digest of the
-/// active releases only if the site keeps that of others.
+/// active releases only if that of others is known.
 pub(crate) fn tag_to(
     alloc: Global,
     request: &ReaderRequest<'_>,
@@ -220,23 +230,21 @@ pub(crate) fn preflight_status(parsed: &ParsedRequest<'_>) -> Option<Status>
     preflight_of(parsed.route)
 }
 
-/// Keeps the digest of the active releases, if the site keeps that of others, and the digests of the day's tags.
+/// Prepares the tags of all sites for the active releases and for a day. Returns whether other releases are active than
+/// before.
 ///
 /// # Errors
 ///
-/// Running out of memory, after which each response computes its digest itself.
+/// Running out of memory, after which some responses compute their digests themselves.
 pub fn keep_releases<K: Keep>(
     alloc: Global,
-    site: &mut Site,
+    sites: &mut NodeSites,
     today: &Today,
     feed: &Feed<K>,
-) -> Result<(), AllocError>
-    ensures { site.new ≡ site.old }
+) -> Result<bool, AllocError>
+    ensures { sites.new ≡ sites.old }
 {
     let actives = feed.actives()?;
     let text = lines_of(alloc, &actives)?;
-    if site.releases().text() != text.as_slice() {
-        site.keep_releases(text);
-    }
-    site.keep_day(alloc, today)
+    sites.prepare(alloc, today, text)
 }

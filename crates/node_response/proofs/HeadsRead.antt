@@ -150,6 +150,7 @@ status_written status.Conflict location rest = refl
 status_written status.LengthRequired location rest = refl
 status_written status.ContentTooLarge location rest = refl
 status_written status.UnsupportedMediaType location rest = refl
+status_written status.Misdirected location rest = refl
 status_written status.NotImplemented location rest = refl
 
 -- the status line, and then lines
@@ -244,6 +245,7 @@ status_digits status.Conflict = (refl, refl, refl, refl)
 status_digits status.LengthRequired = (refl, refl, refl, refl)
 status_digits status.ContentTooLarge = (refl, refl, refl, refl)
 status_digits status.UnsupportedMediaType = (refl, refl, refl, refl)
+status_digits status.Misdirected = (refl, refl, refl, refl)
 status_digits status.NotImplemented = (refl, refl, refl, refl)
 
 literal_field : (name value : List ℕ) → 0 < length name → list_all is_token_byte name ≡ true → list_all is_value_byte (32 ∷ value) ≡ true → IsField (field name value)
@@ -296,6 +298,7 @@ status_valid status.Conflict location passes = literals_valid (status_pairs stat
 status_valid status.LengthRequired location passes = literals_valid (status_pairs status.LengthRequired location) refl
 status_valid status.ContentTooLarge location passes = literals_valid (status_pairs status.ContentTooLarge location) refl
 status_valid status.UnsupportedMediaType location passes = literals_valid (status_pairs status.UnsupportedMediaType location) refl
+status_valid status.Misdirected location passes = literals_valid (status_pairs status.Misdirected location) refl
 status_valid status.NotImplemented location passes = literals_valid (status_pairs status.NotImplemented location) refl
 
 media_passes : (representation : Representation) → list_all is_value_byte (32 ∷ type_text representation) ≡ true
@@ -445,6 +448,7 @@ status_values status.Conflict location = (refl, refl, refl, refl, refl, refl, re
 status_values status.LengthRequired location = (refl, refl, refl, refl, refl, refl, refl)
 status_values status.ContentTooLarge location = (refl, refl, refl, refl, refl, refl, refl)
 status_values status.UnsupportedMediaType location = (refl, refl, refl, refl, refl, refl, refl)
+status_values status.Misdirected location = (refl, refl, refl, refl, refl, refl, refl)
 status_values status.NotImplemented location = (refl, refl, refl, refl, refl, refl, refl)
 
 -- one value, or none

@@ -58,9 +58,9 @@ tag_visible inputs =
 
 -- a tag from the digest of its inputs
 pub tag_made : (site : SiteValue) (today : TodayValue) (releases : List ℕ) (representation : Representation) (source last digest : List ℕ)
-    → source ≡ source_digest site.version (decimal site.max_age) site.file releases → last ≡ kind_and_day representation today.day
+    → source ≡ source_digest site.version (decimal site.max_age) site.file site.library.listing releases → last ≡ kind_and_day representation today.day
     → digest ≡ sha256 (message_of source last) → quoted_hex digest ≡ entity_tag (inputs_of site today releases representation)
 unfolding entity_tag
 tag_made site today releases representation source last digest is ends made =
     ap quoted_hex (made ∙ ap (λ t. sha256 (message_of t last)) is
-    ∙ ap (λ t. sha256 (message_of (source_digest site.version (decimal site.max_age) site.file releases) t)) ends)
+    ∙ ap (λ t. sha256 (message_of (source_digest site.version (decimal site.max_age) site.file site.library.listing releases) t)) ends)

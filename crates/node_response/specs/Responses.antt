@@ -102,6 +102,7 @@ code_and_reason status.Conflict = (409, codes "Conflict")
 code_and_reason status.LengthRequired = (411, codes "Length Required")
 code_and_reason status.ContentTooLarge = (413, codes "Content Too Large")
 code_and_reason status.UnsupportedMediaType = (415, codes "Unsupported Media Type")
+code_and_reason status.Misdirected = (421, codes "Misdirected Request")
 code_and_reason status.NotImplemented = (501, codes "Not Implemented")
 
 -- the code alone

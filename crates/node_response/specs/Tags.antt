@@ -17,6 +17,10 @@ pub record SiteValue : Type 0 where
   pub file : List ℕ
   pub library : site_file.SiteValue
 
+-- the site with this holdings file
+abbrev pub with_listing : List ℕ → SiteValue → SiteValue
+with_listing text site = record site { library = site_file.with_listing text site.library }
+
 -- a site of this version and these settings, with this site file
 pub record IsSiteWith (version : List ℕ) (max_age : ℕ) (file : List ℕ) (site : SiteValue) : Type 0 where
   pub same_version : site.version ≡ version
@@ -30,6 +34,7 @@ pub record TagInputs : Type 0 where
   pub version : List ℕ
   pub settings : List ℕ
   pub file : List ℕ
+  pub listing : List ℕ
   pub releases : List ℕ
   pub day : ℤ
   pub representation : Representation
@@ -40,6 +45,7 @@ inputs_of site today releases representation = record {
   version = site.version;
   settings = decimal site.max_age;
   file = site.file;
+  listing = site.library.listing;
   releases = releases;
   day = today.day;
   representation = representation;
@@ -55,9 +61,16 @@ kind_of Html = 104
 abbrev pub kind_and_day : Representation → ℤ → List ℕ
 kind_and_day representation day = kind_of representation ∷ signed_decimal day
 
--- the digest of the digests of four texts: a node computes it when it starts, and when its releases change
-abbrev pub source_digest : List ℕ → List ℕ → List ℕ → List ℕ → List ℕ
-source_digest version settings file releases = sha256 (((sha256 version ++ sha256 settings) ++ sha256 file) ++ sha256 releases)
+-- the digest of the digests of five texts, of which the last two are given as digests: a node computes it when it starts,
+-- and when its releases change
+abbrev pub digest_of_digests : List ℕ → List ℕ → List ℕ → List ℕ → List ℕ → List ℕ
+digest_of_digests version settings file listing releases =
+    sha256 ((((sha256 version ++ sha256 settings) ++ sha256 file) ++ listing) ++ releases)
+
+-- the same of five texts
+abbrev pub source_digest : List ℕ → List ℕ → List ℕ → List ℕ → List ℕ → List ℕ
+source_digest version settings file listing releases =
+    digest_of_digests version settings file (sha256 listing) (sha256 releases)
 
 -- a digest, and a text
 abbrev pub message_of : List ℕ → List ℕ → List ℕ
@@ -66,7 +79,8 @@ message_of source last = source ++ last
 -- the digest of the texts, the representation and the day
 abbrev pub tag_message : TagInputs → List ℕ
 tag_message inputs =
-    message_of (source_digest inputs.version inputs.settings inputs.file inputs.releases) (kind_and_day inputs.representation inputs.day)
+    message_of (source_digest inputs.version inputs.settings inputs.file inputs.listing inputs.releases)
+    (kind_and_day inputs.representation inputs.day)
 
 -- bytes in hex, between quotation marks
 abbrev pub quoted_hex : List ℕ → List ℕ

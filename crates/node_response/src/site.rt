@@ -1,22 +1,24 @@
-//! The version, the settings and the site file of a node, on which its responses depend, and the tags that follow.
-ghost use Rattle.std.specs.Prelude.{◌≡◌, IfErr, IfOk};
+//! The version, the settings, the site file and the holdings file of a node, on which its responses depend, and the
+//! tags that follow.
+ghost use Rattle.std.specs.Prelude.{◌≡◌, List, ℕ, IfErr, IfOk, OnErr, OnOk};
 ghost use Rattle.std.specs.Fmt.{decimal};
-ghost use Rattle.node_response.specs.Tags.{entity_tag, inputs_of, kind_and_day, message_of};
-ghost use Rattle.node_response.specs.Tags.{quoted_hex, source_digest};
+ghost use Rattle.node_response.specs.Tags.{digest_of_digests, entity_tag, inputs_of, kind_and_day};
+ghost use Rattle.node_response.specs.Tags.{message_of, quoted_hex, source_digest};
 ghost use Rattle.sha2.specs.Sha256.{sha256};
 
 use crate::day_digests::{DayDigests, digest_on};
 use crate::digested::Digested;
 use feed_answer::Today;
 use node_request::Representation;
-use node_site::{SiteFault, SiteFile};
+use node_site::{HoldingsFault, SiteFault, SiteFile};
 use sha2::{Digest, Sha256};
 use std::alloc::{AllocError, Global};
 use std::io::Write;
 use std::marker::Model;
 
 /// The version of the program, the settings and the site file of a library, on which the responses of a node depend
-/// beside its releases and the day. They stay the same while a node runs.
+/// beside its releases and the day. They stay the same while a node runs. Of the releases it keeps only a digest, since
+/// a node may have many sites.
 #[derive(Drop)]
 pub struct Site {
     version: Digested,
@@ -24,11 +26,13 @@ pub struct Site {
     settings: Digested,
     /// The bytes of the site file.
     file: Digested,
-    /// The settings of the library in it.
+    /// The settings of the library in it, with the holdings file that it names.
     library: SiteFile,
-    /// The text about the releases whose digest was computed last.
-    releases: Digested,
-    /// The digest of the digests of all four.
+    /// The digest of the holdings file.
+    listing: [u8; 32],
+    /// The digest of the text about the releases for which the tags are prepared.
+    releases: [u8; 32],
+    /// The digest of the digests of all five.
     source: [u8; 32],
     /// The digests of the tags of a day, if they are kept.
     kept: Option<DayDigests>,
@@ -39,15 +43,17 @@ pub struct Site {
 impl Model for Site {
     ghost use Rattle.std.specs.Prelude.{◌≡◌};
     ghost use Rattle.std.specs.Fmt.{decimal};
-    ghost use Rattle.node_response.specs.Tags.{SiteValue, source_digest};
+    ghost use Rattle.sha2.specs.Sha256.{sha256};
+    ghost use Rattle.node_response.specs.Tags.{SiteValue, digest_of_digests};
     ghost use Rattle.node_response.specs.DayDigests.{AreDigestsOf};
 
     ghost Value = { SiteValue };
 
     ghost view = { λ s. record { version = s.version; max_age = s.max_age; file = s.file; library = s.library } };
 
-    ghost invariant = { λ s. (s.settings ≡ decimal s.max_age)
-        × ((s.source ≡ source_digest s.version s.settings s.file s.releases) × AreDigestsOf s.source s.kept) };
+    ghost invariant = { λ s. (s.settings ≡ decimal s.max_age) × ((s.listing ≡ sha256 s.library.listing)
+        × ((s.source ≡ digest_of_digests s.version s.settings s.file s.listing s.releases)
+        × AreDigestsOf s.source s.kept)) };
 }
 
 fn decimal(alloc: Global, number: u32) -> Result<Vec<u8>, AllocError>
@@ -60,20 +66,22 @@ fn decimal(alloc: Global, number: u32) -> Result<Vec<u8>, AllocError>
     }
 }
 
-// Returns the digest of the digests of four texts.
-fn source_digest(
+// Returns the digest of the digests of five texts, of which the last two are given as digests.
+fn digest_of_digests(
     version: &Digested,
     settings: &Digested,
     file: &Digested,
-    releases: &Digested,
+    listing: &[u8; 32],
+    releases: &[u8; 32],
 ) -> [u8; 32]
-    ensures { result ≡ source_digest version.now settings.now file.now releases.now }
+    ensures { result ≡ digest_of_digests version.now settings.now file.now listing.now releases.now }
 {
     let mut hasher = Sha256::new();
     hasher.update(version.digest().as_slice());
     hasher.update(settings.digest().as_slice());
     hasher.update(file.digest().as_slice());
-    hasher.update(releases.digest().as_slice());
+    hasher.update(listing.as_slice());
+    hasher.update(releases.as_slice());
     hasher.finalize()
 }
 
@@ -89,8 +97,9 @@ fn quoted_hex(alloc: Global, digest: &[u8]) -> Result<Vec<u8>, AllocError>
 }
 
 impl Site {
+    ghost use Rattle.node_site.specs.HoldingsFaults.{IsHoldingsFault, IsHoldingsFile};
     ghost use Rattle.node_site.specs.Reading.{IsSiteFault};
-    ghost use Rattle.node_response.specs.Tags.{IsSiteWith};
+    ghost use Rattle.node_response.specs.Tags.{IsSiteWith, with_listing};
 
     /// Begins with the version of the program, for how many seconds a cache may use a response without asking again,
     /// and the bytes of the site file, which are none if there is no such file.
@@ -134,18 +143,46 @@ impl Site {
         let settings = Digested::new(decimal(alloc, max_age)?);
         let version = Digested::new(Vec::from_slice(alloc, version)?);
         let file = Digested::new(file);
-        let releases = Digested::new(Vec::new(alloc));
-        let source = source_digest(&version, &settings, &file, &releases);
+        let releases = Sha256::digest(b"");
+        let listing = Sha256::digest(library.listing());
+        let source = digest_of_digests(&version, &settings, &file, &listing, &releases);
         Ok(Site {
             version,
             settings,
             file,
             library,
+            listing,
             releases,
             source,
             kept: None,
             max_age,
         })
+    }
+
+    /// Reads the holdings file that the site file names. The tags depend on its bytes.
+    ///
+    /// # Errors
+    ///
+    /// The bytes are not a holdings file, or an allocation fails. The site is as before then.
+    pub fn read_holdings(&mut self, alloc: Global, bytes: Vec<u8>) -> Result<(), HoldingsFault>
+        ensures read { OnOk result (IsHoldingsFile bytes.items) }
+        ensures listed { OnOk result (self.new ≡ with_listing bytes.items self.old) }
+        ensures refused { IfErr result (IsHoldingsFault bytes.items) }
+        ensures same { OnErr result (self.new ≡ self.old) }
+    {
+        if let Err(fault) = self.library.read_holdings(alloc, bytes) {
+            return Err(fault);
+        }
+        self.kept = None;
+        self.listing = Sha256::digest(self.library.listing());
+        self.source = digest_of_digests(
+            &self.version,
+            &self.settings,
+            &self.file,
+            &self.listing,
+            &self.releases,
+        );
+        Ok(())
     }
 
     /// Returns what the site file says.
@@ -155,22 +192,17 @@ impl Site {
         &self.library
     }
 
-    /// Returns the text about the releases whose digest is kept.
-    pub fn releases(&self) -> &Digested {
-        &self.releases
-    }
-
-    /// Keeps the digest of a text about the releases. Changes no tag.
-    pub fn keep_releases(&mut self, text: Vec<u8>)
+    /// Prepares the tags for a text about the releases. Changes no tag.
+    pub fn keep_releases(&mut self, releases: &Digested)
         ensures { self.new ≡ self.old }
     {
-        let releases = Digested::new(text);
+        let source = self.source_with(releases);
         self.kept = None;
-        self.source = source_digest(&self.version, &self.settings, &self.file, &releases);
-        self.releases = releases;
+        self.releases = *releases.digest();
+        self.source = source;
     }
 
-    /// Keeps the digests of a day's tags, for the releases whose digest is kept. Changes no tag.
+    /// Keeps the digests of a day's tags, for the releases that the tags are prepared for. Changes no tag.
     ///
     /// # Errors
     ///
@@ -202,16 +234,23 @@ impl Site {
         }
     }
 
-    // Returns the digest of what the responses depend on, with a text about the releases. Computes it only if the site
-    // keeps that of another text.
+    // Returns the digest of what the responses depend on, with a text about the releases. Computes it only if the tags
+    // are prepared for another text.
     fn source_with(&self, releases: &Digested) -> [u8; 32]
         ensures { result
-            ≡ source_digest self.now.version (decimal self.now.max_age) self.now.file releases.now }
+            ≡ source_digest self.now.version (decimal self.now.max_age) self.now.file self.now.library.listing
+            releases.now }
     {
-        if releases.digest() == self.releases.digest() {
+        if *releases.digest() == self.releases {
             return self.source;
         }
-        source_digest(&self.version, &self.settings, &self.file, releases)
+        digest_of_digests(
+            &self.version,
+            &self.settings,
+            &self.file,
+            &self.listing,
+            releases.digest(),
+        )
     }
 
     /// Returns for how many seconds a cache may use a response without asking again.

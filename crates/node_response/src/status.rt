@@ -41,6 +41,8 @@ pub enum Status {
     ContentTooLarge,
     /// 415
     UnsupportedMediaType,
+    /// 421
+    Misdirected,
     /// 501
     NotImplemented,
 }
@@ -66,6 +68,7 @@ pub(crate) fn code_and_reason(status: Status) -> (u16, &'static [u8])
         Status::LengthRequired => (411, b"Length Required"),
         Status::ContentTooLarge => (413, b"Content Too Large"),
         Status::UnsupportedMediaType => (415, b"Unsupported Media Type"),
+        Status::Misdirected => (421, b"Misdirected Request"),
         Status::NotImplemented => (501, b"Not Implemented"),
     }
 }

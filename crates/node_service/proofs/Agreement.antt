@@ -8,7 +8,6 @@ use Rattle.feed_model.specs.History.{History}
 use Rattle.node_request.specs.FetchRequests.{FetchPolicyValue}
 use Rattle.node_request.specs.FoundRequests.{BeginsWith}
 use Rattle.node_response.specs.Responses.{ResponseTextValue}
-use Rattle.node_response.specs.Tags.{SiteValue}
 use Rattle.node_resolver.specs.FeedResponses.{feed_target, IsFeedAnswer}
 use Rattle.node_resolver.specs.Laws.{SameReleasesSameNodeBytes}
 use Rattle.node_resolver.specs.NodeResponses.{IsNodeResponseAt}
@@ -44,7 +43,7 @@ no_feed policy bytes keeps response (inr (head, begins, none)) is =
 -- what a reader gets
 pub record IsRead (responder : FeedResponder) (terms : Terms) (h : History) (bytes body : List ℕ) (keeps : Bool) (text : List ℕ) : Type 0 where
   pub response : ResponseTextValue
-  pub is : IsNodeResponseAt responder.site terms.policy terms.today h bytes body keeps response
+  pub is : IsNodeResponseAt responder.sites terms.policy terms.today h bytes body keeps response
   pub same : text ≡ response.bytes
 
 read_by : (responder : FeedResponder) (terms : Terms) (h : History) (bytes body : List ℕ) (keeps : Bool) (text : List ℕ) → IsOfReader bytes
@@ -56,14 +55,13 @@ read_by responder terms h bytes body keeps text reader (inr (none, (response, st
     record { response = response; is = is; same = same }
 
 pub agree : FilesArePublished → SameReleasesSameNodeBytes → NodesAgree
-agree files bytes_same file one other here there moment another bytes body keeps text reply site day first second alike reader is also =
+agree files bytes_same file one other here there moment another bytes body keeps text reply sites day first second alike reader is also =
     let mine = read_by one here (feed_history moment) bytes body keeps text reader is in
     let theirs = read_by other there (feed_history another) bytes body keeps reply reader also in
-    let same : mine.response ≡ theirs.response = bytes_same file other.site there.today (feed_history moment) (feed_history another) here.policy there.policy bytes body keeps
+    let same : mine.response ≡ theirs.response = bytes_same file one.sites other.sites there.today (feed_history moment) (feed_history another) here.policy there.policy bytes body keeps
     mine.response theirs.response (λ n whole of. files file moment n whole first.given first.of_files of) (λ n whole of. files file another n whole second.given second.of_files of)
-    alike reader.no_fetch
-    (subst (λ (t : TodayValue). IsNodeResponseAt other.site here.policy t (feed_history moment) bytes body keeps mine.response) day
-    (subst (λ (s : SiteValue). IsNodeResponseAt s here.policy here.today (feed_history moment) bytes body keeps mine.response) site mine.is)) theirs.is in
+    alike sites reader.no_fetch
+    (subst (λ (t : TodayValue). IsNodeResponseAt one.sites here.policy t (feed_history moment) bytes body keeps mine.response) day mine.is) theirs.is in
     mine.same ∙ ap (λ (r : ResponseTextValue). r.bytes) same ∙ sym theirs.same
 
 pub hits : FilesArePublished → HitsArePublished

@@ -28,7 +28,7 @@ use Rattle.node_service.specs.declared.responder.FeedResponder.{FeedResponder}
 
 pub as_node : (responder : FeedResponder) (policy : FetchPolicyValue) (today : TodayValue) (bytes body : List ℕ) (keeps : Bool) (h : History) (response : ResponseTextValue)
     → IsFeedResponse policy bytes keeps None → IsAnswerable responder.wanted.now h bytes
-    → IsNodeResponseAt responder.site policy today h bytes body keeps response → IsResponseBy responder policy today h bytes body keeps response
+    → IsNodeResponseAt responder.sites policy today h bytes body keeps response → IsResponseBy responder policy today h bytes body keeps response
 as_node responder policy today bytes body keeps h response other free is = inr (other, free, is)
 
 -- a request is answered by the second of two tests, or by neither

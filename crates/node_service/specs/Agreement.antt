@@ -9,10 +9,10 @@ use Rattle.feed_releases.specs.Actives.{ActiveValue, AreReported, ReportAlike}
 use Rattle.node_request.specs.FetchRequests.{FetchPolicyValue}
 use Rattle.node_request.specs.FoundRequests.{BeginsWith, HasNoHead}
 use Rattle.node_response.specs.Responses.{ResponseTextValue}
-use Rattle.node_response.specs.Tags.{SiteValue}
 use Rattle.node_resolver.specs.Answers.{dated}
 use Rattle.node_resolver.specs.FeedResponses.{feed_target}
-use Rattle.node_resolver.specs.NodeResponses.{AsksForNoFetch, IsNodeResponse}
+use Rattle.node_resolver.specs.declared.node_sites.NodeSites.{NodeSites}
+use Rattle.node_resolver.specs.NodeResponses.{AsksForNoFetch, HaveSameSite, IsNodeResponse}
 use Rattle.node_monitoring.specs.Reports.{AsksForNoReport}
 use Rattle.node_machine.specs.NodeEvents.{NodeEvent, feed_history}
 use Rattle.node_machine.specs.Rules.{Terms, AreGiven}
@@ -35,26 +35,26 @@ pub record IsFromFiles (file : Name → List ℕ) (history : List NodeEvent) : T
   pub given : AreGiven history
   pub of_files : AreOfFiles file history
 
--- two nodes of the same version and settings, whose knowledge bases serve slices of the same published files: two
--- responses to the same request of a reader, each made on the same day as its node reported the same releases, are the
--- same bytes. Whatever else the nodes did, and whatever their tokens are
+-- two nodes of the same version and settings, whose knowledge bases serve slices of the same published files, and that have
+-- the same site for the host of a request of a reader: two responses to it, each made on the same day as its node reported
+-- the same releases, are the same bytes. Whatever else the nodes did, and whatever their other sites and their tokens are
 abbrev pub NodesAgree : Type 0
 NodesAgree =
     (file : Name → List ℕ) (one other : FeedResponder) (here there : Terms) (moment another : List NodeEvent)
     (bytes body : List ℕ) (keeps : Bool) (text reply : List ℕ)
-    → one.site ≡ other.site → here.today ≡ there.today → IsFromFiles file moment → IsFromFiles file another
+    → HaveSameSite bytes one.sites other.sites → here.today ≡ there.today → IsFromFiles file moment → IsFromFiles file another
     → ReportAlike (feed_history moment) (feed_history another) → IsOfReader bytes
     → IsTurnText one here (feed_history moment) bytes body keeps text → IsTurnText other there (feed_history another) bytes body keeps reply
     → text ≡ reply
 
 -- the response is made from exactly the releases that the node reports, with the holdings of their whole published
 -- files
-pub record IsOfPublished (file : Name → List ℕ) (site : SiteValue) (policy : FetchPolicyValue) (today : TodayValue) (h : History) (bytes body : List ℕ)
+pub record IsOfPublished (file : Name → List ℕ) (sites : NodeSites) (policy : FetchPolicyValue) (today : TodayValue) (h : History) (bytes body : List ℕ)
     (keeps : Bool) (response : ResponseTextValue) : Type 0 where
   pub actives : List ActiveValue
   pub reported : AreReported h actives
   pub published : All (λ active. active.holdings ≡ holdings_of (file active.name)) actives
-  pub is : IsNodeResponse site policy bytes body keeps (dated today actives) response
+  pub is : IsNodeResponse sites policy bytes body keeps (dated today actives) response
 
 -- each response of a node to a reader is such a response
 abbrev pub HitsArePublished : Type 0
@@ -62,4 +62,4 @@ HitsArePublished =
     (file : Name → List ℕ) (responder : FeedResponder) (terms : Terms) (moment : List NodeEvent) (bytes body : List ℕ) (keeps : Bool) (text : List ℕ)
     → IsFromFiles file moment → IsOfReader bytes → IsTurnText responder terms (feed_history moment) bytes body keeps text
     → (response : ResponseTextValue) × (text ≡ response.bytes)
-    × IsOfPublished file responder.site terms.policy terms.today (feed_history moment) bytes body keeps response
+    × IsOfPublished file responder.sites terms.policy terms.today (feed_history moment) bytes body keeps response

@@ -19,7 +19,7 @@ abbrev pub IsResponseBy : FeedResponder → FetchPolicyValue → TodayValue → 
 IsResponseBy responder policy today h bytes body keeps response =
     IsFeedResponse policy bytes keeps (Some response)
     ⊎ (IsFeedResponse policy bytes keeps None × IsAnswerable responder.wanted.now h bytes
-    × IsNodeResponseAt responder.site policy today h bytes body keeps response)
+    × IsNodeResponseAt responder.sites policy today h bytes body keeps response)
 
 -- a reader has no such response, exactly because a wanted package lacks a release
 abbrev pub IsHeldBack : FeedResponder → FetchPolicyValue → History → List ℕ → Bool → Type 0

@@ -5,7 +5,8 @@ use node_machine::published_files_are_kept;
 use node_resolver::same_releases_same_node_bytes;
 
 /// Two nodes whose knowledge bases serve slices of the same published files give each request of a reader the same
-/// bytes, whenever they report the same releases. Each hit is one of the whole published file of its release.
+/// bytes, whenever they report the same releases and have the same site for its host. Each hit is one of the whole
+/// published file of its release.
 pub fn nodes_agree()
     ensures agree { NodesAgree }
     ensures published { HitsArePublished }

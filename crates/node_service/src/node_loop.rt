@@ -17,7 +17,7 @@ use feed_options::NodeOptions;
 use feed_releases::Feed;
 use mio::Events;
 use node_machine::NodeMachine;
-use node_response::Site;
+use node_resolver::NodeSites;
 use node_server::{Server, Socket};
 use node_table::Table;
 use std::io;
@@ -42,8 +42,8 @@ pub struct NodeSetup<'a> {
     /// The token that authorizes a fetch, and the addresses of the server that releases are fetched from.
     pub token: Option<&'a [u8]>,
     pub addrs: SourceAddrs,
-    /// The version, the settings and the site file, on which responses and their tags depend.
-    pub site: Site,
+    /// The sites of hosts, on which responses and their tags depend, each with the version and the settings.
+    pub sites: NodeSites,
     /// The packages that readers wait for.
     pub wanted: &'a [WantedPackage],
     pub state: &'a NodeState,
@@ -84,7 +84,7 @@ fn run_over<'a, K: Keep, W: Write, F: Write>(
     let state = setup.state;
     let responder = FeedResponder {
         state,
-        site: setup.site,
+        sites: setup.sites,
         version: setup.options.version_number().as_bytes(),
         has_open_reports: setup.options.log.has_open_reports,
         wanted: setup.wanted,

@@ -21,16 +21,16 @@ use node_file_checks::ExpectedFile;
 use node_machine::{FeedRespond, Occasion};
 use node_monitoring::{ReportResponse, gets_report};
 use node_request::{FetchPolicy, ParsedRequest, ReceivedRequest, fetch_to_begin, form_length};
-use node_resolver::{ends_fetch, keep_releases, respond_as_node};
-use node_response::{ResponseText, Site};
+use node_resolver::{NodeSites, ends_fetch, keep_releases, respond_as_node};
+use node_response::ResponseText;
 use std::alloc::{AllocError, Global};
 
 /// A responder that responds from the feed of a node.
 #[derive(Drop)]
 pub struct FeedResponder<'a> {
     pub state: &'a NodeState,
-    /// The version, the settings and the site file, on which responses depend.
-    pub site: Site,
+    /// The sites of hosts, on which responses depend, each with the version and the settings.
+    pub sites: NodeSites,
     /// The version of the program.
     pub version: &'a [u8],
     /// Whether clients on other machines may have reports of the node, too.
@@ -108,7 +108,7 @@ impl<'a> FeedResponder<'a> {
                     request.body,
                     request.persists,
                     policy,
-                    &self.site,
+                    &self.sites,
                     &occasion.today,
                     feed,
                 )?;
@@ -228,8 +228,6 @@ impl<'a> FeedRespond for FeedResponder<'a> {
         today: &Today,
         feed: &Feed<K>,
     ) -> Result<bool, AllocError> {
-        let before = Vec::from_slice(alloc, self.site.releases().text())?;
-        keep_releases(alloc, &mut self.site, today, feed)?;
-        Ok(before.as_slice() != self.site.releases().text())
+        keep_releases(alloc, &mut self.sites, today, feed)
     }
 }

@@ -1,12 +1,14 @@
 -- A library has a day that is asked for and covered, if its days share one with each.
-use Rattle.std.proofs.Common.{◌≡◌, ℤ, ◌≤ℤ◌, int_le, Bool, true, false, cond, Option, Some, None, refl, arith}
+use Rattle.std.proofs.Common.{◌≡◌, ℕ, ℤ, ◌≤ℤ◌, int_le, Bool, true, false, cond, List, [], ◌∷◌, Option, Some, None, refl, arith}
 use Rattle.std.specs.Prelude.{◌&&◌, int_lt, not}
 use Rattle.std.proofs.lemmas.Int.{ints}
 use Rattle.feed_dates.specs.declared.day_range.DayRange.{DayRange}
-use Rattle.node_site.specs.Site.{HoldingValue}
+use Rattle.node_site.specs.Site.{HoldingValue, SiteValue}
 use Rattle.node_site.specs.Valid.{is_forward}
-use Rattle.node_site.specs.Held.{everything, has_asked, has_days, library_has, shares_day}
-use Rattle.node_site.specs.HeldLaws.{AllIsHeld, AreDays, Begun, HeldDaysAreShown, IsHeldDay, IsWithin, Lasts, OffIsNotHeld}
+use Rattle.node_site.specs.HoldingsFiles.{rows_of}
+use Rattle.node_site.specs.Held.{has_asked, has_days, library_has, listed_package, listed_title, shares_day, unlisted}
+use Rattle.node_site.proofs.HoldingsRead.{no_rows}
+use Rattle.node_site.specs.HeldLaws.{AllIsHeld, AreDays, Begun, HeldDaysAreShown, IsHeldDay, IsWithin, Lasts, OffIsNotHeld, UnlistedIsNotHeld}
 
 both_true : (s t : Bool) → (s && t) ≡ true → (s ≡ true) × (t ≡ true)
 both_true true t h = (refl, h)
@@ -116,10 +118,23 @@ open_days None None = refl
 open_days None (Some last) = refl
 open_days (Some first) last = refl
 
-open_asked : (asked : Option DayRange) → has_asked everything asked ≡ true
-open_asked None = refl
-open_asked (Some days) = refl
+open_asked : (site : SiteValue) (asked : Option DayRange) → has_asked (unlisted site) asked ≡ true
+open_asked site None = refl
+open_asked site (Some days) = refl
+
+-- no file says nothing
+nothing_listed : (package_id id : List ℕ) → listed_title package_id id (rows_of []) ≡ None
+nothing_listed package_id [] = refl
+nothing_listed package_id (b ∷ id) = rw no_rows refl
+
+nothing_of_package : (package_id : List ℕ) → listed_package package_id (rows_of []) ≡ None
+nothing_of_package package_id = rw no_rows refl
 
 pub all_held : AllIsHeld
 unfolding library_has
-all_held site package_id id first last asked packages titles = rw (packages, titles, open_days first last, open_asked asked) refl
+all_held site package_id id first last asked packages titles listed held =
+    rw (packages, titles, listed, nothing_listed package_id id, nothing_of_package package_id, held, open_days first last, open_asked site asked) refl
+
+pub unlisted_not_held : UnlistedIsNotHeld
+unfolding library_has
+unlisted_not_held site package_id id first last asked title row table whole held = rw (title, row, table, whole, held) refl

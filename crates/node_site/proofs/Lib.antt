@@ -11,3 +11,7 @@ pub mod Standard
 pub mod ByteKeys
 pub mod FirstRows
 pub mod Parents
+pub mod HoldingsRows
+pub mod HoldingsOrder
+pub mod SitesKept
+pub mod HoldingsRead

@@ -9,7 +9,7 @@ use Rattle.std.proofs.lemmas.Map.Text.{is_eq-slice_cmp}
 use Rattle.toml.specs.Data.{Data, Items, no_items, item, Members, no_members, member, as_array, as_str, as_table, get_member}
 use Rattle.feed_dates.specs.declared.day_range.DayRange.{DayRange}
 use Rattle.node_site.specs.declared.kind.ValueKind.{ValueKind}
-use Rattle.node_site.specs.declared.kind.ValueKind.TheVariants.{Text, Language, Color, Url, Template, Package, Date, Switch, Hosts}
+use Rattle.node_site.specs.declared.kind.ValueKind.TheVariants.{Text, Language, Color, Url, Template, Package, FileName, Date, Switch, Hosts}
 use Rattle.node_site.specs.declared.section.Section.{Section}
 use Rattle.node_site.specs.declared.section.Section.TheVariants as part
 use Rattle.node_site.specs.declared.fault.ValueFault.TheVariants as bad
@@ -99,6 +99,7 @@ textual Color d h = refl
 textual Url d h = refl
 textual Template d h = refl
 textual Package d h = refl
+textual FileName d h = refl
 textual Date d h = refl
 textual Switch d h = cc
 textual Hosts d h = cc
@@ -303,6 +304,7 @@ site_is_valid doc fine = record {
   help = text_in_fits (codes "library") (codes "help") part.Library Url doc fine refl refl refl refl;
   contact = text_in_fits (codes "library") (codes "contact") part.Library Url doc fine refl refl refl refl;
   request = text_in_fits (codes "library") (codes "request") part.Library Template doc fine refl refl refl refl;
+  holdings = text_in_fits (codes "library") (codes "holdings") part.Library FileName doc fine refl refl refl refl;
   replaced = λ name known. ap (fits Text) (sym (text_is name doc)) ∙ text_in_fits (codes "texts") name part.Texts Text doc fine refl refl (rw known refl) refl;
   prefix = text_in_fits (codes "proxy") (codes "prefix") part.Proxy Url doc fine refl refl refl refl;
   except = except_section doc (get_member (codes "proxy") doc) fine refl;

@@ -6,7 +6,7 @@ use Rattle.toml.specs.Data.{Data, Items, no_items, item, Members, no_members, me
 use Rattle.feed_dates.specs.DayRanges.{days_of}
 use Rattle.feed_dates.specs.declared.day_range.DayRange.{DayRange}
 use Rattle.node_site.specs.declared.kind.ValueKind.{ValueKind}
-use Rattle.node_site.specs.declared.kind.ValueKind.TheVariants.{Text, Language, Color, Url, Template, Package, Date, Switch, Hosts}
+use Rattle.node_site.specs.declared.kind.ValueKind.TheVariants.{Text, Language, Color, Url, Template, Package, FileName, Date, Switch, Hosts}
 use Rattle.node_site.specs.declared.section.Section.{Section}
 use Rattle.node_site.specs.declared.fault.ValueFault.{ValueFault}
 use Rattle.node_site.specs.declared.fault.ValueFault.TheVariants as bad
@@ -41,6 +41,7 @@ reason_of Color = bad.Color
 reason_of Url = bad.Url
 reason_of Template = bad.Template
 reason_of Package = bad.Package
+reason_of FileName = bad.FileName
 reason_of Date = bad.Date
 reason_of Switch = bad.NotSwitch
 reason_of Hosts = bad.NotList

@@ -1,10 +1,11 @@
 -- The holdings of a library among the rows of a list.
-use Rattle.std.specs.Prelude.{ℕ, ℤ, ◌&&◌, Bool, true, List, Option, Some, None, option_map, unwrap_or}
+use Rattle.std.specs.Prelude.{ℕ, ℤ, ◌&&◌, Bool, true, List, [], ◌∷◌, Option, Some, None, option_map, unwrap_or}
 use Rattle.std.specs.List.{find}
 use Rattle.std.specs.Str.{bytes_eq}
 use Rattle.feed_dates.specs.declared.day_range.DayRange.{DayRange}
 use Rattle.node_site.specs.Site.{HoldingValue, PackageValue, TitleValue, SiteValue}
 use Rattle.node_site.specs.Valid.{is_forward}
+use Rattle.node_site.specs.HoldingsFiles.{rows_of}
 
 -- the table is about this package, or about this title of it
 abbrev pub is_package : List ℕ → PackageValue → Bool
@@ -26,14 +27,28 @@ package_holding id rules = option_map holding_of_package (find (is_package id) r
 abbrev pub title_holding : List ℕ → List ℕ → List TitleValue → Option HoldingValue
 title_holding package_id id rules = option_map holding_of_title (find (is_title package_id id) rules)
 
--- all days
-abbrev pub everything : HoldingValue
-everything = record { is_held = true; first = None; last = None }
+-- what the holdings file says of a title. A row without a title is about the whole package, so it is about no title
+abbrev pub listed_title : List ℕ → List ℕ → List TitleValue → Option HoldingValue
+listed_title package_id [] rows = None
+listed_title package_id (b ∷ id) rows = title_holding package_id (b ∷ id) rows
 
--- what the library has of a title of a package: its own table decides over that of the package, and without any it has all
+-- what it says of a whole package
+abbrev pub listed_package : List ℕ → List TitleValue → Option HoldingValue
+listed_package package_id rows = title_holding package_id [] rows
+
+-- what the library has of that of which nothing is said: all, or with `held = false` in `[library]` nothing
+abbrev pub unlisted : SiteValue → HoldingValue
+unlisted site = record { is_held = site.holds_unlisted; first = None; last = None }
+
+-- what the library has of a title of a package. The first of these that says something decides: the title's table, its row in
+-- the holdings file, the package's table, its row in the file, and else the default
 abbrev pub holding_at : SiteValue → List ℕ → List ℕ → HoldingValue
 holding_at site package_id id =
-    unwrap_or (title_holding package_id id site.titles) (unwrap_or (package_holding package_id site.packages) everything)
+    unwrap_or (title_holding package_id id site.titles)
+    (unwrap_or (listed_title package_id id (rows_of site.listing))
+    (unwrap_or (package_holding package_id site.packages)
+    (unwrap_or (listed_package package_id (rows_of site.listing))
+    (unlisted site))))
 
 -- the days from a first to a last one share a day with others: neither begins after the other has ended
 abbrev pub shares_day : Option ℤ → Option ℤ → Option ℤ → Option ℤ → Bool

@@ -3,7 +3,8 @@ use Rattle.std.specs.Prelude.{◌≡◌, ◌↔◌, ℕ, ℤ, ◌≤ℤ◌, true
 use Rattle.feed_dates.specs.declared.day_range.DayRange.{DayRange}
 use Rattle.node_site.specs.Site.{HoldingValue, SiteValue}
 use Rattle.node_site.specs.Valid.{is_forward, is_holding}
-use Rattle.node_site.specs.Held.{has_days, holding_at, library_has, shares_day}
+use Rattle.node_site.specs.HoldingsFiles.{rows_of}
+use Rattle.node_site.specs.Held.{has_days, holding_at, library_has, listed_package, listed_title, package_holding, shares_day, title_holding}
 
 -- a day is not before the first one, and not after the last one; a side without a day is open
 abbrev pub Begun : Option ℤ → ℤ → Type 0
@@ -41,7 +42,13 @@ abbrev pub OffIsNotHeld : Type 0
 OffIsNotHeld = (site : SiteValue) (package_id id : List ℕ) (first last : Option ℤ) (asked : Option DayRange)
     → (holding_at site package_id id).is_held ≡ false → library_has site package_id id first last asked ≡ false
 
--- a site without packages and titles has everything
+-- a site without packages and titles, whose default is not turned round, has everything
 abbrev pub AllIsHeld : Type 0
 AllIsHeld = (site : SiteValue) (package_id id : List ℕ) (first last : Option ℤ) (asked : Option DayRange)
-    → site.packages ≡ [] → site.titles ≡ [] → library_has site package_id id first last asked ≡ true
+    → site.packages ≡ [] → site.titles ≡ [] → site.listing ≡ [] → site.holds_unlisted ≡ true → library_has site package_id id first last asked ≡ true
+
+-- a site whose default is turned round has nothing of which nothing is said
+abbrev pub UnlistedIsNotHeld : Type 0
+UnlistedIsNotHeld = (site : SiteValue) (package_id id : List ℕ) (first last : Option ℤ) (asked : Option DayRange)
+    → title_holding package_id id site.titles ≡ None → listed_title package_id id (rows_of site.listing) ≡ None → package_holding package_id site.packages ≡ None
+    → listed_package package_id (rows_of site.listing) ≡ None → site.holds_unlisted ≡ false → library_has site package_id id first last asked ≡ false

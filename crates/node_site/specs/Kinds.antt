@@ -8,7 +8,7 @@ use Rattle.node_site.specs.Urls.{after_byte, after_scheme, before_byte, has_byte
 use Rattle.node_site.specs.Fields.{field_named}
 use Rattle.node_site.specs.Hosts.{is_link}
 use Rattle.node_site.specs.declared.kind.ValueKind.{ValueKind}
-use Rattle.node_site.specs.declared.kind.ValueKind.TheVariants.{Text, Language, Color, Url, Template, Package, Date}
+use Rattle.node_site.specs.declared.kind.ValueKind.TheVariants.{Text, Language, Color, Url, Template, Package, FileName, Date}
 
 -- a text to show, which a page may have a thousand times
 abbrev pub is_text : List ℕ → Bool
@@ -65,7 +65,8 @@ abbrev pub begins_with_dot : List ℕ → Bool
 begins_with_dot [] = false
 begins_with_dot (b ∷ rest) = b == 46
 
--- the name of a package, as in the name of a release
+-- the name of a package, as in the name of a release. A file beside the site file has such a name too: it leads to no other
+-- folder
 abbrev pub is_package : List ℕ → Bool
 is_package name = (is_sized 1 100 name && list_all is_package_byte name) && not (begins_with_dot name)
 
@@ -81,5 +82,6 @@ is_of Color text = is_color text
 is_of Url text = is_link text
 is_of Template text = is_template text
 is_of Package text = is_package text
+is_of FileName text = is_package text
 is_of Date text = is_date text
 is_of _ text = false

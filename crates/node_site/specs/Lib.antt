@@ -16,7 +16,10 @@ pub mod Syntax
 pub mod KeyFaults
 pub mod Site
 pub mod Valid
+pub mod HoldingsFiles
 pub mod Held
+pub mod HoldingsFaults
+pub mod HoldingsIndex
 pub mod Reading
 pub mod Proxies
 pub mod Laws
@@ -27,3 +30,5 @@ pub mod Requests
 pub mod RequestLaws
 pub mod Texts
 pub mod Indexes
+pub mod Sites
+pub mod SitesLaws

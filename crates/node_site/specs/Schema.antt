@@ -3,7 +3,7 @@ use Rattle.std.specs.Prelude.{ℕ, Bool, true, false, List, [], ◌∷◌, Optio
 use Rattle.std.specs.Str.{bytes_eq}
 use Rattle.node_site.specs.Words.{is_name}
 use Rattle.node_site.specs.declared.kind.ValueKind.{ValueKind}
-use Rattle.node_site.specs.declared.kind.ValueKind.TheVariants.{Text, Language, Color, Url, Template, Package as PackageName, Date, Switch, Hosts}
+use Rattle.node_site.specs.declared.kind.ValueKind.TheVariants.{Text, Language, Color, Url, Template, Package as PackageName, FileName, Date, Switch, Hosts}
 use Rattle.node_site.specs.declared.section.Section.{Section}
 use Rattle.node_site.specs.declared.section.Section.TheVariants.{Library, Texts, Proxy, Package, Title}
 
@@ -35,6 +35,8 @@ library_kind key =
     else if bytes_eq key (codes "contact") then Some Url
     else if bytes_eq key (codes "request") then Some Template
     else if bytes_eq key (codes "redirect_sole_hit") then Some Switch
+    else if bytes_eq key (codes "held") then Some Switch
+    else if bytes_eq key (codes "holdings") then Some FileName
     else None
 
 -- the keys of `[texts]`: the names of the texts of the pages

@@ -19,7 +19,7 @@ pub record PackageValue : Type 0 where
   pub name : Option (List ℕ)
   pub holding : HoldingValue
 
--- a title of a package, and what the library has of it
+-- a title of a package, and what the library has of it. In a holdings file, a row without a title is about the whole package
 pub record TitleValue : Type 0 where
   pub package_id : List ℕ
   pub id : List ℕ
@@ -30,8 +30,9 @@ pub record ReplacedValue : Type 0 where
   pub name : List ℕ
   pub words : Option (List ℕ)
 
--- a site: what it says of the library, whether a browser is redirected to a sole hit, the texts that it replaces, the prefix
--- of links and the hosts that need none, the packages in the order in which they are shown, and the titles
+-- a site: what it says of the library, whether a browser is redirected to a sole hit, whether the library has that of which
+-- nothing is said, the name of its holdings file, the texts that it replaces, the prefix of links and the hosts that need
+-- none, the packages in the order in which they are shown, the titles, and the text of the holdings file
 pub record SiteValue : Type 0 where
   pub name : Option (List ℕ)
   pub language : Option (List ℕ)
@@ -40,19 +41,22 @@ pub record SiteValue : Type 0 where
   pub contact : Option (List ℕ)
   pub request : Option (List ℕ)
   pub redirects_sole_hit : Bool
+  pub holds_unlisted : Bool
+  pub holdings : Option (List ℕ)
   pub replaced : List ReplacedValue
   pub prefix : Option (List ℕ)
   pub except : List (List ℕ)
   pub packages : List PackageValue
   pub titles : List TitleValue
+  pub listing : List ℕ
 
 -- the text at a key of a section
 abbrev pub text_in : List ℕ → List ℕ → Members → Option (List ℕ)
 text_in section key doc = option_and_then (text_at key) (table_at section doc)
 
--- whether a switch of a section is on: without the key it is off
-abbrev pub switch_in : List ℕ → List ℕ → Members → Bool
-switch_in section key doc = unwrap_or (option_and_then (switch_at key) (table_at section doc)) false
+-- whether a switch of a section is on, and what it is without the key
+abbrev pub switch_in : List ℕ → List ℕ → Bool → Members → Bool
+switch_in section key otherwise doc = unwrap_or (option_and_then (switch_at key) (table_at section doc)) otherwise
 
 -- a text, or the empty one
 abbrev pub or_empty : Option (List ℕ) → List ℕ
@@ -135,10 +139,17 @@ site_of doc = record {
   help = text_in (codes "library") (codes "help") doc;
   contact = text_in (codes "library") (codes "contact") doc;
   request = text_in (codes "library") (codes "request") doc;
-  redirects_sole_hit = switch_in (codes "library") (codes "redirect_sole_hit") doc;
+  redirects_sole_hit = switch_in (codes "library") (codes "redirect_sole_hit") false doc;
+  holds_unlisted = switch_in (codes "library") (codes "held") true doc;
+  holdings = text_in (codes "library") (codes "holdings") doc;
   replaced = replaced_in (table_at (codes "texts") doc);
   prefix = text_in (codes "proxy") (codes "prefix") doc;
   except = texts_in (except_in doc);
   packages = rows_in package_of (items_at (codes "package") doc);
   titles = rows_in title_of (items_at (codes "title") doc);
+  listing = [];
 }
+
+-- the site with its holdings file
+abbrev pub with_listing : List ℕ → SiteValue → SiteValue
+with_listing text site = record site { listing = text }

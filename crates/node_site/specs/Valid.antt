@@ -2,7 +2,7 @@
 use Rattle.std.specs.Prelude.{◌≡◌, ℕ, ℤ, int_lt, ◌&&◌, Bool, true, not, List, Option, Some, None}
 use Rattle.std.specs.List.{list_all}
 use Rattle.node_site.specs.declared.kind.ValueKind.{ValueKind}
-use Rattle.node_site.specs.declared.kind.ValueKind.TheVariants.{Text, Language, Color, Url, Template, Package}
+use Rattle.node_site.specs.declared.kind.ValueKind.TheVariants.{Text, Language, Color, Url, Template, Package, FileName}
 use Rattle.node_site.specs.Words.{is_name}
 use Rattle.node_site.specs.Urls.{is_host}
 use Rattle.node_site.specs.Kinds.{is_of}
@@ -37,6 +37,7 @@ pub record IsSite (site : SiteValue) : Type 0 where
   pub help : fits Url site.help ≡ true
   pub contact : fits Url site.contact ≡ true
   pub request : fits Template site.request ≡ true
+  pub holdings : fits FileName site.holdings ≡ true
   pub replaced : (name : List ℕ) → is_name name ≡ true → fits Text (replacement name site.replaced) ≡ true
   pub prefix : fits Url site.prefix ≡ true
   pub except : list_all is_host site.except ≡ true

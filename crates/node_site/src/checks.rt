@@ -103,7 +103,8 @@ pub(crate) fn days_at(key: &str, table: &Table) -> Option<DayRange>
     }
 }
 
-fn is_backward(first: Option<DayRange>, last: Option<DayRange>) -> bool
+/// Returns whether the last day is before the first.
+pub(crate) fn is_backward(first: Option<DayRange>, last: Option<DayRange>) -> bool
     ensures { result ≡ is_backward first last }
 {
     match (first, last) {

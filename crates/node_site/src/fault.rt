@@ -28,12 +28,22 @@ pub enum ValueFault {
     Template,
     /// The text is not the name of a package.
     Package,
+    /// The text is not the name of a file beside the site file.
+    FileName,
     /// The text is not a year, a month or a day.
     Date,
     /// The text is not the name of a host.
     Host,
     /// The last day is before the first.
     Order,
+    /// The first line of a holdings file is not its header.
+    Header,
+    /// The line does not have five cells.
+    Columns,
+    /// The cell is neither `yes` nor `no`.
+    NotYesOrNo,
+    /// An earlier line says something else of the same title or package.
+    Contradicts,
 }
 
 impl ValueFault {
@@ -59,11 +69,23 @@ impl ValueFault {
             ValueFault::Package => {
                 "it is not the name of a package: 1 to 100 letters, digits, -, _ and ., not beginning with ."
             }
+            ValueFault::FileName => {
+                "it is not the name of a file beside the site file: 1 to 100 letters, digits, -, _ and ., \
+                not beginning with ."
+            }
             ValueFault::Date => {
                 "it is not a year, a month or a day, as \"1996\", \"1996-03\" or \"1996-03-01\""
             }
             ValueFault::Host => "it is not the name of a host, as library.example",
             ValueFault::Order => "it is before the first day",
+            ValueFault::Header => {
+                "the first line does not have the names package, title_id, first, last and held, with tabs between them"
+            }
+            ValueFault::Columns => "it does not have five cells with tabs between them",
+            ValueFault::NotYesOrNo => "it is neither yes nor no",
+            ValueFault::Contradicts => {
+                "an earlier line says something else of the same title or package"
+            }
         }
     }
 }

@@ -1,40 +1,24 @@
 //! The holdings of a library among the rows of a list.
 ghost use Rattle.std.specs.Prelude.{◌≡◌};
 ghost use Rattle.toml.specs.View.{table_view};
-ghost use Rattle.node_site.specs.Held.{everything, has_asked, has_days, holding_at, library_has, package_holding};
-ghost use Rattle.node_site.specs.Held.{shares_day, title_holding};
+ghost use Rattle.node_site.specs.Held.{holding_at, library_has, listed_package, listed_title, package_holding};
+ghost use Rattle.node_site.specs.Held.{title_holding, unlisted};
+ghost use Rattle.node_site.specs.HoldingsFiles.{rows_of};
 ghost use Rattle.node_site.specs.Site.{holding_of, package_of, title_of};
-ghost use Rattle.node_site.specs.Valid.{is_forward};
 
 use crate::checks::days_at;
+use crate::holding::Holding;
 use crate::lookup::switch_at;
 use crate::site_file::SiteFile;
 use feed_dates::DayRange;
-use std::marker::Model;
 use toml::Table;
 
-// The holdings of the library in a package or a title: none, or the days from a first to a last one.
-#[derive(Drop)]
-struct Holding {
-    is_held: bool,
-    first: Option<i32>,
-    last: Option<i32>,
-}
-
-impl Model for Holding {
-    ghost use Rattle.node_site.specs.Site.{HoldingValue};
-
-    ghost Value = { HoldingValue };
-
-    ghost view = { λ h. record { is_held = h.is_held; first = h.first; last = h.last } };
-}
-
-// All of a package or a title.
-fn everything() -> Holding
-    ensures { result ≡ everything }
+// Returns what the library has of that of which nothing is said.
+fn unlisted(site: &SiteFile) -> Holding
+    ensures { result ≡ unlisted site.now }
 {
     Holding {
-        is_held: true,
+        is_held: site.holds_unlisted(),
         first: None,
         last: None,
     }
@@ -68,48 +52,38 @@ fn title_holding(site: &SiteFile, package_id: &[u8], id: &[u8]) -> Option<Holdin
     }
 }
 
-// Returns the holdings of the library in a title of a package. The title's own table decides over that of the package.
+// Returns what the holdings file says of a title.
+fn listed_title(site: &SiteFile, package_id: &[u8], id: &[u8]) -> Option<Holding>
+    ensures { result ≡ listed_title package_id.now id.now (rows_of site.now.listing) }
+{
+    match id {
+        [] => None,
+        [_, ..] => site.listed_holding(package_id, id),
+    }
+}
+
+fn listed_package(site: &SiteFile, package_id: &[u8]) -> Option<Holding>
+    ensures { result ≡ listed_package package_id.now (rows_of site.now.listing) }
+{
+    site.listed_holding(package_id, b"")
+}
+
+// Returns the holdings of the library in a title of a package: what the first of these says that says something.
 fn holding_at(site: &SiteFile, package_id: &[u8], id: &[u8]) -> Holding
     ensures { result ≡ holding_at site.now package_id.now id.now }
 {
     if let Some(holding) = title_holding(site, package_id, id) {
         return holding;
     }
-    match package_holding(site, package_id) {
+    if let Some(holding) = listed_title(site, package_id, id) {
+        return holding;
+    }
+    if let Some(holding) = package_holding(site, package_id) {
+        return holding;
+    }
+    match listed_package(site, package_id) {
         Some(holding) => holding,
-        None => everything(),
-    }
-}
-
-fn is_forward(first: Option<i32>, last: Option<i32>) -> bool
-    ensures { result ≡ is_forward first last }
-{
-    match (first, last) {
-        (Some(first), Some(last)) => !(last < first),
-        _ => true,
-    }
-}
-
-impl Holding {
-    fn shares_day(&self, first: Option<i32>, last: Option<i32>) -> bool
-        ensures { result ≡ shares_day self.now.first self.now.last first last }
-    {
-        is_forward(self.first, last) && is_forward(first, self.last)
-    }
-
-    fn has_asked(&self, asked: Option<DayRange>) -> bool
-        ensures { result ≡ has_asked self.now asked }
-    {
-        match asked {
-            Some(days) => self.shares_day(Some(days.first), Some(days.last)),
-            None => true,
-        }
-    }
-
-    fn has_days(&self, first: Option<i32>, last: Option<i32>, asked: Option<DayRange>) -> bool
-        ensures { result ≡ has_days self.now first last asked }
-    {
-        self.is_held && self.shares_day(first, last) && self.has_asked(asked)
+        None => unlisted(site),
     }
 }
 

@@ -22,6 +22,8 @@ pub enum ValueKind {
     Template,
     /// The name of a package.
     Package,
+    /// The name of a file beside the site file.
+    FileName,
     /// A year, a month or a day.
     Date,
     /// `true` or `false`.
@@ -41,7 +43,7 @@ impl ValueKind {
             ValueKind::Color => is_color(text),
             ValueKind::Url => is_link(text),
             ValueKind::Template => is_template(text),
-            ValueKind::Package => is_package(text),
+            ValueKind::Package | ValueKind::FileName => is_package(text),
             ValueKind::Date => is_date(text),
             ValueKind::Switch | ValueKind::Hosts => false,
         }

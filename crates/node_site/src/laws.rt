@@ -3,8 +3,9 @@
 ghost use Rattle.node_site.specs.Laws.{ExceptedIsDirect, FreeIsDirect, NoProxyIsDirect, OthersGoThrough};
 ghost use Rattle.node_site.specs.Laws.{LinkFits, SubdomainsAreWithin};
 ghost use Rattle.node_site.specs.HostLaws.{HostsAreStandard, LinksAreStandard};
-ghost use Rattle.node_site.specs.HeldLaws.{AllIsHeld, HeldDaysAreShown, OffIsNotHeld};
+ghost use Rattle.node_site.specs.HeldLaws.{AllIsHeld, HeldDaysAreShown, OffIsNotHeld, UnlistedIsNotHeld};
 ghost use Rattle.node_site.specs.RequestLaws.{PartsAddNoMarks, RequestsAreLinks, RequestsKeepHost};
+ghost use Rattle.node_site.specs.SitesLaws.{CaseDoesNotCount, OtherSiteDecides, OwnSiteDecides};
 ghost use Rattle.node_site.specs.TextLaws.{TextsHaveNames};
 
 /// A link that is free to read does not go through the proxy.
@@ -58,9 +59,15 @@ pub fn off_is_not_held()
     ensures { OffIsNotHeld }
 {}
 
-/// A library whose site file names no package and no title has everything.
+/// A library whose site file names no package and no title has everything, unless `held = false` turns the default
+/// round.
 pub fn all_is_held()
     ensures { AllIsHeld }
+{}
+
+/// With `held = false` as the default, a library has nothing of a title of which nothing is said, nor of its package.
+pub fn unlisted_is_not_held()
+    ensures { UnlistedIsNotHeld }
 {}
 
 /// A citation adds no byte but letters, digits and `%` to the link to a request form: it ends no value and begins no
@@ -82,4 +89,19 @@ pub fn requests_are_links()
 /// Each text can be replaced by its name.
 pub fn texts_have_names()
     ensures { TextsHaveNames }
+{}
+
+/// A host with a site of its own has it, whatever the sites of other hosts are.
+pub fn own_site_decides<S>()
+    ensures { OwnSiteDecides S }
+{}
+
+/// A host without a site of its own has that of all others, whatever the sites of other hosts are.
+pub fn other_site_decides<S>()
+    ensures { OtherSiteDecides S }
+{}
+
+/// The case of letters in a host does not count.
+pub fn case_does_not_count<S>()
+    ensures { CaseDoesNotCount S }
 {}

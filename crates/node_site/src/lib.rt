@@ -1,9 +1,12 @@
-//! The site file of a library: its name and colour, its proxy, its request form, and which packages it has; and the
-//! texts of the pages in English, German and French, which it may replace.
+//! The site file of a library: its name and colour, its proxy, its request form, and which packages it has; the
+//! holdings file beside it, which lists titles; the sites of several hosts; and the texts of the pages in English,
+//! German and French, which a site may replace.
 #![tactic(auto)]
 
 mod bytes;
+mod cells;
 mod checks;
+mod column;
 mod cuts;
 mod domains;
 mod english;
@@ -12,6 +15,9 @@ mod field;
 mod french;
 mod german;
 mod held;
+mod holding;
+mod holdings_fault;
+mod holdings_file;
 mod hosts;
 mod kind;
 mod laws;
@@ -24,6 +30,7 @@ mod request;
 mod section;
 mod site_fault;
 mod site_file;
+mod sites;
 mod template;
 mod text;
 mod text_names;
@@ -34,14 +41,18 @@ mod title_places;
 mod urls;
 mod values;
 
+pub use column::Column;
 pub use fault::ValueFault;
 pub use held::library_has;
+pub use holdings_fault::{BadLine, HoldingsFault};
+pub use holdings_file::HOLDINGS_LIMIT;
 pub use hosts::{host_of, is_link, shown_host};
 pub use laws::{
-    all_is_held, excepted_is_direct, free_is_direct, held_days_are_shown, hosts_are_standard,
-    link_fits, links_are_standard, no_proxy_is_direct, off_is_not_held, others_go_through,
-    parts_add_no_marks, requests_are_links, requests_keep_host, subdomains_are_within,
-    texts_have_names,
+    all_is_held, case_does_not_count, excepted_is_direct, free_is_direct, held_days_are_shown,
+    hosts_are_standard, link_fits, links_are_standard, no_proxy_is_direct, off_is_not_held,
+    other_site_decides, others_go_through, own_site_decides, parts_add_no_marks,
+    requests_are_links, requests_keep_host, subdomains_are_within, texts_have_names,
+    unlisted_is_not_held,
 };
 pub use links::{left_beside, link_to, may_be_link, prefix_for, proxied};
 pub use packages::{name_for_readers, package_place, shown_package};
@@ -49,6 +60,7 @@ pub use position::Position;
 pub use request::{CitedTitle, request_link};
 pub use site_fault::{KeyFault, SiteFault};
 pub use site_file::{SITE_LIMIT, SiteFile};
+pub use sites::{SITES_LIMIT, Sites, SitesFault};
 pub use text_table::{TEXTS, Text};
 pub use text_words::is_name;
 pub use texts::{Language, text_of};

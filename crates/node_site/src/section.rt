@@ -9,7 +9,8 @@ use crate::text_words::is_name;
 /// A section of a site file.
 #[derive(Clone, Copy)]
 pub(crate) enum Section {
-    /// `[library]`: the names, the addresses and the colour of the page, and whether a sole hit is redirected to.
+    /// `[library]`: the names, the addresses and the colour of the page, whether a sole hit is redirected to, and what
+    /// the library has of that of which nothing is said.
     Library,
     /// `[texts]`: the texts of the pages that the site replaces.
     Texts,
@@ -46,6 +47,8 @@ fn library_kind(key: &str) -> Option<ValueKind>
         "contact" => Some(ValueKind::Url),
         "request" => Some(ValueKind::Template),
         "redirect_sole_hit" => Some(ValueKind::Switch),
+        "held" => Some(ValueKind::Switch),
+        "holdings" => Some(ValueKind::FileName),
         _ => None,
     }
 }

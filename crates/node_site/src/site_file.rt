@@ -1,10 +1,11 @@
 //! The site file, and how it is read.
-ghost use Rattle.std.specs.Prelude.{◌≡◌, ◌≤◌, IfErr, IfOk, Some, length, option_copied, option_map, take};
+ghost use Rattle.std.specs.Prelude.{◌≡◌, ◌≤◌, IfErr, IfOk, OnErr, OnOk, Some, length, option_copied, option_map, take};
 ghost use Rattle.std.specs.List.{find, position_or_len};
 ghost use Rattle.toml.specs.Errors.{IsMemory, IsWithin, span_start};
 ghost use Rattle.toml.specs.Parse.{parse_document};
 ghost use Rattle.toml.specs.View.{array_view, table_view};
-ghost use Rattle.node_site.specs.Held.{is_package, is_title};
+ghost use Rattle.node_site.specs.Held.{is_package, is_title, title_holding};
+ghost use Rattle.node_site.specs.HoldingsFiles.{rows_of};
 ghost use Rattle.node_site.specs.Indexes.{count_in, row_at, row_in};
 ghost use Rattle.node_site.specs.Limits.{site_limit};
 ghost use Rattle.node_site.specs.Positions.{position_of};
@@ -13,6 +14,9 @@ ghost use Rattle.node_site.specs.Syntax.{IsTextFault};
 
 use crate::checks::fault_of;
 use crate::domains::Domains;
+use crate::holding::Holding;
+use crate::holdings_fault::HoldingsFault;
+use crate::holdings_file::HoldingsFile;
 use crate::lookup::{items_at, switch_at, table_at, text_at};
 use crate::packages::package_places;
 use crate::places::Places;
@@ -36,18 +40,20 @@ pub struct SiteFile {
     packages: Places,
     titles: TitlePlaces,
     domains: Domains,
+    /// The holdings file that the document names, once it is read.
+    listing: Option<HoldingsFile>,
 }
 
 impl Model for SiteFile {
-    ghost use Rattle.std.specs.Prelude.{◌≡◌, None};
+    ghost use Rattle.std.specs.Prelude.{◌≡◌, None, [], unwrap_or};
     ghost use Rattle.toml.specs.View.{table_view};
     ghost use Rattle.node_site.specs.Faults.{fault_of};
     ghost use Rattle.node_site.specs.Indexes.{AreIndexes};
-    ghost use Rattle.node_site.specs.Site.{SiteValue, site_of};
+    ghost use Rattle.node_site.specs.Site.{SiteValue, site_of, with_listing};
 
     ghost Value = { SiteValue };
 
-    ghost view = { λ s. site_of (table_view s.document) };
+    ghost view = { λ s. with_listing (unwrap_or s.listing []) (site_of (table_view s.document)) };
 
     ghost invariant = { λ s. (fault_of (table_view s.document) ≡ None)
         × AreIndexes (table_view s.document) s.packages s.titles s.domains };
@@ -63,13 +69,13 @@ fn text_in<'a>(section: &str, key: &str, document: &'a Table) -> Option<&'a str>
     }
 }
 
-// Returns whether a switch of a section is on. Without the key it is off.
-fn switch_in(section: &str, key: &str, document: &Table) -> bool
-    ensures { result ≡ switch_in section.now key.now (table_view document.now) }
+// Returns whether a switch of a section is on, and what it is without the key.
+fn switch_in(section: &str, key: &str, otherwise: bool, document: &Table) -> bool
+    ensures { result ≡ switch_in section.now key.now otherwise (table_view document.now) }
 {
     match table_at(section, document) {
-        Some(table) => switch_at(key, table).unwrap_or(false),
-        None => false,
+        Some(table) => switch_at(key, table).unwrap_or(otherwise),
+        None => otherwise,
     }
 }
 
@@ -161,6 +167,7 @@ impl SiteFile {
             packages,
             titles,
             domains,
+            listing: None,
         })
     }
 
@@ -195,6 +202,32 @@ impl SiteFile {
                 Ok(site) => Ok(site),
                 Err(_) => Err(SiteFault::Memory),
             },
+        }
+    }
+}
+
+impl SiteFile {
+    ghost use Rattle.node_site.specs.HoldingsFaults.{IsHoldingsFault, IsHoldingsFile};
+    ghost use Rattle.node_site.specs.Site.{with_listing};
+
+    /// Reads the holdings file that the site file names. It replaces one that was read before.
+    ///
+    /// # Errors
+    ///
+    /// The bytes are too long or not UTF-8, a line is not accepted or contradicts another one, or an allocation fails.
+    /// The site is as before then.
+    pub fn read_holdings(&mut self, alloc: Global, bytes: Vec<u8>) -> Result<(), HoldingsFault>
+        ensures read { OnOk result (IsHoldingsFile bytes.items) }
+        ensures listed { OnOk result (self.new ≡ with_listing bytes.items self.old) }
+        ensures refused { IfErr result (IsHoldingsFault bytes.items) }
+        ensures same { OnErr result (self.new ≡ self.old) }
+    {
+        match HoldingsFile::read(alloc, bytes) {
+            Ok(listing) => {
+                self.listing = Some(listing);
+                Ok(())
+            }
+            Err(fault) => Err(fault),
         }
     }
 }
@@ -249,7 +282,21 @@ impl SiteFile {
     pub fn redirects_sole_hit(&self) -> bool
         ensures { result ≡ self.now.redirects_sole_hit }
     {
-        switch_in("library", "redirect_sole_hit", &self.document)
+        switch_in("library", "redirect_sole_hit", false, &self.document)
+    }
+
+    /// Returns whether the library has that of which nothing is said.
+    pub(crate) fn holds_unlisted(&self) -> bool
+        ensures { result ≡ self.now.holds_unlisted }
+    {
+        switch_in("library", "held", true, &self.document)
+    }
+
+    /// Returns the name of the holdings file, which is beside the site file.
+    pub fn holdings(&self) -> Option<&str>
+        ensures { option_copied result ≡ self.now.holdings }
+    {
+        text_in("library", "holdings", &self.document)
     }
 
     /// Returns the text that the site has in place of the one of a name.
@@ -293,6 +340,26 @@ impl SiteFile {
             self.titles.get(package_id, id),
             items_at("title", &self.document),
         )
+    }
+
+    /// Returns the bytes of the holdings file, or none if none was read.
+    pub fn listing(&self) -> &[u8]
+        ensures { result.now ≡ self.now.listing }
+    {
+        match &self.listing {
+            Some(listing) => listing.text(),
+            None => b"",
+        }
+    }
+
+    /// Returns what the holdings file says of a title of a package, or without one of the whole package.
+    pub(crate) fn listed_holding(&self, package_id: &[u8], id: &[u8]) -> Option<Holding>
+        ensures { result ≡ title_holding package_id.now id.now (rows_of self.now.listing) }
+    {
+        match &self.listing {
+            Some(listing) => listing.holding(package_id, id),
+            None => None,
+        }
     }
 
     /// Returns whether links to a host never go through the proxy.

@@ -8,6 +8,9 @@ ghost use Rattle.node_site.specs.Urls.{parts_between};
 use crate::bytes::ByteClass;
 use crate::cuts::is_sized;
 
+/// The most bytes of the name of a host (RFC 1035, section 2.3.4).
+pub(crate) const HOST_LIMIT: usize = 253;
+
 /// Returns whether a text begins with another one, in any case of letters, and is longer.
 pub fn begins_with(url: &[u8], front: &[u8]) -> bool
     ensures { result ≡ begins_with front.now url.now }
@@ -87,5 +90,5 @@ fn are_labels(host: &[u8]) -> bool
 pub(crate) fn is_host(host: &[u8]) -> bool
     ensures { result ≡ is_host host.now }
 {
-    host.len() <= 253 && are_labels(host)
+    host.len() <= HOST_LIMIT && are_labels(host)
 }

@@ -26,6 +26,7 @@ fn reason_of(kind: ValueKind) -> ValueFault
         ValueKind::Url => ValueFault::Url,
         ValueKind::Template => ValueFault::Template,
         ValueKind::Package => ValueFault::Package,
+        ValueKind::FileName => ValueFault::FileName,
         ValueKind::Date => ValueFault::Date,
         ValueKind::Switch => ValueFault::NotSwitch,
         ValueKind::Hosts => ValueFault::NotList,

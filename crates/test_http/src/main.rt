@@ -42,6 +42,9 @@
 //!     release NAME TEXT               offers a release to the node, and sends its whole file
 //!     site VERSION MAX-AGE TEXT       the version, the seconds and the site file that tags and replies are made of;
 //!                                     prints nothing. Without TEXT the site file is left out
+//!     holdings TEXT                   the holdings file of that site, which is the only one then; prints nothing
+//!     host-site HOST TEXT             the site file of a host, for respond-as-node; prints nothing. All others have
+//!                                     the site of the line `site`
 //!     today YYYY-MM-DD                the day of the node; prints nothing. It begins as 1970-01-01
 //!     keep-releases                   keeps the digest of the active releases, as a node does; prints nothing
 //!     respond keep|close TEXT         the resolver's reply to a request, on a connection that is kept or closed

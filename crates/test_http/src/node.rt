@@ -12,9 +12,9 @@ use feed_releases::{Event, Feed};
 use httparse::spans::EMPTY_HEADER_SPAN;
 use node_connection::{Connection, TimeLimits};
 use node_request::{FetchPolicy, ReceivedRequest, fetch_request, form_length};
-use node_resolver::{keep_releases, respond, respond_as_node};
+use node_resolver::{NamedSite, NodeSites, keep_releases, respond, respond_as_node};
 use node_response::Site;
-use node_site::SiteFault;
+use node_site::{HoldingsFault, SiteFault, SitesFault};
 use std::alloc::Global;
 use test_support::Out;
 
@@ -27,21 +27,37 @@ pub struct DriverNode<'a> {
     /// The length of the bodies that the connection's responder wants.
     pub wanted: usize,
     feed: Feed<ListKeep>,
-    site: Site,
+    sites: NodeSites,
+    /// The site of all hosts that have none of their own, as it was given.
+    given: GivenSite,
     today: Today,
+}
+
+/// What a site is made of.
+#[derive(Drop)]
+struct GivenSite {
+    version: Vec<u8>,
+    max_age: u32,
+    file: Vec<u8>,
 }
 
 impl<'a> DriverNode<'a> {
     pub fn new(rt: &'a HostRuntime, step: usize) -> Result<DriverNode<'a>, HttpDriverFault> {
         let feed = open_feed(rt.alloc())?;
-        let site = read_site(rt.alloc(), b"1.0", 0, Vec::new(rt.alloc()))?;
+        let given = GivenSite {
+            version: Vec::from_slice(rt.alloc(), b"1.0")?,
+            max_age: 0,
+            file: Vec::new(rt.alloc()),
+        };
+        let site = given.site(rt.alloc())?;
         Ok(DriverNode {
             rt,
             step,
             connection: Connection::new(rt.alloc(), TimeLimits { step: 1, idle: 1 }),
             wanted: 0,
             feed,
-            site,
+            sites: sites_of(rt.alloc(), site)?,
+            given,
             today: Today::epoch(),
         })
     }
@@ -56,6 +72,8 @@ impl<'a> DriverNode<'a> {
         match command {
             "release" => self.release(out, line),
             "site" => self.take_site(line),
+            "holdings" => self.take_holdings(line),
+            "host-site" => self.take_host(line),
             "today" => self.take_today(line),
             "keep-releases" => self.keep_releases(),
             "respond" => self.respond(out, line),
@@ -81,11 +99,42 @@ impl<'a> DriverNode<'a> {
     }
 
     fn take_site(&mut self, mut line: CommandLine<'_>) -> Result<(), HttpDriverFault> {
-        let version = line.word().as_bytes();
+        let alloc = self.rt.alloc();
+        let version = Vec::from_slice(alloc, line.word().as_bytes())?;
         let max_age = line.number().min(u64::from(u32::MAX)) as u32;
-        let file = line.text(self.rt.alloc())?;
-        self.site = read_site(self.rt.alloc(), version, max_age, file)?;
+        let file = line.text(alloc)?;
+        self.given = GivenSite {
+            version,
+            max_age,
+            file,
+        };
+        self.sites = sites_of(alloc, self.given.site(alloc)?)?;
         Ok(())
+    }
+
+    fn take_holdings(&mut self, line: CommandLine<'_>) -> Result<(), HttpDriverFault> {
+        let alloc = self.rt.alloc();
+        let file = line.text(alloc)?;
+        let mut site = self.given.site(alloc)?;
+        match site.read_holdings(alloc, file) {
+            Ok(()) => {}
+            Err(HoldingsFault::Memory) => return Err(NO_MEMORY),
+            Err(_) => return Err(HttpDriverFault("not a holdings file")),
+        }
+        self.sites = sites_of(alloc, site)?;
+        Ok(())
+    }
+
+    fn take_host(&mut self, mut line: CommandLine<'_>) -> Result<(), HttpDriverFault> {
+        let alloc = self.rt.alloc();
+        let host = line.word().as_bytes();
+        let file = line.text(alloc)?;
+        let site = read_site(alloc, &self.given.version, self.given.max_age, file)?;
+        match self.sites.add(alloc, host, named(alloc, site, host)?) {
+            Ok(()) => Ok(()),
+            Err(SitesFault::Memory) => Err(NO_MEMORY),
+            Err(_) => Err(HttpDriverFault("not a host, or one that has a site")),
+        }
     }
 
     fn take_today(&mut self, mut line: CommandLine<'_>) -> Result<(), HttpDriverFault> {
@@ -101,7 +150,8 @@ impl<'a> DriverNode<'a> {
     }
 
     fn keep_releases(&mut self) -> Result<(), HttpDriverFault> {
-        Ok(keep_releases(self.rt.alloc(), &mut self.site, &self.today, &self.feed)?)
+        keep_releases(self.rt.alloc(), &mut self.sites, &self.today, &self.feed)?;
+        Ok(())
     }
 
     fn respond(&self, out: &mut Out<'_>, mut line: CommandLine<'_>) -> Result<(), HttpDriverFault> {
@@ -132,12 +182,15 @@ impl<'a> DriverNode<'a> {
     ) -> Result<(), HttpDriverFault> {
         let mut headers = [EMPTY_HEADER_SPAN; FIELD_LIMIT];
         let received = ReceivedRequest::parse(request, &mut headers);
+        let Some(named) = self.sites.named(None) else {
+            return Err(HttpDriverFault("there is no site"));
+        };
         let reply = respond(
             self.rt.alloc(),
             &received,
             body,
             keeps,
-            &self.site,
+            &named.site,
             &self.today,
             &self.feed,
         )?;
@@ -172,7 +225,7 @@ impl<'a> DriverNode<'a> {
             b"",
             keeps,
             policy,
-            &self.site,
+            &self.sites,
             &self.today,
             &self.feed,
         )?;
@@ -261,6 +314,23 @@ fn read_site(
         Ok(site) => Ok(site),
         Err(SiteFault::Memory) => Err(NO_MEMORY),
         Err(_) => Err(HttpDriverFault("not a site file")),
+    }
+}
+
+fn named(alloc: Global, site: Site, name: &[u8]) -> Result<NamedSite, HttpDriverFault> {
+    let name = Vec::from_slice(alloc, name)?;
+    Ok(NamedSite { site, name })
+}
+
+// Returns this site for all hosts.
+fn sites_of(alloc: Global, site: Site) -> Result<NodeSites, HttpDriverFault> {
+    Ok(NodeSites::of_all(alloc, named(alloc, site, b"default")?)?)
+}
+
+impl GivenSite {
+    fn site(&self, alloc: Global) -> Result<Site, HttpDriverFault> {
+        let file = Vec::from_slice(alloc, &self.file)?;
+        read_site(alloc, &self.version, self.max_age, file)
     }
 }
 

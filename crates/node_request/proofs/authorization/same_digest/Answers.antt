@@ -1,4 +1,4 @@
-use Rattle.std.proofs.Common.{◌≡◌, ◌<◌, ◌+◌, ℕ, length, take, rules, sym, ap, ◌∙◌, nat_eq, slice_index_or, suc}
+use Rattle.std.proofs.Common.{◌<◌, length, take, rules, sym, ap, ◌∙◌, nat_eq, slice_index_or}
 use Rattle.std.specs.Prelude.{◌&&◌}
 use Rattle.std.specs.Str.{bytes_eq}
 use Rattle.std.proofs.Math.Numerals.{add-one}

@@ -6,14 +6,14 @@ use Rattle.node_resolver.proofs.node.node_response_with.Goals as goal
 
 pub returns-in-Some-clause-value : goal.returns-in-Some-clause-value
 returns-in-Some-clause-value c = let found = c.in-Some.ensures in
-    IfOk-weaker c.node_response.result _ (λ response. IsNodeResponse c.args.context.now.site c.args.policy.now c.args.received.now.bytes.now c.args.body.now c.args.keeps c.args.context.now.actives
+    IfOk-weaker c.node_response.result _ (λ response. IsNodeResponse c.args.context.now.sites.now c.args.policy.now c.args.received.now.bytes.now c.args.body.now c.args.keeps c.args.context.now.moment
     response)
     (λ response is. inl (found.head, found.begins, is found.head found.has)) c.node_response.ensures.value
 
 pub returns-in-Some-clause-text : goal.returns-in-Some-clause-text
 returns-in-Some-clause-text c = let found = c.in-Some.ensures in
     IfOk-weaker c.node_response.result _
-    (λ response. IsNodeResponseText c.args.context.now.site c.args.policy.now c.args.received.now.bytes.now c.args.body.now c.args.keeps c.args.context.now.actives response.bytes)
+    (λ response. IsNodeResponseText c.args.context.now.sites.now c.args.policy.now c.args.received.now.bytes.now c.args.body.now c.args.keeps c.args.context.now.moment response.bytes)
     (λ response is. (response, inl (found.head, found.begins, is found.head found.has), refl)) c.node_response.ensures.value
 
 pub returns-in-Some-clause-message : goal.returns-in-Some-clause-message
@@ -23,12 +23,12 @@ returns-in-Some-clause-message c = let found = c.in-Some.ensures in
 
 pub returns-in-None-clause-text : goal.returns-in-None-clause-text
 returns-in-None-clause-text c = IfOk-weaker c.bad_head_response.result _
-    (λ response. IsNodeResponseText c.args.context.now.site c.args.policy.now c.args.received.now.bytes.now c.args.body.now c.args.keeps c.args.context.now.actives response.bytes)
+    (λ response. IsNodeResponseText c.args.context.now.sites.now c.args.policy.now c.args.received.now.bytes.now c.args.body.now c.args.keeps c.args.context.now.moment response.bytes)
     (λ response is. (response, inr (c.in-None.ensures, is), refl)) c.bad_head_response.ensures.value
 
 pub returns-in-None-clause-value : goal.returns-in-None-clause-value
 returns-in-None-clause-value c = IfOk-weaker c.bad_head_response.result _
-    (λ response. IsNodeResponse c.args.context.now.site c.args.policy.now c.args.received.now.bytes.now c.args.body.now c.args.keeps c.args.context.now.actives response)
+    (λ response. IsNodeResponse c.args.context.now.sites.now c.args.policy.now c.args.received.now.bytes.now c.args.body.now c.args.keeps c.args.context.now.moment response)
     (λ response is. inr (c.in-None.ensures, is)) c.bad_head_response.ensures.value
 
 pub returns-in-None-clause-message : goal.returns-in-None-clause-message

@@ -1,8 +1,0 @@
-use Rattle.node_hits.proofs.Loops.{flat_next}
-use Rattle.node_pages.specs.TitlesPage.{title_card}
-use Rattle.node_pages.proofs.titles_page.put_each_card.Goals as goal
-
-pub loop-entry-preserved : goal.loop-entry-preserved
-loop-entry-preserved c =
-    flat_next (title_card c.args.site.now) c.args.found.now c.loop-entry.entry-index c.entry-item.result c.loop-entry-test.true c.entry-item.is
-    c.args.out.now.items c.loop-entry.out.items c.put_title_card.new.out.items c.loop-entry.invariant c.in_ok-put_title_card.ensures

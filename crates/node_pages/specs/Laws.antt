@@ -1,0 +1,62 @@
+-- Laws of the pages.
+use Rattle.std.specs.Prelude.{◌≡◌, ℕ, Bool, true, List}
+use Rattle.std.specs.List.{list_all}
+use Rattle.node_templates.specs.Filled.{is_filled}
+use Rattle.node_templates.specs.Laws.{page_html}
+use Rattle.node_templates.specs.Pages.{Part, page_text}
+use Rattle.node_templates.specs.Tags.{HasTagsOf}
+use Rattle.node_site.specs.declared.text_table.Text.{Text}
+use Rattle.feed_releases.specs.Actives.{ActiveValue}
+use Rattle.node_site.specs.Site as site_file
+use Rattle.node_hits.specs.QueryFacts.{QueryFactsValue}
+use Rattle.node_hits.specs.Hits.{ReleaseHitValue}
+use Rattle.node_hits.specs.Tallies.{TallyValue}
+use Rattle.node_titles.specs.Titles.{EntryValue}
+use Rattle.node_titles.specs.Walks.{WalkValue}
+use Rattle.node_pages.specs.Cards.{card_parts}
+use Rattle.node_pages.specs.Citations.{cited_top}
+use Rattle.node_pages.specs.ErrorPages.{error_page, error_parts}
+use Rattle.node_pages.specs.HitsPage.{hits_end, hits_start, page_of_hits}
+use Rattle.node_pages.specs.HomePage.{form_page, home_page, package_parts}
+use Rattle.node_pages.specs.QueryRefusals.{nothing_parts, page_of_nothing}
+use Rattle.node_pages.specs.TitlesPage as titles
+use Rattle.node_pages.specs.declared.card.Fit.{Fit}
+
+-- each slot of a template has a value
+abbrev pub are_filled : List Part → Bool
+are_filled parts = list_all (λ (part : Part). is_filled part.1 part.0) parts
+
+-- so it is in each part of a page, but for the fields of the empty form
+pub record SlotsAreGiven : Type 0 where
+  pub citation : (heading : List ℕ) (pairs : List (List ℕ × List ℕ)) (ask : QueryFactsValue) → are_filled (cited_top heading pairs ask) ≡ true
+  pub hits_start : (site : site_file.SiteValue) (tally : TallyValue) (is_none : Bool) → are_filled (hits_start site tally is_none) ≡ true
+  pub card : (site : site_file.SiteValue) (cited : List ℕ) (fit : Fit) (found : ReleaseHitValue) → are_filled (card_parts site cited fit found) ≡ true
+  pub hits_end : (site : site_file.SiteValue) (pairs : List (List ℕ × List ℕ)) (ask : QueryFactsValue) (tally : TallyValue) (is_none : Bool)
+      → are_filled (hits_end site pairs ask tally is_none) ≡ true
+  pub nothing : (site : site_file.SiteValue) (pairs : List (List ℕ × List ℕ)) (ask : QueryFactsValue) → are_filled (nothing_parts site pairs ask) ≡ true
+  pub error : (site : site_file.SiteValue) (pairs : List (List ℕ × List ℕ)) (advice : Text) (name : List ℕ)
+      → are_filled (error_parts site pairs advice name) ≡ true
+  pub titles_start : (site : site_file.SiteValue) (asked : List ℕ) (is_empty : Bool) → are_filled (titles.titles_start site asked is_empty) ≡ true
+  pub title : (site : site_file.SiteValue) (entry : EntryValue) → are_filled (titles.title_card site entry) ≡ true
+  pub titles_end : (asked : List ℕ) (walk : WalkValue) → are_filled (titles.titles_end asked walk) ≡ true
+  pub item : (site : site_file.SiteValue) (active : ActiveValue) → are_filled (package_parts site active) ≡ true
+
+-- a page of templates, which has their tags alone
+pub record HasItsTags (site : site_file.SiteValue) (page : List ℕ) : Type 0 where
+  pub parts : List Part
+  pub text : page ≡ page_text site parts
+  pub tags : HasTagsOf (page_html site parts) page
+
+-- whatever a list, a query or a site file says, each page has the tags of its templates alone, and its addresses are
+-- safe
+pub record PagesHaveTheirTags : Type 0 where
+  pub hits : (site : site_file.SiteValue) (pairs : List (List ℕ × List ℕ)) (ask : QueryFactsValue) (tally also others : TallyValue)
+      → HasItsTags site (page_of_hits site pairs ask tally also others)
+  pub nothing : (site : site_file.SiteValue) (pairs : List (List ℕ × List ℕ)) (ask : QueryFactsValue) → HasItsTags site (page_of_nothing site pairs ask)
+  pub error : (site : site_file.SiteValue) (pairs : List (List ℕ × List ℕ)) (advice : Text) (name : List ℕ)
+      → HasItsTags site (error_page site pairs advice name)
+  pub form : (site : site_file.SiteValue) → HasItsTags site (form_page site)
+  pub home : (site : site_file.SiteValue) (actives : List ActiveValue) → HasItsTags site (home_page site actives)
+  pub titles_form : (site : site_file.SiteValue) (heading note name : List ℕ)
+      → HasItsTags site (titles.titles_form_page site heading note name)
+  pub titles : (site : site_file.SiteValue) (asked : List ℕ) (walk : WalkValue) → HasItsTags site (titles.titles_page site asked walk)

@@ -1,0 +1,147 @@
+//! Writes the beginning of a page with the citation of a query, with links to what has a DOI or a PMID.
+ghost use Rattle.std.specs.Prelude.{◌≡◌, ◌++◌, OnOk};
+ghost use Rattle.std.specs.List.{list_all};
+ghost use Rattle.node_templates.specs.Pages.{page_text};
+ghost use Rattle.feed_openurl.specs.Citations.{text_at};
+ghost use Rattle.node_pages.specs.Citations.{cited_mark, cited_top, is_mark, is_plain, names_parts, place_parts};
+ghost use Rattle.node_pages.specs.Citations.{work_parts};
+
+use crate::form::{isbn_in, issn_in};
+use feed_answer::Pair;
+use feed_openurl::CitationPart;
+use node_hits::{QueryFacts, is_blank};
+use node_site::SiteFile;
+use node_templates::{Slot, Template, put_page, text_if};
+use std::alloc::AllocError;
+
+const CITED_TOP: [Template; 2] = [Template::Top, Template::CitedWork];
+
+fn is_mark(byte: u8) -> bool
+    ensures { result ≡ is_mark byte }
+{
+    matches!(byte, b'-' | b'.' | b'_' | b';' | b'(' | b')' | b'/' | b':')
+}
+
+fn is_plain(byte: u8) -> bool
+    ensures { result ≡ is_plain byte }
+{
+    byte.is_ascii_alphanumeric() || is_mark(byte)
+}
+
+// Returns whether a name needs no encoding in an address.
+fn is_all_plain(text: &[u8]) -> bool
+    ensures { result ≡ list_all is_plain text.now }
+{
+    text.iter().all(|byte| is_plain(*byte))
+}
+
+// Returns a part of the citation of a query.
+fn cited(ask: &QueryFacts, part: CitationPart) -> &[u8]
+    ensures { result.now ≡ text_at ask.now.citation part }
+{
+    ask.citation.text(part).as_bytes()
+}
+
+// Returns a value for the slot of a citation that has any part.
+fn cited_mark(pairs: &[Pair<'_>], ask: &QueryFacts) -> &'static [u8]
+    ensures { result.now ≡ cited_mark pairs.now ask.now }
+{
+    let is_uncited = is_blank(&ask.citation)
+        && issn_in(pairs).is_empty()
+        && isbn_in(pairs).is_empty();
+    text_if(!is_uncited, b"cited")
+}
+
+// Writes the beginning of the page, and the cited work with its numbers.
+#[tactic(auto, unfolding(crate::specs::Citations::work_parts))]
+fn put_work(
+    out: &mut Vec<u8>,
+    site: &SiteFile,
+    heading: &[u8],
+    pairs: &[Pair<'_>],
+    ask: &QueryFacts,
+) -> Result<(), AllocError>
+    ensures { OnOk result (out.new.items
+        ≡ out.old.items ++ page_text site.now (work_parts heading.now pairs.now ask.now)) }
+{
+    put_page(
+        out,
+        site,
+        &CITED_TOP,
+        &[
+            (Slot::Heading, heading),
+            (Slot::Cited, cited_mark(pairs, ask)),
+            (Slot::Article, cited(ask, CitationPart::Article)),
+            (Slot::Work, cited(ask, CitationPart::Title)),
+            (Slot::Author, cited(ask, CitationPart::Author)),
+            (Slot::Issn, issn_in(pairs)),
+            (Slot::Isbn, isbn_in(pairs)),
+        ],
+    )
+}
+
+// Writes the place in the work. A date and a volume are understood, or have a note.
+#[tactic(auto, unfolding(crate::specs::Citations::place_parts))]
+fn put_place(out: &mut Vec<u8>, site: &SiteFile, ask: &QueryFacts) -> Result<(), AllocError>
+    ensures { OnOk result (out.new.items ≡ out.old.items ++ page_text site.now (place_parts ask.now)) }
+{
+    let date = cited(ask, CitationPart::Date);
+    let volume = cited(ask, CitationPart::Volume);
+    put_page(
+        out,
+        site,
+        &[Template::CitedPlace],
+        &[
+            (Slot::DateRead, text_if(ask.has_date, date)),
+            (Slot::DateNoted, text_if(!ask.has_date, date)),
+            (Slot::VolumeRead, text_if(ask.has_volume, volume)),
+            (Slot::VolumeNoted, text_if(!ask.has_volume, volume)),
+            (Slot::Issue, cited(ask, CitationPart::Issue)),
+            (Slot::FirstPage, cited(ask, CitationPart::Pages)),
+        ],
+    )
+}
+
+// Writes the names of the work, and the end of the citation.
+#[tactic(auto, unfolding(crate::specs::Citations::names_parts))]
+fn put_names(
+    out: &mut Vec<u8>,
+    site: &SiteFile,
+    pairs: &[Pair<'_>],
+    ask: &QueryFacts,
+) -> Result<(), AllocError>
+    ensures { OnOk result (out.new.items ≡ out.old.items ++ page_text site.now (names_parts pairs.now ask.now)) }
+{
+    let doi = cited(ask, CitationPart::Doi);
+    let pmid = cited(ask, CitationPart::Pmid);
+    put_page(
+        out,
+        site,
+        &[Template::CitedNames],
+        &[
+            (Slot::DoiLink, text_if(is_all_plain(doi), doi)),
+            (Slot::Doi, text_if(!is_all_plain(doi), doi)),
+            (Slot::PmidLink, text_if(is_all_plain(pmid), pmid)),
+            (Slot::Pmid, text_if(!is_all_plain(pmid), pmid)),
+            (Slot::Cited, cited_mark(pairs, ask)),
+        ],
+    )
+}
+
+/// Writes the beginning of a page with this heading, and the citation of a query with its ISSN and its ISBN, if there
+/// is anything in it.
+#[tactic(auto, unfolding(node_templates::specs::Pages::page_text, crate::specs::Citations::cited_top))]
+pub(crate) fn put_cited_top(
+    out: &mut Vec<u8>,
+    site: &SiteFile,
+    heading: &[u8],
+    pairs: &[Pair<'_>],
+    ask: &QueryFacts,
+) -> Result<(), AllocError>
+    ensures { OnOk result (out.new.items
+        ≡ out.old.items ++ page_text site.now (cited_top heading.now pairs.now ask.now)) }
+{
+    put_work(out, site, heading, pairs, ask)?;
+    put_place(out, site, ask)?;
+    put_names(out, site, pairs, ask)
+}

@@ -1,0 +1,9 @@
+pub mod Values
+pub mod Plain
+pub mod PlainTexts
+pub mod Templates
+pub mod Tags
+pub mod Pages
+pub mod Sound
+pub mod Laws
+pub mod Filled

@@ -1,0 +1,70 @@
+//! The slots of the templates.
+
+/// A slot, which has a value where a page is written.
+#[derive(Clone, Copy, Debug, PartialEq, Eq)]
+pub enum Slot {
+    /// The tag of the page's language, the name of the library, its colour, and the addresses of its help and contact.
+    /// The site file has their values.
+    Language,
+    Library,
+    Color,
+    Help,
+    Contact,
+    /// The name of the page.
+    Heading,
+    /// A statement, and the name of an error.
+    Note,
+    Fault,
+    /// The values of the form's fields. A citation has the first two as well.
+    Issn,
+    Isbn,
+    Date,
+    Volume,
+    /// The text for which titles are searched.
+    Wanted,
+    /// The parts of a citation. `Cited` has a value if any other has. Of `DateRead` and `DateNoted` at most one has a
+    /// value, and so have `VolumeRead` and `VolumeNoted`, `DoiLink` and `Doi`, `PmidLink` and `Pmid`.
+    Cited,
+    Article,
+    Work,
+    Author,
+    DateRead,
+    DateNoted,
+    VolumeRead,
+    VolumeNoted,
+    Issue,
+    FirstPage,
+    DoiLink,
+    Doi,
+    PmidLink,
+    Pmid,
+    /// The name of a package, the title of a row, its link, and the host of the platform.
+    Package,
+    Title,
+    Link,
+    Host,
+    /// That a row does not match, and the limit that an embargo sets.
+    Unmatched,
+    Limit,
+    /// The fit of a hit with its class.
+    Fit,
+    FitClass,
+    /// The coverage of a row, in words.
+    Coverage,
+    /// Has a value if a list has items.
+    Listed,
+    /// The number of hits that are left out, the words before it, and advice how to ask for fewer.
+    LeftOut,
+    LeastText,
+    Hint,
+    /// The address of the library's request form.
+    Request,
+    /// The pairs of a query for a title.
+    Numbers,
+    /// The text that is searched, percent-encoded, and the place of the next title.
+    Encoded,
+    Start,
+    /// What is wrong with the ISSN and with the ISBN of a citation.
+    IssnFault,
+    IsbnFault,
+}
