@@ -1,7 +1,7 @@
 -- The rows at the places of a query's identifiers: each has one of the identifiers.
-use Rattle.std.proofs.Common.{◌≡◌, ◌+◌, ℕ, suc, Bool, true, false, List, [], ◌∷◌, ◌++◌, Option, Some, None, refl, sym, ap, ◌∙◌, subst, append_assoc, arith, length, take}
+use Rattle.std.proofs.Common.{◌≡◌, ◌+◌, ℕ, Bool, true, false, List, [], ◌∷◌, ◌++◌, Option, Some, None, refl, sym, ap, ◌∙◌, subst, append_assoc, arith, length, take}
 use Rattle.std.specs.Prelude.{if◌then◌else◌, option_map, slice_get}
-use Rattle.std.specs.List.{All, AllPass, cons_option, enumerate_from, filter_map}
+use Rattle.std.specs.List.{AllPass, cons_option, enumerate_from, filter_map}
 use Rattle.std.specs.Option.{option_and_then, option_map_or}
 use Rattle.std.proofs.lemmas.List.Elements.{All-cons, All-nil, All-take}
 use Rattle.feed_kbart.specs.Identifiers.{kind}
@@ -11,10 +11,8 @@ use Rattle.feed_kbart.specs.declared.identifiers.Kind.{Kind}
 use Rattle.feed_kbart.specs.declared.identifiers.Kind.TheVariants.{Serial, Book}
 use Rattle.feed_answer.specs.Answers.{hit_by}
 use Rattle.feed_answer.specs.Grades.{both_grades, days_grade, grade_by, volume_grade}
-use Rattle.feed_answer.specs.HitValue.{HitValue}
 use Rattle.feed_answer.specs.Places.{hit_at}
 use Rattle.feed_answer.specs.QueryValue.{QueryValue}
-use Rattle.feed_answer.specs.declared.grade.Grade.{Grade}
 use Rattle.feed_answer.specs.declared.grade.Grade.TheVariants.{Untested}
 use Rattle.node_hits.specs.Looks.{asked_places}
 use Rattle.node_hits.specs.Searches.{SearchValue, asked_grade_as, asked_hit_at, asked_hit_by, compared, is_asked, is_asked_as, is_asked_at, whole_titles}

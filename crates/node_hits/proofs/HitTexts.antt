@@ -21,7 +21,7 @@ use Rattle.feed_answer.specs.Grades.{grade_text}
 use Rattle.node_response.specs.JsonStrings.{json_string}
 use Rattle.node_response.proofs.JsonTexts.{Lexes, lexes_then, lexes_string, IsText, AreOf, text_of_lexemes, list_read, list_in, items_shallow}
 use Rattle.node_hits.specs.EmbargoWords.{embargo_words}
-use Rattle.node_hits.specs.Hits.{ReleaseHitValue, link_text, name_text}
+use Rattle.node_hits.specs.Hits.{ReleaseHitValue, article_text, name_text, page_text}
 use Rattle.node_hits.specs.HitsJson.{availability_text, release_members, grade_members, title_members, access_members, hit_object}
 use Rattle.node_hits.specs.Coverages.{day_text, days_words, volume_text, volumes_words}
 use Rattle.node_site.specs.Hosts.{shown_host}
@@ -118,6 +118,14 @@ access_key : Lexes (codes ",\"access\":") (comma ∷ token (Token.string (codes 
 unfolding lex content
 access_key = record { lexed = λ rest. refl }
 
+article_key : Lexes (codes ",\"article\":") (comma ∷ token (Token.string (codes "article")) ∷ colon ∷ [])
+unfolding lex content
+article_key = record { lexed = λ rest. refl }
+
+note_key : Lexes (codes ",\"note\":") (comma ∷ token (Token.string (codes "note")) ∷ colon ∷ [])
+unfolding lex content
+note_key = record { lexed = λ rest. refl }
+
 last_brace : Lexes (codes "}" ++ []) (token Token.end_object ∷ [])
 unfolding lex
 last_brace = record { lexed = λ rest. refl }
@@ -208,32 +216,37 @@ lexes_row row link = lexes_then (title_members row link) _ (title_lexemes row li
     (lexes_then (target_members row) _ (target_lexemes row) _ (lexes_target row)
     (lexes_then (days_members row) (volumes_members row) (days_lexemes row) (volumes_lexemes row) (lexes_days row) (lexes_volumes row)))
 
-abbrev access_lexemes : RowValue → List ℕ → List Lexeme → List Lexeme
-access_lexemes row words ls =
+abbrev access_lexemes : RowValue → List ℕ → List ℕ → List ℕ → List Lexeme → List Lexeme
+access_lexemes row words article note ls =
     string_lexemes (codes "embargo") row.embargo (string_lexemes (codes "embargo_words") words
-    (string_lexemes (codes "access") row.access ls))
+    (string_lexemes (codes "access") row.access (string_lexemes (codes "article") article (string_lexemes (codes "note") note ls))))
 
-lexes_access : (row : RowValue) (words end : List ℕ) (ls : List Lexeme) → Lexes (end ++ []) ls → Lexes (access_members row words end) (access_lexemes row words ls)
+lexes_access : (row : RowValue) (words article note end : List ℕ) (ls : List Lexeme) → Lexes (end ++ []) ls
+    → Lexes (access_members row words article note end) (access_lexemes row words article note ls)
 unfolding access_members
-lexes_access row words end ls last =
+lexes_access row words article note end ls last =
     with_string (codes ",\"embargo\":") row.embargo _ _ _ embargo_key
     (with_string (codes ",\"embargo_words\":") words _ _ _ words_key
-    (with_string (codes ",\"access\":") row.access _ _ _ access_key last))
+    (with_string (codes ",\"access\":") row.access _ _ _ access_key
+    (with_string (codes ",\"article\":") article _ _ _ article_key
+    (with_string (codes ",\"note\":") note _ _ _ note_key last))))
 
 abbrev hit_lexemes : ReleaseHitValue → List Lexeme → List Lexeme
 hit_lexemes found ls =
     release_lexemes found.name
-    ++ (grade_lexemes found ++ (row_lexemes found.hit.row (link_text found) ++ access_lexemes found.hit.row (embargo_words found.hit.row.embargo) ls))
+    ++ (grade_lexemes found ++ (row_lexemes found.hit.row (page_text found)
+    ++ access_lexemes found.hit.row (embargo_words found.hit.row.embargo) (article_text found) found.note ls))
 
 lexes_hit : (end : List ℕ) (ls : List Lexeme) (found : ReleaseHitValue) → Lexes (end ++ []) ls → found.hit.row.number < 2 ^ 64
     → Lexes (hit_object end found) (hit_lexemes found ls)
 unfolding hit_object
 lexes_hit end ls found last small = lexes_then (release_members found.name) _ (release_lexemes found.name) _ (lexes_release found.name)
     (lexes_then (grade_members found) _ (grade_lexemes found) _ (lexes_grade found small)
-    (lexes_then (row_members found.hit.row (link_text found)) (access_members found.hit.row (embargo_words found.hit.row.embargo) end)
-    (row_lexemes found.hit.row (link_text found))
-    (access_lexemes found.hit.row (embargo_words found.hit.row.embargo) ls) (lexes_row found.hit.row (link_text found))
-    (lexes_access found.hit.row (embargo_words found.hit.row.embargo) end ls last)))
+    (lexes_then (row_members found.hit.row (page_text found))
+    (access_members found.hit.row (embargo_words found.hit.row.embargo) (article_text found) found.note end)
+    (row_lexemes found.hit.row (page_text found))
+    (access_lexemes found.hit.row (embargo_words found.hit.row.embargo) (article_text found) found.note ls) (lexes_row found.hit.row (page_text found))
+    (lexes_access found.hit.row (embargo_words found.hit.row.embargo) (article_text found) found.note end ls last)))
 
 abbrev hit_end : List Lexeme
 hit_end = token Token.end_object ∷ []

@@ -7,6 +7,7 @@ pub mod Written
 pub mod Tops
 pub mod BooksFirst
 pub mod Tallies
+pub mod Articles
 pub mod Merged
 pub mod PlacesAsked
 pub mod AskedRows

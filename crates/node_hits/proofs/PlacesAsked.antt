@@ -1,20 +1,16 @@
 -- The places at which a search looks are those of the rows that have one of the query's identifiers.
-use Rattle.std.proofs.Common.{◌≡◌, ◌+◌, ◌⊎◌, ◌∙◌, Option, Some, None, inl, inr, ℕ, zero, suc, Bool, true, false, ◌||◌, List, [], ◌∷◌, refl, sym, ap, subst, arith, length, map, take}
+use Rattle.std.proofs.Common.{◌≡◌, ◌+◌, ◌⊎◌, ◌∙◌, Some, None, inl, inr, ℕ, zero, suc, Bool, true, false, ◌||◌, List, [], ◌∷◌, refl, sym, ap, subst, arith, take}
 use Rattle.std.specs.Prelude.{◌↔◌, if◌then◌else◌}
 use Rattle.std.specs.List.{Contains, cons_option, enumerate_from, filter_map, flat_map}
 use Rattle.std.proofs.lemmas.List.Elements.{Contains-append_cases, Contains-append_left, Contains-append_right}
-use Rattle.feed_answer.specs.Today.{TodayValue}
 use Rattle.feed_kbart.specs.Places.{has_isbn, has_issn, place_by, places_by}
 use Rattle.feed_kbart.specs.RowValue.{RowValue}
-use Rattle.feed_names.specs.ReleaseName.{Name}
-use Rattle.node_site.specs.Site as site_file
 use Rattle.feed_answer.specs.Places.{places_among, places_of_isbns, places_of_issns}
 use Rattle.feed_answer.specs.QueryValue.{QueryValue}
 use Rattle.feed_answer.proofs.Places.{places_ascend}
 use Rattle.node_hits.specs.Laws.{ArePlaces, LooksAreAtPlaces}
-use Rattle.node_hits.specs.Looks.{asked_places, looks_in}
-use Rattle.node_hits.specs.Searches.{SearchValue, is_asked}
-use Rattle.node_hits.specs.Tallying.{looks_at}
+use Rattle.node_hits.specs.Looks.{asked_places}
+use Rattle.node_hits.specs.Searches.{is_asked}
 use Rattle.node_hits.proofs.LooksPlaced.{front_looks_at, looks_placed}
 use Rattle.node_hits.proofs.Merged.{alike, any_one, asked_either, either, none_placed}
 

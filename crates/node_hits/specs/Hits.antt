@@ -1,5 +1,5 @@
 -- The hits of a query, each with its release and its availability, and the best link among them.
-use Rattle.std.specs.Prelude.{ℕ, ℤ, ◌+◌, ◌*◌, ◌-◌, ◌&&◌, not, Bool, true, false, nat_lt, if◌then◌else◌, List, [], ◌∷◌, codes, Option, Some, None, filter, map, option_map}
+use Rattle.std.specs.Prelude.{ℕ, ℤ, ◌+◌, ◌*◌, ◌-◌, ◌&&◌, ◌||◌, not, Bool, true, false, nat_lt, if◌then◌else◌, List, [], ◌∷◌, codes, Option, Some, None, filter, map, option_map, unwrap_or}
 use Rattle.std.specs.Str.{str_eq_ignore_ascii_case}
 use Rattle.feed_names.specs.ReleaseName.{Name, text_of}
 use Rattle.feed_bytes.specs.Trim.{trimmed}
@@ -17,24 +17,30 @@ use Rattle.feed_answer.specs.HitValue.{HitValue}
 use Rattle.feed_answer.specs.QueryValue.{QueryValue}
 use Rattle.feed_answer.specs.declared.grade.Grade.{Grade}
 use Rattle.feed_answer.specs.declared.grade.Grade.TheVariants.{Inside, Overlap, Untested}
+use Rattle.node_site.specs.Articles.{article_link}
 use Rattle.node_site.specs.Held.{library_has}
+use Rattle.node_site.specs.Notes.{note_on}
 use Rattle.node_site.specs.Packages.{package_place}
-use Rattle.node_site.specs.Proxies.{prefix_for, through}
+use Rattle.node_site.specs.Proxies.{PrefixValue, is_direct, prefix_for, through}
+use Rattle.node_site.specs.Requests.{CitedTitleValue}
 use Rattle.node_site.specs.Site as site_file
 use Rattle.node_site.specs.Hosts.{is_link}
-use Rattle.node_hits.specs.Searches.{SearchValue, compared, is_dated, is_first_as, whole_titles}
+use Rattle.node_hits.specs.Searches.{SearchValue, compared, is_dated, is_first_as, whole_titles, with_title_id}
 use Rattle.node_hits.specs.declared.search.Scope.{Scope}
 use Rattle.node_hits.specs.declared.search.Scope.TheVariants.{Hits, Dated, Others}
 
--- a hit, its release, the days that are asked for of it, how those lie in the days that are open to readers, the prefix of its
--- link, if that goes through a proxy, the place of its package in the order of the site, whether the library has all the days
--- that are asked for, and whether it is a book that comes before its series
+-- a hit, its release, the days that are asked for of it, how those lie in the days that are open to readers, the prefix of the
+-- link to its page, if that goes through a proxy, the link to the article, if there is one, the note for readers, the place of
+-- its package in the order of the site, whether the library has all the days that are asked for, and whether it is a book that
+-- comes before its series
 pub record ReleaseHitValue : Type 0 where
   pub name : Name
   pub hit : HitValue
   pub asked : Option DayRange
   pub availability : Availability
-  pub prefix : Option (List ℕ)
+  pub prefix : Option PrefixValue
+  pub article : Option (List ℕ)
+  pub note : List ℕ
   pub place : ℕ
   pub is_held_whole : Bool
   pub is_first : Bool
@@ -72,6 +78,35 @@ abbrev pub holds_days : site_file.SiteValue → Name → RowValue → Option Day
 holds_days site name row None = true
 holds_days site name row (Some days) = holds_day site name row days.first && holds_day site name row days.last
 
+-- the days that are asked for are all open to readers, or they are not compared
+abbrev pub is_open_or_unknown : Availability → Bool
+is_open_or_unknown Available = true
+is_open_or_unknown NotCompared = true
+is_open_or_unknown availability = false
+
+-- a search is for the rows that match the query
+abbrev pub is_for_hits : Scope → Bool
+is_for_hits Hits = true
+is_for_hits scope = false
+
+-- the row covers full texts, or does not say what it covers
+abbrev pub may_be_full_text : RowValue → Bool
+may_be_full_text row = is_full_text row || is_word [] row.depth
+
+-- a row leads to the article: it matches the query, readers have it, and it may cover full texts
+abbrev pub leads_to_article : Scope → Availability → RowValue → Bool
+leads_to_article scope availability row = is_for_hits scope && (is_open_or_unknown availability && may_be_full_text row)
+
+-- the citation of a search, for a row
+abbrev pub cited_in : SearchValue → RowValue → CitedTitleValue
+cited_in search row = with_title_id row.title_id search.cited
+
+-- the link to the article that a query cites in a row of this release, if the row leads to it
+abbrev pub article_of : site_file.SiteValue → SearchValue → Availability → Name → RowValue → Option (List ℕ)
+article_of site search availability name row =
+    if leads_to_article search.scope availability row then article_link site name.package_name row.url (is_free row) (cited_in search row)
+    else None
+
 -- a hit of this release, for the readers of a library, today
 abbrev pub release_hit : site_file.SiteValue → TodayValue → SearchValue → Name → HitValue → ReleaseHitValue
 release_hit site today search name hit = record {
@@ -79,7 +114,9 @@ release_hit site today search name hit = record {
   hit = hit;
   asked = days_asked (kind hit.row.identifiers) (compared search).days;
   availability = availability_of today hit.row.embargo hit.row.first_day hit.row.last_day (compared search).days;
-  prefix = prefix_for site hit.row.url (is_free hit.row);
+  prefix = prefix_for site hit.row.url (is_direct site name.package_name (is_free hit.row));
+  article = article_of site search (availability_of today hit.row.embargo hit.row.first_day hit.row.last_day (compared search).days) name hit.row;
+  note = unwrap_or (note_on site name.package_name hit.row.title_id) [];
   place = package_place site name.package_name;
   is_held_whole = holds_days site name hit.row (days_asked (kind hit.row.identifiers) (compared search).days);
   is_first = is_first_as (kind hit.row.identifiers) search.is_book_first;
@@ -112,9 +149,17 @@ held_hits site search name hits = filter (is_found site search name) hits
 abbrev pub library_hits : site_file.SiteValue → TodayValue → SearchValue → Name → List HitValue → List ReleaseHitValue
 library_hits site today search name hits = map (release_hit site today search name) (held_hits site search name hits)
 
--- the link of a hit: its URL, or that through the proxy
+-- the link to the page of a hit: its URL, or that through the proxy
+abbrev pub page_text : ReleaseHitValue → List ℕ
+page_text found = through found.prefix found.hit.row.url
+
+-- the link of a hit: to the article, or else to its page
 abbrev pub link_text : ReleaseHitValue → List ℕ
-link_text found = through found.prefix found.hit.row.url
+link_text found = unwrap_or found.article (page_text found)
+
+-- the link to the article, or nothing
+abbrev pub article_text : ReleaseHitValue → List ℕ
+article_text found = unwrap_or found.article []
 
 -- the text of a release's name
 unfoldable pub name_text : Name → List ℕ
@@ -134,6 +179,14 @@ is_inside grade = false
 -- library has all of them
 abbrev pub is_certain : ReleaseHitValue → Bool
 is_certain found = ((is_available found.availability && is_inside found.hit.grade) && is_full_text found.hit.row) && found.is_held_whole
+
+-- the hit is open to readers: it is not under an embargo, and has more than abstracts
+abbrev pub is_readable : Availability → Bool
+is_readable Embargoed = false
+is_readable availability = true
+
+abbrev pub is_open : ReleaseHitValue → Bool
+is_open found = is_readable found.availability && not (is_abstracts found.hit.row)
 
 -- available ranks above partly available, that above not compared, and that above embargoed
 abbrev pub availability_rank : Availability → ℕ

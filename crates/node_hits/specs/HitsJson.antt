@@ -13,7 +13,7 @@ use Rattle.node_response.specs.Fragments.{joined}
 use Rattle.node_site.specs.Hosts.{shown_host}
 use Rattle.node_hits.specs.Coverages.{day_text, days_words, volume_text, volumes_words}
 use Rattle.node_hits.specs.EmbargoWords.{embargo_words}
-use Rattle.node_hits.specs.Hits.{ReleaseHitValue, link_text, name_text}
+use Rattle.node_hits.specs.Hits.{ReleaseHitValue, article_text, name_text, page_text}
 use Rattle.node_hits.specs.Tallies.{TallyValue, left_out, shows_all}
 
 -- the beginning of an object: the members that identify a release
@@ -49,12 +49,14 @@ volumes_members row = joined (
 unfoldable pub row_members : RowValue → List ℕ → List ℕ
 row_members row link = title_members row link ++ (target_members row ++ (days_members row ++ volumes_members row))
 
--- those for its embargo, also in words, and its access, before the end of an object
-unfoldable pub access_members : RowValue → List ℕ → List ℕ → List ℕ
-access_members row words end = joined (
+-- those for its embargo, also in words, its access, the link to the article and the note, before the end of an object
+unfoldable pub access_members : RowValue → List ℕ → List ℕ → List ℕ → List ℕ → List ℕ
+access_members row words article note end = joined (
     codes ",\"embargo\":" ∷ json_string row.embargo
     ∷ codes ",\"embargo_words\":" ∷ json_string words
     ∷ codes ",\"access\":" ∷ json_string row.access
+    ∷ codes ",\"article\":" ∷ json_string article
+    ∷ codes ",\"note\":" ∷ json_string note
     ∷ end ∷ [])
 
 -- the name of an availability
@@ -75,7 +77,8 @@ grade_members found = joined (
 unfoldable pub hit_object : List ℕ → ReleaseHitValue → List ℕ
 hit_object end found =
     release_members found.name
-    ++ (grade_members found ++ (row_members found.hit.row (link_text found) ++ access_members found.hit.row (embargo_words found.hit.row.embargo) end))
+    ++ (grade_members found ++ (row_members found.hit.row (page_text found)
+    ++ access_members found.hit.row (embargo_words found.hit.row.embargo) (article_text found) found.note end))
 
 -- the beginning of the object that counts the hits that are left out: whether there may be still more
 abbrev pub more_start : Bool → List ℕ
@@ -115,7 +118,7 @@ value_with others found = object (
     (text_member (codes "grade") (grade_text found.hit.grade)
     (text_member (codes "availability") (availability_text found.availability)
     (text_member (codes "title") found.hit.row.title
-    (text_member (codes "url") (link_text found)
+    (text_member (codes "url") (page_text found)
     (text_member (codes "title_id") found.hit.row.title_id
     (text_member (codes "depth") found.hit.row.depth
     (text_member (codes "target") found.hit.row.url
@@ -128,7 +131,9 @@ value_with others found = object (
     (text_member (codes "volumes_words") (volumes_words found.hit.row)
     (text_member (codes "embargo") found.hit.row.embargo
     (text_member (codes "embargo_words") (embargo_words found.hit.row.embargo)
-    (text_member (codes "access") found.hit.row.access others))))))))))))))))))))
+    (text_member (codes "access") found.hit.row.access
+    (text_member (codes "article") (article_text found)
+    (text_member (codes "note") found.note others))))))))))))))))))))))
 
 abbrev pub hit_value : ReleaseHitValue → Json
 hit_value found = value_with no_members found

@@ -7,7 +7,8 @@ use Rattle.json.specs.Value.{items_of}
 use Rattle.feed_names.specs.ReleaseName.{Name}
 use Rattle.feed_answer.specs.Today.{TodayValue}
 use Rattle.feed_answer.specs.declared.availability.Availability.TheVariants.{Available}
-use Rattle.node_site.specs.Proxies.{proxied}
+use Rattle.node_site.specs.Articles.{article_link}
+use Rattle.node_site.specs.Proxies.{is_direct, proxied}
 use Rattle.node_site.specs.Site as site_file
 use Rattle.feed_answer.specs.HitValue.{HitValue}
 use Rattle.feed_kbart.specs.Identifiers.{kind}
@@ -21,7 +22,8 @@ use Rattle.feed_answer.specs.Places.{places_among}
 use Rattle.feed_answer.specs.QueryValue.{QueryValue}
 use Rattle.feed_kbart.specs.HoldingsValue.{HoldingsValue}
 use Rattle.feed_kbart.specs.RowValue.{RowValue}
-use Rattle.node_hits.specs.Hits.{ReleaseHitValue, best_link, is_free, is_full_text, library_hits, link_text, rank_of, release_hit}
+use Rattle.node_hits.specs.Hits.{ReleaseHitValue, best_link, cited_in, is_for_hits, is_free, is_full_text, is_open_or_unknown, library_hits, link_text, may_be_full_text, page_text}
+use Rattle.node_hits.specs.Hits.{rank_of, release_hit}
 use Rattle.node_hits.specs.Looks.{asked_places, found_in, looks_in, row_limit}
 use Rattle.node_hits.specs.HitsJson.{hits_json, item_values}
 use Rattle.node_hits.specs.Searches.{SearchValue, compared}
@@ -33,10 +35,24 @@ use Rattle.node_hits.specs.Tallying.{looks_at, no_hits, with_looks, tally_from}
 abbrev pub RedirectsToLink : Type 0
 RedirectsToLink = (hits : List ReleaseHitValue) (url : List ℕ) → best_link hits ≡ Some url → is_link url ≡ true
 
--- the link of a hit is its URL as the site of the library writes it
+-- the link to the page of a hit is its URL as the site of the library writes it
 abbrev pub LinksAreProxied : Type 0
 LinksAreProxied = (site : site_file.SiteValue) (today : TodayValue) (search : SearchValue) (name : Name) (hit : HitValue)
-    → link_text (release_hit site today search name hit) ≡ proxied site hit.row.url (is_free hit.row)
+    → page_text (release_hit site today search name hit) ≡ proxied site hit.row.url (is_direct site name.package_name (is_free hit.row))
+
+-- a hit has this link to the article: its row matches the query, readers have it, the row may cover full texts, and the site has
+-- the link for what the query cites
+pub record IsArticle (site : site_file.SiteValue) (search : SearchValue) (found : ReleaseHitValue) (link : List ℕ) : Type 0 where
+  pub of_query : is_for_hits search.scope ≡ true
+  pub open_or_unknown : is_open_or_unknown found.availability ≡ true
+  pub full_or_unknown : may_be_full_text found.hit.row ≡ true
+  pub means : article_link site found.name.package_name found.hit.row.url (is_free found.hit.row) (cited_in search found.hit.row) ≡ Some link
+
+-- a hit has a link to the article exactly then, and it is then the link of the hit
+abbrev pub ArticlesComeFirst : Type 0
+ArticlesComeFirst = (site : site_file.SiteValue) (today : TodayValue) (search : SearchValue) (name : Name) (hit : HitValue) (link : List ℕ)
+    → ((release_hit site today search name hit).article ≡ Some link ↔ IsArticle site search (release_hit site today search name hit) link)
+    × (IsArticle site search (release_hit site today search name hit) link → link_text (release_hit site today search name hit) ≡ link)
 
 -- no hit that may be linked to ranks above the best link
 abbrev pub BestLinkRanksHighest : Type 0

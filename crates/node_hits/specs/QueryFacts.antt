@@ -1,5 +1,5 @@
 -- The facts that a response reports about a query beside its hits.
-use Rattle.std.specs.Prelude.{ℕ, ◌||◌, not, Bool, List, [], is_some}
+use Rattle.std.specs.Prelude.{ℕ, ◌||◌, not, Bool, List, [], is_some, unwrap_or}
 use Rattle.std.specs.List.{list_all}
 use Rattle.std.specs.Option.{option_map_or}
 use Rattle.form_urlencoded.specs.Form as form
@@ -11,12 +11,14 @@ use Rattle.feed_openurl.specs.Values.{OpenUrlValue, understood}
 use Rattle.feed_openurl.specs.Written.{written}
 use Rattle.node_hits.specs.declared.query_facts.TheConstants.{SHOWN}
 
--- the citation of a query, the query that is looked up, which is empty if none is, and whether a date and a volume are read
+-- the citation of a query, the query that is looked up, which is empty if none is, whether a date and a volume are read, and
+-- the date
 pub record QueryFactsValue : Type 0 where
   pub citation : CitationValue
   pub query : List ℕ
   pub has_date : Bool
   pub has_volume : Bool
+  pub date : List ℕ
 
 -- the query that is looked up, as a text
 abbrev pub query_text : OpenUrlValue → List ℕ
@@ -24,7 +26,7 @@ query_text u = option_map_or (λ reason. []) u.refusal (written u)
 
 abbrev pub ask_by : CitationValue → OpenUrlValue → QueryFactsValue
 ask_by citation u =
-    record { citation = citation; query = query_text u; has_date = is_some u.date; has_volume = is_some u.volume }
+    record { citation = citation; query = query_text u; has_date = is_some u.date; has_volume = is_some u.volume; date = unwrap_or u.date [] }
 
 -- the same of the bytes of a query
 unfoldable pub ask_of : List ℕ → QueryFactsValue

@@ -8,20 +8,26 @@ use Rattle.feed_kbart.specs.declared.identifiers.Kind.TheVariants.{Serial, Book}
 use Rattle.feed_answer.specs.Grades.{both_grades, days_grade, is_named, volume_grade}
 use Rattle.feed_answer.specs.HitValue.{HitValue}
 use Rattle.feed_answer.specs.QueryValue.{QueryValue}
+use Rattle.node_site.specs.Requests.{CitedTitleValue}
 use Rattle.feed_answer.specs.declared.grade.Grade.{Grade}
 use Rattle.feed_answer.specs.declared.grade.Grade.TheVariants.{Inside, Overlap, Untested}
 use Rattle.node_hits.specs.declared.search.Scope.{Scope}
 use Rattle.node_hits.specs.declared.search.Scope.TheVariants.{Hits, Dated, Others}
 
--- a query, which rows of its titles are searched for, and whether a book that it names comes before a serial
+-- a query, which rows of its titles are searched for, whether a book that it names comes before a serial, and what it cites
 pub record SearchValue : Type 0 where
   pub query : QueryValue
   pub scope : Scope
   pub is_book_first : Bool
+  pub cited : CitedTitleValue
+
+-- a citation, for a row with this `title_id`
+abbrev pub with_title_id : List ℕ → CitedTitleValue → CitedTitleValue
+with_title_id id cited = record cited { title_id = id }
 
 -- the same query in another scope
 abbrev pub in_scope : Scope → SearchValue → SearchValue
-in_scope scope search = record { query = search.query; scope = scope; is_book_first = search.is_book_first }
+in_scope scope search = record search { scope = scope }
 
 -- a query without its volume, and one without its date too, which asks for the whole titles
 abbrev pub without_volume : QueryValue → QueryValue

@@ -1,7 +1,11 @@
 -- The hits of a query that a response counts, shows and chooses from.
-use Rattle.std.specs.Prelude.{ℕ, ◌+◌, ◌-◌, ◌==◌, ◌&&◌, nat_lt, nat_le, Bool, if◌then◌else◌, List, [], ◌∷◌, length, Option, None}
+use Rattle.std.specs.Prelude.{ℕ, ◌+◌, ◌-◌, ◌==◌, ◌&&◌, nat_lt, nat_le, Bool, if◌then◌else◌, List, [], ◌∷◌, length, filter, Option, None}
+use Rattle.std.specs.List.{list_any}
+use Rattle.std.specs.Option.{option_or}
 use Rattle.node_site.specs.Proxies.{room_of}
-use Rattle.node_hits.specs.Hits.{ReleaseHitValue, name_text, best_link, is_certain}
+use Rattle.node_site.specs.declared.occasion.SearchOutcome.{SearchOutcome}
+use Rattle.node_site.specs.declared.occasion.SearchOutcome.TheVariants as outcome
+use Rattle.node_hits.specs.Hits.{ReleaseHitValue, article_text, name_text, best_link, is_certain, is_open}
 use Rattle.node_hits.specs.Looks.{counted, row_limit}
 use Rattle.node_hits.specs.Ranks.{ranked}
 
@@ -13,11 +17,12 @@ shown_limit = 1000
 abbrev pub text_limit : ℕ
 text_limit = 524288
 
--- the bytes in the texts of a hit, with room for its link
+-- the bytes in the texts of a hit, with room for the link to its page
 abbrev pub text_size : ReleaseHitValue → ℕ
 text_size found =
     length found.name.package_name + length (name_text found.name) + length found.hit.row.title + room_of found.prefix found.hit.row.url
     + length found.hit.row.title_id + length found.hit.row.depth + length found.hit.row.embargo + length found.hit.row.access
+    + length (article_text found) + length found.note
 
 -- the first hits: at most so many, and whose texts have fewer than so many bytes in all
 abbrev pub first_within : ℕ → ℕ → List ReleaseHitValue → List ReleaseHitValue
@@ -28,16 +33,18 @@ first_within places bytes (found ∷ more) =
     else []
 
 -- what a response needs to know of the hits of a query: text shows the first ones, JSON and a page those of the highest
--- ranks
+-- ranks; the best link of all hits, that of those that are open to readers, and whether there is such a hit
 pub record TallyValue : Type 0 where
   pub count : ℕ
   pub is_whole : Bool
   pub shown : List ReleaseHitValue
   pub top : List ReleaseHitValue
   pub best : Option (List ℕ)
+  pub best_open : Option (List ℕ)
+  pub has_open : Bool
 
 -- the tally of what a search finds in the rows that have one of its identifiers: how many hits are in those that are looked
--- at, whether all rows are, the first hits, those of the highest ranks, and the best link among them
+-- at, whether all rows are, the first hits, those of the highest ranks, the best links among them, and whether one is open
 abbrev pub tally_of : List (Option ReleaseHitValue) → TallyValue
 tally_of looks = record {
   count = length (counted looks);
@@ -45,7 +52,20 @@ tally_of looks = record {
   shown = first_within shown_limit text_limit (counted looks);
   top = first_within shown_limit text_limit (ranked (counted looks));
   best = best_link (counted looks);
+  best_open = best_link (filter is_open (counted looks));
+  has_open = list_any is_open (counted looks);
 }
+
+-- the outcome of a search. It is unknown if no open hit is found and more rows are left
+abbrev pub outcome_of : TallyValue → SearchOutcome
+outcome_of tally =
+    if tally.has_open then outcome.Hits
+    else if tally.is_whole then (if tally.count == 0 then outcome.NoHits else outcome.Embargoed)
+    else outcome.Unknown
+
+-- where a reader is sent who asks for no page: to the best open hit, or else to a link of the library, or else to the best hit
+abbrev pub followed_link : Option (List ℕ) → TallyValue → Option (List ℕ)
+followed_link library tally = option_or tally.best_open (option_or library tally.best)
 
 -- a link, if a reader may be sent to the first of some hits without a choice
 abbrev pub link_if_certain : List ReleaseHitValue → Option (List ℕ) → Option (List ℕ)

@@ -1,8 +1,8 @@
 -- How a tally is made, one row after another.
-use Rattle.std.specs.Prelude.{ℕ, ◌+◌, ◌-◌, ◌<◌, ◌≤◌, ◌&&◌, ◌==◌, nat_lt, Bool, true, false, if◌then◌else◌, List, [], ◌∷◌, ◌++◌, Option, Some, None, fold}
+use Rattle.std.specs.Prelude.{ℕ, ◌+◌, ◌-◌, ◌<◌, ◌≤◌, ◌&&◌, ◌||◌, ◌==◌, nat_lt, Bool, true, false, if◌then◌else◌, List, [], ◌∷◌, ◌++◌, Option, Some, None, fold}
 use Rattle.std.specs.Prelude.{insert, length, option_map, reverse, slice_get, take}
 use Rattle.std.specs.List.{flat_map}
-use Rattle.node_hits.specs.Hits.{LinkValue, ReleaseHitValue, better, link_of, link_url, rank_of}
+use Rattle.node_hits.specs.Hits.{LinkValue, ReleaseHitValue, better, is_open, link_of, link_url, rank_of}
 use Rattle.std.specs.List.Sorted.{IsNonDecreasingBy, IsPartitionPoint}
 use Rattle.node_hits.specs.Ranks.{rank_limit}
 use Rattle.feed_answer.specs.Places.{hit_at}
@@ -30,6 +30,23 @@ with_shown shown found =
 -- with the link of one hit more
 abbrev pub with_link : Option LinkValue → ReleaseHitValue → Option LinkValue
 with_link link found = better link (link_of found)
+
+-- the best link of all hits and that of the open ones, and whether one is open
+pub record LinksValue : Type 0 where
+  pub all : Option LinkValue
+  pub open_ones : Option LinkValue
+  pub has_open : Bool
+
+abbrev pub no_links : LinksValue
+no_links = record { all = None; open_ones = None; has_open = false }
+
+-- with those of one hit more
+abbrev pub with_links : LinksValue → ReleaseHitValue → LinksValue
+with_links links found = record {
+  all = with_link links.all found;
+  open_ones = if is_open found then with_link links.open_ones found else links.open_ones;
+  has_open = links.has_open || is_open found;
+}
 
 -- none ranks below a later one
 abbrev pub IsRanked : List ReleaseHitValue → Type 0
@@ -59,7 +76,7 @@ pub record RunningValue : Type 0 where
   pub count : ℕ
   pub shown : ShownValue
   pub top : List ReleaseHitValue
-  pub link : Option LinkValue
+  pub links : LinksValue
 
 -- before the first row
 abbrev pub no_hits : RunningValue
@@ -69,7 +86,7 @@ no_hits = record {
   count = 0;
   shown = record { hits = []; places = shown_limit; bytes = text_limit };
   top = [];
-  link = None;
+  links = no_links;
 }
 
 -- one row more than are looked at: no later row is
@@ -80,7 +97,7 @@ cut_off running = record {
   count = running.count;
   shown = running.shown;
   top = running.top;
-  link = running.link;
+  links = running.links;
 }
 
 -- one row more that is looked at, and what is found in it
@@ -91,7 +108,7 @@ with_found running None = record {
   count = running.count;
   shown = running.shown;
   top = running.top;
-  link = running.link;
+  links = running.links;
 }
 with_found running (Some found) = record {
   left = running.left - 1;
@@ -99,7 +116,7 @@ with_found running (Some found) = record {
   count = running.count + 1;
   shown = with_shown running.shown found;
   top = with_top running.top found;
-  link = with_link running.link found;
+  links = with_links running.links found;
 }
 
 -- one row more
@@ -123,5 +140,7 @@ tally_from running = record {
   is_whole = running.is_whole;
   shown = running.shown.hits;
   top = first_within shown_limit text_limit running.top;
-  best = option_map link_url running.link;
+  best = option_map link_url running.links.all;
+  best_open = option_map link_url running.links.open_ones;
+  has_open = running.links.has_open;
 }

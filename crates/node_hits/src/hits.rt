@@ -1,25 +1,29 @@
-//! A hit of a query, with its release and its availability.
-ghost use Rattle.std.specs.Prelude.{◌≡◌, IfOk, false, option_copied};
+//! A hit of a query, with its release, its availability and its links.
+ghost use Rattle.std.specs.Prelude.{◌≡◌, ◌-◌, IfOk, false, option_map};
 ghost use Rattle.std.specs.Bool.{OnFalse};
 ghost use Rattle.std.specs.Cow.{cow_slice_items};
 ghost use Rattle.feed_answer.specs.HitValue.{hit_of};
 ghost use Rattle.node_site.specs.Held.{library_has};
 ghost use Rattle.node_site.specs.Hosts.{is_link};
 ghost use Rattle.node_site.specs.Packages.{package_place};
+ghost use Rattle.node_site.specs.Proxies.{room_of};
 ghost use Rattle.feed_kbart.specs.Identifiers.{kind};
 ghost use Rattle.node_hits.specs.Hits.{days_asked, holds_day, holds_days, is_certain, is_found, is_held};
-ghost use Rattle.node_hits.specs.Hits.{is_held_dated, link_text};
-ghost use Rattle.node_hits.specs.Hits.{name_text, rank_of, release_hit};
+ghost use Rattle.node_hits.specs.Hits.{article_of, article_text, is_for_hits, is_held_dated, is_open};
+ghost use Rattle.node_hits.specs.Hits.{is_open_or_unknown, is_readable, leads_to_article, may_be_full_text};
+ghost use Rattle.node_hits.specs.Hits.{link_text, name_text, page_text, rank_of, release_hit};
 ghost use Rattle.node_hits.specs.Searches.{whole_titles};
 
 use crate::coverage_grade::is_dated;
-use crate::rank::{is_free, is_full_text, rank_by};
+use crate::rank::{is_abstracts, is_free, is_full_text, is_word, rank_by};
 use crate::search::{Scope, Search};
 use feed_answer::{Availability, Grade, Hit, Query, Today, availability_of};
 use feed_dates::DayRange;
 use feed_kbart::{Holdings, Kind, Row};
 use feed_names::ReleaseName;
-use node_site::{SiteFile, library_has, link_to, may_be_link, prefix_for};
+use node_site::{
+    SiteFile, article_link, is_direct, left_beside, library_has, may_be_link, note_on, proxied,
+};
 use std::alloc::{AllocError, Global};
 use std::borrow::CowSlice;
 use std::marker::Model;
@@ -33,9 +37,9 @@ pub struct LibraryRelease<'a> {
     pub holdings: &'a Holdings,
 }
 
-/// A hit, its release, the days that are asked for of it, how those lie in the days that are open to readers, the
-/// prefix of its link, if that goes through a proxy, the place of its package in the order of the site, whether the
-/// library has all the days that are asked for, and whether it is a book that comes before its series. The prefix, and
+/// A hit, its release, the days that are asked for of it, how those lie in the days that are open to readers, its
+/// links, the note for readers, the place of its package in the order of the site, whether the library has all the days
+/// that are asked for, and whether it is a book that comes before its series. The link to its page, the note, and
 /// whether the library has all days, are computed when they are asked for: most hits of a long answer are only counted.
 #[derive(Drop)]
 pub struct ReleaseHit<'a> {
@@ -45,6 +49,9 @@ pub struct ReleaseHit<'a> {
     asked: Option<DayRange>,
     grade: Grade,
     availability: Availability,
+    // Whether the link to its page never goes through a proxy.
+    is_direct: bool,
+    article: Option<Vec<u8>>,
     place: usize,
     is_first: bool,
     // Computed once, since it is compared with those of many other hits.
@@ -52,9 +59,10 @@ pub struct ReleaseHit<'a> {
 }
 
 impl<'a> Model for ReleaseHit<'a> {
-    ghost use Rattle.std.specs.Prelude.{◌≡◌};
+    ghost use Rattle.std.specs.Prelude.{◌≡◌, [], option_map, unwrap_or};
+    ghost use Rattle.node_site.specs.Notes.{note_on};
     ghost use Rattle.node_site.specs.Proxies.{prefix_for};
-    ghost use Rattle.node_hits.specs.Hits.{ReleaseHitValue, holds_days, is_free, rank_by};
+    ghost use Rattle.node_hits.specs.Hits.{ReleaseHitValue, holds_days, rank_by};
 
     ghost Value = { ReleaseHitValue };
 
@@ -63,7 +71,9 @@ impl<'a> Model for ReleaseHit<'a> {
       hit = record { row = f.row.now; grade = f.grade };
       asked = f.asked;
       availability = f.availability;
-      prefix = prefix_for f.site.now f.row.now.url (is_free f.row.now);
+      prefix = prefix_for f.site.now f.row.now.url f.is_direct;
+      article = option_map (λ link. link.items) f.article;
+      note = unwrap_or (note_on f.site.now f.name.now.package_name f.row.now.title_id) [];
       place = f.place;
       is_held_whole = holds_days f.site.now f.name.now f.row.now f.asked;
       is_first = f.is_first;
@@ -75,69 +85,119 @@ impl<'a> Model for ReleaseHit<'a> {
 impl<'a> ReleaseHit<'a> {
     /// Returns a hit of a release whose package has this place in the order of the site.
     pub(crate) fn new(
+        alloc: Global,
         release: &LibraryRelease<'a>,
         site_place: usize,
         search: &Search<'_>,
         hit: &Hit<'a>,
-    ) -> ReleaseHit<'a>
+    ) -> Result<ReleaseHit<'a>, AllocError>
         requires { site_place ≡ package_place release.now.site.now release.now.name.now.package_name }
-        ensures { result
-            ≡ release_hit release.now.site.now release.now.today.now search.now release.now.name.now (hit_of hit.now) }
+        ensures { IfOk result (λ found. found
+            ≡ release_hit release.now.site.now release.now.today.now search.now release.now.name.now
+            (hit_of hit.now)) }
     {
-        let (today, row) = (release.today, hit.row);
+        let (site, name, row) = (release.site, release.name, hit.row);
         let (first, last) = (row.first_day(), row.last_day());
-        let availability = availability_of(today, row.embargo(), first, last, search.days());
+        let days = search.days();
+        let availability = availability_of(release.today, row.embargo(), first, last, days);
+        let article = article_of(alloc, site, search, availability, name, row)?;
         let kind = row.kind();
         let is_first = search.is_first(kind);
-        ReleaseHit {
-            site: release.site,
-            name: release.name,
+        Ok(ReleaseHit {
+            site,
+            name,
             row,
-            asked: days_asked(kind, search.days()),
+            asked: days_asked(kind, days),
             grade: hit.grade,
             availability,
+            is_direct: is_direct(site, name.package(), is_free(row)),
+            article,
             place: site_place,
             is_first,
             rank: rank_by(is_first, availability, hit.grade, row, site_place),
-        }
+        })
     }
 
     /// Returns the same hit again.
-    pub(crate) fn again(&self) -> ReleaseHit<'a>
-        ensures { result ≡ self.now }
+    pub(crate) fn again(&self, alloc: Global) -> Result<ReleaseHit<'a>, AllocError>
+        ensures { IfOk result (λ found. found ≡ self.now) }
     {
-        ReleaseHit {
+        Ok(ReleaseHit {
             site: self.site,
             name: self.name,
             row: self.row,
             asked: self.asked,
             grade: self.grade,
             availability: self.availability,
+            is_direct: self.is_direct,
+            article: link_again(alloc, &self.article)?,
             place: self.place,
             is_first: self.is_first,
             rank: self.rank,
+        })
+    }
+
+    /// Returns the link to the article, or nothing.
+    pub fn article_text(&self) -> &[u8]
+        ensures { result.now ≡ article_text self.now }
+    {
+        match &self.article {
+            Some(link) => link,
+            None => b"",
         }
     }
 
-    /// Returns the link of the hit: its URL, or that through the proxy.
-    pub fn link(&self, alloc: Global) -> Result<CowSlice<'a, u8, Global>, AllocError>
+    /// Returns the link to the page of the hit: its URL, or that through the proxy.
+    #[tactic(auto, unfolding(node_site::specs::Proxies::proxied))]
+    pub fn page(&self, alloc: Global) -> Result<CowSlice<'a, u8, Global>, AllocError>
+        ensures { IfOk result (λ link. cow_slice_items link ≡ page_text self.now) }
+    {
+        proxied(alloc, self.site, self.row.url(), self.is_direct)
+    }
+
+    /// Returns the link of the hit: to the article, or else to its page.
+    pub fn link<'s>(&'s self, alloc: Global) -> Result<CowSlice<'s, u8, Global>, AllocError>
         ensures { IfOk result (λ link. cow_slice_items link ≡ link_text self.now) }
     {
-        link_to(alloc, self.prefix(), self.row.url())
+        match &self.article {
+            Some(link) => Ok(CowSlice::Borrowed(link)),
+            None => self.page(alloc),
+        }
     }
 
     /// Returns false only if the link of the hit is not safe. Does not write it.
+    #[tactic(auto, unfolding(node_site::specs::Proxies::proxied))]
     pub(crate) fn may_have_link(&self) -> bool
         ensures { OnFalse result (is_link (link_text self.now) ≡ false) }
     {
-        may_be_link(self.site, self.row.url())
+        match &self.article {
+            Some(_) => true,
+            None => may_be_link(self.site, self.row.url(), self.is_direct),
+        }
     }
 
-    /// Returns the prefix of the link, if it goes through the proxy.
-    pub(crate) fn prefix(&self) -> Option<&'a str>
-        ensures { option_copied result ≡ self.now.prefix }
+    /// Returns how many of some bytes are left beside the link to the page of the hit.
+    pub(crate) fn left_beside_page(&self, bytes: usize) -> usize
+        ensures { result ≡ bytes - room_of self.now.prefix self.now.hit.row.url }
     {
-        prefix_for(self.site, self.row.url(), is_free(self.row))
+        left_beside(bytes, self.site, self.row.url(), self.is_direct)
+    }
+
+    /// Returns the note for readers, or nothing.
+    pub fn note(&self) -> &'a [u8]
+        ensures { result.now ≡ self.now.note }
+    {
+        match note_on(self.site, self.name.package(), self.row.title_id()) {
+            Some(note) => note.as_bytes(),
+            None => b"",
+        }
+    }
+
+    /// Returns whether the hit is open to readers.
+    pub(crate) fn is_open(&self) -> bool
+        ensures { result ≡ is_open self.now }
+    {
+        is_readable(self.availability) && !is_abstracts(self.row)
     }
 
     /// Returns the rank of the hit.
@@ -192,6 +252,76 @@ impl<'a> ReleaseHit<'a> {
         ensures { result ≡ self.now.availability }
     {
         self.availability
+    }
+}
+
+fn link_again(alloc: Global, link: &Option<Vec<u8>>) -> Result<Option<Vec<u8>>, AllocError>
+    ensures { IfOk result (λ again. option_map (λ text. text.items) again
+        ≡ option_map (λ text. text.items) link.now) }
+{
+    match link {
+        Some(link) => Ok(Some(Vec::from_slice(alloc, link)?)),
+        None => Ok(None),
+    }
+}
+
+fn is_readable(availability: Availability) -> bool
+    ensures { result ≡ is_readable availability }
+{
+    match availability {
+        Availability::Embargoed => false,
+        _ => true,
+    }
+}
+
+fn is_open_or_unknown(availability: Availability) -> bool
+    ensures { result ≡ is_open_or_unknown availability }
+{
+    match availability {
+        Availability::Available | Availability::NotCompared => true,
+        Availability::Partly | Availability::Embargoed => false,
+    }
+}
+
+fn is_for_hits(scope: Scope) -> bool
+    ensures { result ≡ is_for_hits scope }
+{
+    match scope {
+        Scope::Hits => true,
+        Scope::Dated | Scope::Others => false,
+    }
+}
+
+fn may_be_full_text(row: &Row) -> bool
+    ensures { result ≡ may_be_full_text row.now }
+{
+    is_full_text(row) || is_word(row.depth(), b"")
+}
+
+// Returns whether a row leads to the article: it matches the query, readers have it, and it may cover full texts.
+fn leads_to_article(scope: Scope, availability: Availability, row: &Row) -> bool
+    ensures { result ≡ leads_to_article scope availability row.now }
+{
+    is_for_hits(scope) && (is_open_or_unknown(availability) && may_be_full_text(row))
+}
+
+// Returns the link to the cited article in a row, if the row leads to it.
+fn article_of(
+    alloc: Global,
+    site: &SiteFile,
+    search: &Search<'_>,
+    availability: Availability,
+    name: &ReleaseName,
+    row: &Row,
+) -> Result<Option<Vec<u8>>, AllocError>
+    ensures { IfOk result (λ link. option_map (λ text. text.items) link
+        ≡ article_of site.now search.now availability name.now row.now) }
+{
+    if leads_to_article(search.scope(), availability, row) {
+        let (package_id, cited) = (name.package(), search.cited(row));
+        article_link(alloc, site, package_id, row.url(), is_free(row), &cited)
+    } else {
+        Ok(None)
     }
 }
 

@@ -171,9 +171,12 @@ fn put_access_members<'a>(
     out: &mut Vec<u8>,
     row: &'a Row,
     words: &'a [u8],
+    article: &'a [u8],
+    note: &'a [u8],
     end: &'a [u8],
 ) -> Result<(), AllocError>
-    ensures { OnOk result (out.new.items ≡ out.old.items ++ access_members row.now words.now end.now) }
+    ensures { OnOk result (out.new.items
+        ≡ out.old.items ++ access_members row.now words.now article.now note.now end.now) }
 {
     put_all(
         out,
@@ -184,6 +187,10 @@ fn put_access_members<'a>(
             Fragment::Quoted(words),
             Fragment::Plain(b",\"access\":"),
             Fragment::Quoted(row.access()),
+            Fragment::Plain(b",\"article\":"),
+            Fragment::Quoted(article),
+            Fragment::Plain(b",\"note\":"),
+            Fragment::Quoted(note),
             Fragment::Plain(end),
         ],
     )
@@ -195,11 +202,11 @@ fn put_object(out: &mut Vec<u8>, end: &[u8], found: &ReleaseHit<'_>) -> Result<(
 {
     let row = found.row();
     let words = embargo_words(*out.allocator(), row.embargo())?;
-    let link = found.link(*out.allocator())?;
+    let page = found.page(*out.allocator())?;
     put_release_members(out, found.name())?;
     put_grade_members(out, found)?;
-    put_row_members(out, row, &link)?;
-    put_access_members(out, row, &words, end)
+    put_row_members(out, row, &page)?;
+    put_access_members(out, row, &words, found.article_text(), found.note(), end)
 }
 
 fn put_objects(out: &mut Vec<u8>, end: &[u8], hits: &[RankedHit<'_>]) -> Result<(), AllocError>

@@ -1,5 +1,6 @@
 //! Laws of hits, each stated as the contract of a function with an empty body.
-ghost use Rattle.node_hits.specs.Laws.{AnswerIsJson, BestLinkRanksHighest, BooksComeFirst, HitsAreJson};
+ghost use Rattle.node_hits.specs.Laws.{AnswerIsJson, ArticlesComeFirst, BestLinkRanksHighest, BooksComeFirst};
+ghost use Rattle.node_hits.specs.Laws.{HitsAreJson};
 ghost use Rattle.node_hits.specs.Laws.{LinksAreProxied, LooksAreAtPlaces, LooksAreOfAnswer, RanksInOrder};
 ghost use Rattle.node_hits.specs.Laws.{RedirectsToLink, SoleLinkIsOfSoleHit, TallyTellsOfHits};
 
@@ -9,9 +10,15 @@ pub fn redirects_to_link()
     ensures { RedirectsToLink }
 {}
 
-/// The link of a hit is its URL as the site of the library writes it.
+/// The link to the page of a hit is its URL as the site of the library writes it.
 pub fn links_are_proxied()
     ensures { LinksAreProxied }
+{}
+
+/// A hit has a link to the article exactly if its row matches the query, readers have it, the row covers full texts or
+/// does not say what it covers, and the site has a link for what the query cites. This is then the link of the hit.
+pub fn articles_come_first()
+    ensures { ArticlesComeFirst }
 {}
 
 /// No hit that may be linked to ranks above the best link.

@@ -28,8 +28,8 @@ pub use hits::{LibraryRelease, ReleaseHit, name_text};
 pub use hits_json::put_release_members;
 pub use hits_text::put_release;
 pub use laws::{
-    answer_is_json, best_link_ranks_highest, books_come_first, hits_are_json, links_are_proxied,
-    looks_are_at_places, looks_are_of_answer, ranks_in_order, redirects_to_link,
+    answer_is_json, articles_come_first, best_link_ranks_highest, books_come_first, hits_are_json,
+    links_are_proxied, looks_are_at_places, looks_are_of_answer, ranks_in_order, redirects_to_link,
     sole_link_is_of_sole_hit, tally_tells_of_hits,
 };
 pub use lookup::Lookup;

@@ -1,30 +1,51 @@
-//! The look-up of a query: its identifiers, its date and its volume, and whether a book comes before a serial.
+//! The look-up of a query: its identifiers, its date and its volume, whether a book comes before a serial, and what is
+//! cited.
 ghost use Rattle.std.specs.Prelude.{◌≡◌, IfOk};
-ghost use Rattle.node_hits.specs.Lookups.{is_book_first, is_of_serials, names_both};
+ghost use Rattle.node_hits.specs.Lookups.{first_text, is_book_first, is_of_serials, names_both};
 
+use crate::query_facts::date_text;
 use crate::rank::is_word;
 use crate::search::Scope;
 use feed_answer::{Pair, Query};
+use feed_identifiers::{Isbn, Issn};
 use feed_openurl::{Citation, CitationPart};
+use node_site::CitedTitle;
 use std::alloc::{AllocError, Global};
 use std::marker::Model;
 
-/// What is looked up for a query: its identifiers, its date and its volume, and whether a book that it names comes
-/// before a serial.
+/// What is looked up for a query: its identifiers, its date and its volume, whether a book that it names comes before a
+/// serial, and what it cites.
 #[derive(Drop)]
 pub struct Lookup {
     query: Query,
     // The hits of the query. A search for other rows of its titles has another scope.
     scope: Scope,
     is_book_first: bool,
+    citation: Citation,
+    // The first identifiers, as they are printed, and the date as it is understood.
+    issn: Vec<u8>,
+    isbn: Vec<u8>,
+    date: Vec<u8>,
 }
 
 impl Model for Lookup {
+    ghost use Rattle.std.specs.Prelude.{[]};
     ghost use Rattle.node_hits.specs.Searches.{SearchValue};
 
     ghost Value = { SearchValue };
 
-    ghost view = { λ l. record { query = l.query; scope = l.scope; is_book_first = l.is_book_first } };
+    ghost view = { λ l. record {
+      query = l.query;
+      scope = l.scope;
+      is_book_first = l.is_book_first;
+      cited = record {
+        citation = l.citation;
+        issn = l.issn.items;
+        isbn = l.isbn.items;
+        date = l.date.items;
+        title_id = [];
+      };
+    } };
 }
 
 fn names_both(query: &Query) -> bool
@@ -39,31 +60,73 @@ fn is_of_serials(genre: &[u8]) -> bool
     is_word(genre, b"article") || is_word(genre, b"journal")
 }
 
-// Returns whether the book comes before the serial. The citation is read only if the query names both.
-fn is_book_first(alloc: Global, pairs: &[Pair<'_>], query: &Query) -> Result<bool, AllocError>
-    ensures { IfOk result (λ is_first. is_first ≡ is_book_first pairs.now query.now) }
+// Returns whether the book comes before the serial.
+fn is_book_first(citation: &Citation, query: &Query) -> bool
+    ensures { result ≡ is_book_first citation.now query.now }
 {
-    if !names_both(query) {
-        return Ok(false);
+    names_both(query) && !is_of_serials(citation.text(CitationPart::Genre).as_bytes())
+}
+
+fn first_issn(alloc: Global, issns: &[Issn]) -> Result<Vec<u8>, AllocError>
+    ensures { IfOk result (λ text. text.items ≡ first_text issns.now) }
+{
+    match issns {
+        [first, ..] => Vec::from_slice(alloc, &first.text()),
+        [] => Ok(Vec::new(alloc)),
     }
-    let citation = Citation::of_pairs(alloc, pairs)?;
-    Ok(!is_of_serials(citation.text(CitationPart::Genre).as_bytes()))
+}
+
+fn first_isbn(alloc: Global, isbns: &[Isbn]) -> Result<Vec<u8>, AllocError>
+    ensures { IfOk result (λ text. text.items ≡ first_text isbns.now) }
+{
+    match isbns {
+        [first, ..] => Vec::from_slice(alloc, &first.text()),
+        [] => Ok(Vec::new(alloc)),
+    }
 }
 
 impl Lookup {
-    ghost use Rattle.node_hits.specs.declared.search.Scope.TheVariants as scope;
+    ghost use Rattle.std.specs.Prelude.{option_copied};
+    ghost use Rattle.feed_openurl.specs.Citations.{citation_of_pairs};
+    ghost use Rattle.node_hits.specs.Lookups.{search_of};
+    ghost use Rattle.node_hits.specs.Searches.{with_title_id};
 
-    /// Returns the lookup for a query that these pairs give.
-    pub(crate) fn of(alloc: Global, pairs: &[Pair<'_>], query: Query) -> Result<Lookup, AllocError>
+    /// Returns the lookup for a query that these pairs give, with its date as it is understood.
+    pub(crate) fn of(
+        alloc: Global,
+        pairs: &[Pair<'_>],
+        date: Option<&[u8]>,
+        query: Query,
+    ) -> Result<Lookup, AllocError>
         ensures { IfOk result (λ lookup. lookup
-            ≡ record { query = query; scope = scope.Hits; is_book_first = is_book_first pairs.now query }) }
+            ≡ search_of (citation_of_pairs pairs.now) (option_copied date.entry) query) }
     {
-        let is_book_first = is_book_first(alloc, pairs, &query)?;
+        let citation = Citation::of_pairs(alloc, pairs)?;
+        let is_book_first = is_book_first(&citation, &query);
+        let issn = first_issn(alloc, query.issns())?;
+        let isbn = first_isbn(alloc, query.isbns())?;
         Ok(Lookup {
             query,
             scope: Scope::Hits,
             is_book_first,
+            citation,
+            issn,
+            isbn,
+            date: date_text(alloc, date)?,
         })
+    }
+
+    /// Returns what the query cites, for a row with this `title_id`.
+    pub fn cited<'l>(&'l self, title_id: &'l [u8]) -> CitedTitle<'l>
+        ensures { result ≡ with_title_id title_id.now self.now.cited }
+    {
+        CitedTitle {
+            citation: &self.citation,
+            issn: &self.issn,
+            isbn: &self.isbn,
+            date: &self.date,
+            title_id,
+        }
     }
 
     /// Returns the query: its identifiers, its date and its volume.

@@ -1,5 +1,5 @@
 //! The facts that a response reports about a query beside its hits.
-ghost use Rattle.std.specs.Prelude.{◌≡◌, IfOk};
+ghost use Rattle.std.specs.Prelude.{◌≡◌, [], IfOk, option_copied, unwrap_or};
 ghost use Rattle.node_hits.specs.QueryFacts.{is_absent, is_blank, names_work, query_text};
 
 use feed_openurl::{Citation, CitationPart, OpenUrl};
@@ -28,6 +28,8 @@ pub struct QueryFacts {
     /// Whether a date is read, and a volume.
     pub has_date: bool,
     pub has_volume: bool,
+    /// The date as it is understood, such as `1996-03`, or nothing.
+    pub date: Vec<u8>,
 }
 
 impl Model for QueryFacts {
@@ -40,6 +42,7 @@ impl Model for QueryFacts {
       query = a.query.items;
       has_date = a.has_date;
       has_volume = a.has_volume;
+      date = a.date.items;
     } };
 }
 
@@ -49,6 +52,16 @@ fn query_text(alloc: Global, understood: &OpenUrl) -> Result<Vec<u8>, AllocError
     match understood.refusal() {
         Some(_) => Ok(Vec::new(alloc)),
         None => understood.write(alloc),
+    }
+}
+
+/// Returns the date of a query as it is understood, or nothing.
+pub(crate) fn date_text(alloc: Global, date: Option<&[u8]>) -> Result<Vec<u8>, AllocError>
+    ensures { IfOk result (λ text. text.items ≡ unwrap_or (option_copied date.entry) []) }
+{
+    match date {
+        Some(date) => Vec::from_slice(alloc, date),
+        None => Ok(Vec::new(alloc)),
     }
 }
 
@@ -91,6 +104,7 @@ impl QueryFacts {
             query: query_text(alloc, understood)?,
             has_date: understood.date().is_some(),
             has_volume: understood.volume().is_some(),
+            date: date_text(alloc, understood.date())?,
         })
     }
 }

@@ -68,7 +68,10 @@ impl<'a> ReceivedOpenUrl<'a> {
         ensures { IfOk result (λ asked. asked ≡ asked_of self.now.text.now) }
     {
         match self.understood.query(alloc)? {
-            Ok(query) => Ok(Ok(Lookup::of(alloc, self.pairs(), query)?)),
+            Ok(query) => {
+                let date = self.understood.date();
+                Ok(Ok(Lookup::of(alloc, self.pairs(), date, query)?))
+            }
             Err(reason) => Ok(Err(reason)),
         }
     }

@@ -3,6 +3,7 @@ ghost use Rattle.std.specs.Prelude.{◌≡◌, option_map, true};
 ghost use Rattle.feed_answer.specs.HitValue.{hit_of};
 ghost use Rattle.feed_answer.specs.Places.{hit_at};
 ghost use Rattle.feed_answer.specs.QueryValue.{QueryValue};
+ghost use Rattle.node_hits.specs.Hits.{cited_in};
 ghost use Rattle.node_hits.specs.Searches.{asked_hit_at, compared, in_scope, is_asked_at, is_first_as};
 ghost use Rattle.node_hits.specs.Searches.{whole_titles, without_volume};
 ghost use Rattle.node_hits.specs.declared.search.Scope.TheVariants as scope;
@@ -12,6 +13,7 @@ use crate::lookup::Lookup;
 use feed_answer::{Grade, Hit, Query};
 use feed_dates::DayRange;
 use feed_kbart::{Kind, Row};
+use node_site::CitedTitle;
 use std::marker::Model;
 
 /// Which rows of the titles that a query names are searched for.
@@ -105,6 +107,13 @@ impl<'a> Search<'a> {
         ensures { result.now ≡ self.now.query }
     {
         self.lookup.query()
+    }
+
+    /// Returns what the query cites, for a row.
+    pub(crate) fn cited<'r>(&'r self, row: &'r Row) -> CitedTitle<'r>
+        ensures { result ≡ cited_in self.now row.now }
+    {
+        self.lookup.cited(row.title_id())
     }
 
     /// Returns which rows are searched for.

@@ -5,7 +5,6 @@ ghost use Rattle.node_hits.specs.Tallying.{with_shown};
 
 use crate::hits::{ReleaseHit, name_text};
 use crate::ranked_hit::RankedHit;
-use node_site::left_beside;
 use std::alloc::{AllocError, Global};
 use std::marker::Model;
 
@@ -38,7 +37,8 @@ fn bytes_after(bytes: usize, found: &ReleaseHit<'_>) -> usize
     ensures { result ≡ bytes - text_size found.now }
 {
     let row = found.row();
-    left_beside(bytes, found.prefix(), row.url())
+    found
+        .left_beside_page(bytes)
         .saturating_sub(found.name().package().len())
         .saturating_sub(name_text(found.name()).len())
         .saturating_sub(row.title().len())
@@ -46,6 +46,8 @@ fn bytes_after(bytes: usize, found: &ReleaseHit<'_>) -> usize
         .saturating_sub(row.depth().len())
         .saturating_sub(row.embargo().len())
         .saturating_sub(row.access().len())
+        .saturating_sub(found.article_text().len())
+        .saturating_sub(found.note().len())
 }
 
 // How many of the hits at the front are within the limits.
@@ -88,7 +90,7 @@ impl<'a> Shown<'a> {
     }
 
     /// Adds a hit, if there is room for it. Otherwise no later one is added either.
-    pub(crate) fn add(&mut self, found: &ReleaseHit<'a>) -> Result<(), AllocError>
+    pub(crate) fn add(&mut self, alloc: Global, found: &ReleaseHit<'a>) -> Result<(), AllocError>
         ensures { OnOk result (self.new ≡ with_shown self.old found.now) }
     {
         if self.places == 0 {
@@ -96,7 +98,7 @@ impl<'a> Shown<'a> {
         }
         let bytes = bytes_after(self.bytes, found);
         if bytes > 0 {
-            self.hits.push(found.again())?;
+            self.hits.push(found.again(alloc)?)?;
             self.places -= 1;
             self.bytes = bytes;
         } else {

@@ -1,6 +1,6 @@
 //! The tally of a query's hits: how many there are, the first ones, those of the highest ranks, and the best link.
 //! It is made row by row.
-ghost use Rattle.std.specs.Prelude.{◌≡◌, ◌<◌, ◌++◌, ◌∷◌, [], None, OnOk, Option, option_copied, option_map};
+ghost use Rattle.std.specs.Prelude.{◌≡◌, ◌<◌, ◌++◌, ◌∷◌, [], IfOk, None, OnOk, Option, option_copied, option_map};
 ghost use Rattle.std.specs.Prelude.{replicate, slice_get, true};
 ghost use Rattle.std.specs.Bool.{OnFalse, OnTrue};
 ghost use Rattle.std.specs.List.{AllPass};
@@ -9,7 +9,7 @@ ghost use Rattle.node_site.specs.Packages.{package_place};
 ghost use Rattle.node_hits.specs.Hits.{ReleaseHitValue};
 ghost use Rattle.node_hits.specs.Looks.{hit_found, looks_in, looks_of, more_looks};
 ghost use Rattle.node_hits.specs.Searches.{compared, is_asked_at};
-ghost use Rattle.node_hits.specs.Tallies.{left_out, shows_all, sole_link};
+ghost use Rattle.node_hits.specs.Tallies.{left_out, outcome_of, shows_all, sole_link};
 ghost use Rattle.node_hits.specs.Tallying.{looks_at, no_hits, tally_from, with_found, with_looks};
 
 use crate::hits::{LibraryRelease, ReleaseHit, is_found};
@@ -20,7 +20,7 @@ use crate::search::Search;
 use crate::shown::Shown;
 use crate::top::Top;
 use feed_kbart::Row;
-use node_site::package_place;
+use node_site::{SearchOutcome, package_place};
 use std::alloc::{AllocError, Global};
 use std::marker::Model;
 
@@ -55,7 +55,7 @@ impl<'a> Model for Tally<'a> {
       count = t.count;
       shown = t.shown;
       top = t.top;
-      link = t.links;
+      links = t.links;
     } };
 
     ghost invariant = { λ t. t.count + t.left ≤ row_limit };
@@ -78,26 +78,27 @@ fn more_looks(row: Option<&Row>) -> usize
 
 // Returns what a search finds in the row at a place of a release, whose package has this place in the order of a site.
 fn hit_found<'a>(
+    alloc: Global,
     release: &LibraryRelease<'a>,
     site_place: usize,
     place: u32,
     search: &Search<'_>,
-) -> Option<ReleaseHit<'a>>
+) -> Result<Option<ReleaseHit<'a>>, AllocError>
     requires of { site_place ≡ package_place release.now.site.now release.now.name.now.package_name }
     requires asked { is_asked_at search.now.query release.now.holdings.now.rows place ≡ true }
-    ensures { result
+    ensures { IfOk result (λ look. look
         ≡ hit_found release.now.site.now release.now.today.now search.now release.now.name.now
-        (hit_at (compared search.now) release.now.holdings.now.rows place) }
+        (hit_at (compared search.now) release.now.holdings.now.rows place)) }
 {
     match search.hit_at(release.holdings.rows(), place) {
         Some(hit) => {
             if is_found(release.site, search, release.name, &hit) {
-                Some(ReleaseHit::new(release, site_place, search, &hit))
+                Ok(Some(ReleaseHit::new(alloc, release, site_place, search, &hit)?))
             } else {
-                None
+                Ok(None)
             }
         }
-        None => None,
+        None => Ok(None),
     }
 }
 
@@ -165,6 +166,28 @@ impl<'a> Tally<'a> {
         self.links.best()
     }
 
+    /// Returns the same of the hits that are open to readers.
+    pub fn best_open_link(&self) -> Option<&[u8]>
+        ensures { option_copied result ≡ (tally_from self.now).best_open }
+    {
+        self.links.best_open()
+    }
+
+    /// Returns the outcome of the search, by which the links of a library are shown.
+    pub fn outcome(&self) -> SearchOutcome
+        ensures { result ≡ outcome_of (tally_from self.now) }
+    {
+        if self.links.has_open() {
+            SearchOutcome::Hits
+        } else if !self.is_whole {
+            SearchOutcome::Unknown
+        } else if self.count == 0 {
+            SearchOutcome::NoHits
+        } else {
+            SearchOutcome::Embargoed
+        }
+    }
+
     /// Returns the link of the sole hit, if all rows were looked at, there is only one, a reader may be sent there
     /// without a choice, and it has a link.
     pub fn sole_link(&self) -> Option<&[u8]>
@@ -191,7 +214,7 @@ impl<'a> Tally<'a> {
             Some(found) => {
                 self.count += 1;
                 self.links.add(alloc, &found)?;
-                self.shown.add(&found)?;
+                self.shown.add(alloc, &found)?;
                 self.top.add(alloc, found)
             }
             None => Ok(()),
@@ -235,7 +258,8 @@ impl<'a> Tally<'a> {
             (hit_at (compared search.now) release.now.holdings.now.rows place)))) }
     {
         if self.count_more(more_looks(release.holdings.rows().get(place as usize))) {
-            self.add_look(alloc, hit_found(release, site_place, place, search))
+            let look = hit_found(alloc, release, site_place, place, search)?;
+            self.add_look(alloc, look)
         } else {
             Ok(())
         }

@@ -14,8 +14,8 @@ use Rattle.node_site.specs.Site as site_file
 use Rattle.node_site.specs.Hosts.{shown_host}
 use Rattle.node_site.specs.Packages.{shown_package}
 use Rattle.node_site.specs.Texts.{text_of}
-use Rattle.node_hits.specs.Hits.{ReleaseHitValue, link_text}
-use Rattle.node_templates.specs.Values.{text_or_nothing}
+use Rattle.node_hits.specs.Hits.{ReleaseHitValue, article_text, page_text}
+use Rattle.node_templates.specs.Values.{text_if, text_or_nothing}
 use Rattle.node_templates.specs.Pages.{Part, with_values}
 use Rattle.node_templates.specs.declared.slot.Slot.TheVariants as slot
 use Rattle.node_templates.specs.declared.template.Template.TheVariants as template
@@ -27,7 +27,7 @@ use Rattle.node_pages.specs.Openings.{opening_of, opening_words}
 use Rattle.node_pages.specs.declared.card.Fit.{Fit}
 use Rattle.node_pages.specs.declared.card.Fit.TheVariants.{Hit, Dated, Outside}
 
--- what is said before the button of rows that are no hits
+-- what is said before the button of rows that are not hits
 abbrev pub unmatched_text : Fit → Option Text
 unmatched_text Hit = None
 unmatched_text Dated = Some text.VolumeOutside
@@ -75,24 +75,28 @@ limit_words site found = limit_by site (not (is_empty found.hit.row.embargo)) fo
 abbrev pub title_shown : List ℕ → List ℕ → List ℕ
 title_shown title cited = if bytes_eq title cited then [] else title
 
--- the card of a hit with this limit, this link, this host and this coverage
+-- the card of a hit with this limit, this link to its page, this host and this coverage. The button leads to the article if
+-- there is a link to it, and then the page has a second link
 unfoldable pub card_with : site_file.SiteValue → List ℕ → Fit → ReleaseHitValue → List ℕ → List ℕ → List ℕ → List ℕ → List Part
-card_with site cited fit found limit link host coverage = with_values (
+card_with site cited fit found limit page host coverage = with_values (
     (slot.Package, shown_package site found.name.package_name)
     ∷ (slot.Title, title_shown found.hit.row.title cited)
     ∷ (slot.Unmatched, text_or_nothing site (unmatched_text fit))
     ∷ (slot.Limit, limit)
-    ∷ (slot.Link, link)
+    ∷ (slot.ArticleLink, article_text found)
+    ∷ (slot.PageLink, text_if (not (is_empty (article_text found))) page)
+    ∷ (slot.Link, text_if (is_empty (article_text found)) page)
     ∷ (slot.Host, host)
     ∷ (slot.FitClass, fit_class found.availability found.hit.grade)
     ∷ (slot.Fit, text_or_nothing site (fit_text fit found))
+    ∷ (slot.Note, found.note)
     ∷ (slot.Coverage, coverage)
     ∷ []) (template.Card ∷ [])
 
--- the card of a hit, beside a cited title: its link goes through the proxy, if there is one
+-- the card of a hit, beside a cited title: its links go through a proxy, if there is one
 abbrev pub card_parts : site_file.SiteValue → List ℕ → Fit → ReleaseHitValue → List Part
 card_parts site cited fit found =
-    card_with site cited fit found (limit_words site found) (link_text found) (shown_host found.hit.row.url)
+    card_with site cited fit found (limit_words site found) (page_text found) (shown_host found.hit.row.url)
     (coverage_words site found.hit.row)
 
 abbrev pub cards : site_file.SiteValue → List ℕ → Fit → List ReleaseHitValue → List Part

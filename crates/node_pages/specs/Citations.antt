@@ -1,10 +1,12 @@
 -- The beginning of a page with the citation of a query.
-use Rattle.std.specs.Prelude.{ℕ, ◌&&◌, ◌||◌, ◌==◌, Bool, not, List, [], ◌∷◌, ◌++◌, codes}
+use Rattle.std.specs.Prelude.{ℕ, ◌&&◌, ◌||◌, ◌==◌, Bool, not, if◌then◌else◌, List, [], ◌∷◌, ◌++◌, codes, unwrap_or}
 use Rattle.std.specs.List.{list_all}
 use Rattle.std.specs.Char.{is_ascii_alphanumeric}
 use Rattle.feed_answer.specs.Pairs.{is_empty}
 use Rattle.feed_openurl.specs.Citations.{text_at}
 use Rattle.feed_openurl.specs.declared.citation_part.CitationPart.TheVariants as part
+use Rattle.node_site.specs.Articles.{doi_link}
+use Rattle.node_site.specs.Site as site_file
 use Rattle.node_hits.specs.QueryFacts.{QueryFactsValue, is_blank}
 use Rattle.node_templates.specs.Values.{text_if}
 use Rattle.node_templates.specs.Pages.{Part, with_values}
@@ -47,19 +49,27 @@ place_parts ask = with_values (
     ∷ (slot.FirstPage, text_at ask.citation part.Pages)
     ∷ []) (template.CitedPlace ∷ [])
 
--- its names: one that needs no encoding in an address is a link
-unfoldable pub names_parts : List (List ℕ × List ℕ) → QueryFactsValue → List Part
-names_parts pairs ask =
+-- the link to what a DOI names, if the DOI needs no encoding in an address
+abbrev pub doi_address : site_file.SiteValue → List ℕ → List ℕ
+doi_address site doi = if is_empty doi || not (list_all is_plain doi) then [] else unwrap_or (doi_link site doi) []
+
+-- its names: one that needs no encoding in an address is a link; that of a DOI goes through a proxy as others do
+unfoldable pub names_with : List (List ℕ × List ℕ) → QueryFactsValue → List ℕ → List Part
+names_with pairs ask address =
     let doi = text_at ask.citation part.Doi in
     let pmid = text_at ask.citation part.Pmid in
     with_values (
-    (slot.DoiLink, text_if (list_all is_plain doi) doi)
-    ∷ (slot.Doi, text_if (not (list_all is_plain doi)) doi)
+    (slot.DoiAddress, address)
+    ∷ (slot.DoiLink, doi)
+    ∷ (slot.Doi, text_if (is_empty address) doi)
     ∷ (slot.PmidLink, text_if (list_all is_plain pmid) pmid)
     ∷ (slot.Pmid, text_if (not (list_all is_plain pmid)) pmid)
     ∷ (slot.Cited, cited_mark pairs ask)
     ∷ []) (template.CitedNames ∷ [])
 
+abbrev pub names_parts : site_file.SiteValue → List (List ℕ × List ℕ) → QueryFactsValue → List Part
+names_parts site pairs ask = names_with pairs ask (doi_address site (text_at ask.citation part.Doi))
+
 -- a page with this heading, up to and including the citation
-unfoldable pub cited_top : List ℕ → List (List ℕ × List ℕ) → QueryFactsValue → List Part
-cited_top heading pairs ask = work_parts heading pairs ask ++ (place_parts ask ++ names_parts pairs ask)
+unfoldable pub cited_top : site_file.SiteValue → List ℕ → List (List ℕ × List ℕ) → QueryFactsValue → List Part
+cited_top site heading pairs ask = work_parts heading pairs ask ++ (place_parts ask ++ names_parts site pairs ask)

@@ -34,8 +34,8 @@ is_waiting hits = not (list_any is_readable hits) && list_any has_full_text hits
 abbrev pub none_name : Bool → Text
 none_name is_whole = if is_whole then text.NoFullText else text.NoFullTextSoFar
 
--- the heading over hits, of which all may be shown: full text only if readers may see it, and an abstract only if there is
--- nothing else
+-- the heading over hits, by whether all of them are shown: full text only if readers may see it, and an abstract only if there
+-- is nothing else
 abbrev pub found_name : Bool → List ReleaseHitValue → Text
 found_name is_all hits =
     if list_any is_readable hits then text.FullText

@@ -1,25 +1,27 @@
 -- The hits of a query as an HTML page.
-use Rattle.std.specs.Prelude.{ℕ, ◌==◌, ◌&&◌, Bool, true, false, not, if◌then◌else◌, List, [], ◌∷◌, ◌++◌, codes, Option, Some, None, unwrap_or}
+use Rattle.std.specs.Prelude.{ℕ, ◌==◌, ◌&&◌, Bool, true, false, not, if◌then◌else◌, List, [], ◌∷◌, ◌++◌, Option, Some, None}
 use Rattle.std.specs.Fmt.{decimal}
 use Rattle.form_urlencoded.specs.Form as form
 use Rattle.feed_openurl.specs.Citations.{text_at}
 use Rattle.feed_openurl.specs.declared.citation_part.CitationPart.TheVariants as part
-use Rattle.node_site.specs.Requests.{CitedTitleValue, request_link}
 use Rattle.node_site.specs.Site as site_file
 use Rattle.node_site.specs.Texts.{text_of}
 use Rattle.node_hits.specs.QueryFacts.{QueryFactsValue}
-use Rattle.node_hits.specs.Tallies.{TallyValue, left_out, shows_all}
+use Rattle.node_hits.specs.Tallies.{TallyValue, left_out, outcome_of, shows_all}
 use Rattle.node_templates.specs.Values.{text_or_nothing}
 use Rattle.node_templates.specs.Pages.{Part, page_text, with_values}
 use Rattle.node_templates.specs.declared.slot.Slot.TheVariants as slot
+use Rattle.node_templates.specs.declared.template.Template.TheVariants as template
 use Rattle.node_site.specs.declared.text_table.Text.{Text}
 use Rattle.node_site.specs.declared.text_table.Text.TheVariants as text
 use Rattle.node_pages.specs.Cards.{cards}
 use Rattle.node_pages.specs.Citations.{cited_top}
 use Rattle.node_pages.specs.Headings.{heading}
-use Rattle.node_pages.specs.SearchForms.{form_end, isbn_in, issn_in}
+use Rattle.node_pages.specs.Lists.{list_mark}
+use Rattle.node_pages.specs.SearchForms.{form_end}
+use Rattle.node_pages.specs.Ways.{cited_of, ways_to}
 use Rattle.node_pages.specs.declared.card.Fit.TheVariants.{Hit, Dated, Outside}
-use Rattle.node_pages.specs.declared.hits_page.TheConstants.{LIST_START, LIST_END}
+use Rattle.node_pages.specs.declared.hits_page.TheConstants.{LIST_START}
 
 -- no card is shown
 abbrev pub is_none : TallyValue → TallyValue → TallyValue → Bool
@@ -30,10 +32,6 @@ is_none tally also others = (tally.count == 0) && ((also.count == 0) && (others.
 abbrev pub note_of : TallyValue → Bool → Option Text
 note_of tally is_none =
     if tally.is_whole && (tally.count == 0) then Some (if is_none then text.NoHoldings else text.HeldOther) else None
-
--- the value of the slot of a list that has items
-abbrev pub list_mark : Bool → List ℕ
-list_mark is_empty = if is_empty then [] else codes "list"
 
 -- what is said of the hits, and the beginning of the list
 abbrev pub hits_start : site_file.SiteValue → TallyValue → Bool → List Part
@@ -58,23 +56,19 @@ digits_of (Some number) = decimal number
 abbrev pub hint : site_file.SiteValue → TallyValue → List ℕ
 hint site tally = if tally.is_whole && not (shows_all tally) then text_of site text.NotShownHint else []
 
--- the parts of a query's citation that a request form may take
-abbrev pub cited_of : QueryFactsValue → List (List ℕ × List ℕ) → CitedTitleValue
-cited_of ask pairs = record { citation = ask.citation; issn = issn_in pairs; isbn = isbn_in pairs }
-
--- the link to the library's request form, filled with the citation, if the library has one
-abbrev pub request_of : site_file.SiteValue → QueryFactsValue → List (List ℕ × List ℕ) → List ℕ
-request_of site ask pairs = unwrap_or (request_link site (cited_of ask pairs)) []
-
--- what is behind the cards: the end of their list, the link to the request form, and the form for a new search
-unfoldable pub hits_end : site_file.SiteValue → List (List ℕ × List ℕ) → QueryFactsValue → TallyValue → Bool → List Part
-hits_end site pairs ask tally is_none = with_values (
+-- the end of the list, and how many hits are left out
+unfoldable pub list_end : site_file.SiteValue → TallyValue → Bool → List Part
+list_end site tally is_none = with_values (
     (slot.Listed, list_mark is_none)
     ∷ (slot.LeastText, text_of site (least tally.is_whole))
     ∷ (slot.LeftOut, digits_of (number_left_out tally))
     ∷ (slot.Hint, hint site tally)
-    ∷ (slot.Request, request_of site ask pairs)
-    ∷ []) LIST_END ++ form_end pairs
+    ∷ []) (template.LeftOut ∷ [])
+
+-- what is behind the cards: the end of their list, the links of the library, and the form for a new search
+unfoldable pub hits_end : site_file.SiteValue → List (List ℕ × List ℕ) → QueryFactsValue → TallyValue → Bool → List Part
+hits_end site pairs ask tally is_none =
+    list_end site tally is_none ++ (ways_to site (outcome_of tally) (cited_of ask pairs) ++ form_end pairs)
 
 -- the page of the hits of a query with these pairs, and of two other tallies: the cards of hits, then those whose date is
 -- covered, then all others
@@ -82,7 +76,7 @@ abbrev pub hits_parts : site_file.SiteValue → List (List ℕ × List ℕ) → 
     → List Part
 hits_parts site pairs ask tally also others =
     let none = is_none tally also others in
-    cited_top (heading site tally) pairs ask
+    cited_top site (heading site tally) pairs ask
     ++ (hits_start site tally none
     ++ (cards site (text_at ask.citation part.Title) Hit tally.top
     ++ (cards site (text_at ask.citation part.Title) Dated also.top

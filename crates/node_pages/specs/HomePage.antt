@@ -11,7 +11,7 @@ use Rattle.node_templates.specs.Pages.{Part, page_text, with_values}
 use Rattle.node_templates.specs.declared.slot.Slot.TheVariants as slot
 use Rattle.node_templates.specs.declared.template.Template.TheVariants as template
 use Rattle.node_site.specs.declared.text_table.Text.TheVariants as text
-use Rattle.node_pages.specs.HitsPage.{list_mark}
+use Rattle.node_pages.specs.Lists.{list_mark}
 use Rattle.node_pages.specs.declared.home_page.TheConstants.{FORM_PAGE, HOME_START, HOME_END}
 
 abbrev pub heading_values : site_file.SiteValue → Values

@@ -28,7 +28,8 @@ are_filled parts = list_all (λ (part : Part). is_filled part.1 part.0) parts
 
 -- so it is in each part of a page, but for the fields of the empty form
 pub record SlotsAreGiven : Type 0 where
-  pub citation : (heading : List ℕ) (pairs : List (List ℕ × List ℕ)) (ask : QueryFactsValue) → are_filled (cited_top heading pairs ask) ≡ true
+  pub citation : (site : site_file.SiteValue) (heading : List ℕ) (pairs : List (List ℕ × List ℕ)) (ask : QueryFactsValue)
+      → are_filled (cited_top site heading pairs ask) ≡ true
   pub hits_start : (site : site_file.SiteValue) (tally : TallyValue) (is_none : Bool) → are_filled (hits_start site tally is_none) ≡ true
   pub card : (site : site_file.SiteValue) (cited : List ℕ) (fit : Fit) (found : ReleaseHitValue) → are_filled (card_parts site cited fit found) ≡ true
   pub hits_end : (site : site_file.SiteValue) (pairs : List (List ℕ × List ℕ)) (ask : QueryFactsValue) (tally : TallyValue) (is_none : Bool)

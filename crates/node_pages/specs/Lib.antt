@@ -1,5 +1,7 @@
 pub mod OpenUrlTexts
 pub mod SearchForms
+pub mod Lists
+pub mod Ways
 pub mod Dates
 pub mod EmbargoTexts
 pub mod Coverage

@@ -36,7 +36,7 @@ front_of number = take (length number - 1) number
 abbrev pub has_digits : List ℕ → Bool
 has_digits number = list_all is_ascii_digit (front_of number) && list_all is_check number
 
--- digits that are no number with any last one: too few or too many, or thirteen that begin with neither 978 nor 979
+-- digits that are not a number with any last one: too few or too many, or thirteen that begin with neither 978 nor 979
 abbrev pub length_fault : NumberKind → List ℕ → NumberFault
 length_fault Issn number = IssnLength
 length_fault Isbn number = if length number == 13 then IsbnFront else IsbnLength

@@ -25,7 +25,8 @@ use Rattle.node_templates.specs.Values.{text_if}
 use Rattle.node_templates.specs.Pages.{Part, page_text, with_values}
 use Rattle.node_templates.specs.declared.slot.Slot.TheVariants as slot
 use Rattle.node_templates.specs.declared.template.Template.TheVariants as template
-use Rattle.node_pages.specs.HitsPage.{digits_of, list_mark}
+use Rattle.node_pages.specs.HitsPage.{digits_of}
+use Rattle.node_pages.specs.Lists.{list_mark}
 use Rattle.node_pages.specs.Titles.{between, title_pairs, titles_json, titles_text}
 use Rattle.node_pages.specs.declared.titles_page.TheConstants.{LIST_START, LIST_END, FORM_PAGE}
 

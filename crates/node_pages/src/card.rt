@@ -12,7 +12,7 @@ use feed_kbart::Kind;
 use node_hits::{RankedHit, ReleaseHit};
 use node_response::put;
 use node_site::{SiteFile, Text, shown_host, shown_package, text_of};
-use node_templates::{Slot, Template, put_page, text_or_nothing};
+use node_templates::{Slot, Template, put_page, text_if, text_or_nothing};
 use std::alloc::{AllocError, Global};
 
 /// How the rows of a list fit what is asked for.
@@ -26,7 +26,7 @@ pub enum Fit {
     Outside,
 }
 
-// Returns what is said of rows that are no hits, before their button.
+// Returns what is said of rows that are not hits, before their button.
 fn unmatched_text(fit: Fit) -> Option<Text>
     ensures { result ≡ unmatched_text fit }
 {
@@ -71,7 +71,7 @@ fn fit_text(fit: Fit, found: &ReleaseHit<'_>) -> Option<Text>
     }
 }
 
-// Returns the name of the class that gives a fit its colour. A hit of which a part is open is not green.
+// Returns the name of the class that gives a fit its colour. A hit that is open in part is not green.
 fn fit_class(availability: Availability, grade: Grade) -> &'static [u8]
     ensures { result.now ≡ fit_class availability grade }
 {
@@ -113,7 +113,7 @@ fn title_shown<'a>(title: &'a [u8], cited: &[u8]) -> &'a [u8]
     if title == cited { b"" } else { title }
 }
 
-// Writes the card of a hit that has this limit, this link, this host and this coverage.
+// Writes the card of a hit that has this limit, this link to its page, this host and this coverage.
 #[tactic(auto, unfolding(crate::specs::Cards::card_with))]
 fn put_card_with(
     out: &mut Vec<u8>,
@@ -122,14 +122,15 @@ fn put_card_with(
     fit: Fit,
     found: &ReleaseHit<'_>,
     limit: &[u8],
-    link: &[u8],
+    page: &[u8],
     host: &[u8],
     coverage: &[u8],
 ) -> Result<(), AllocError>
     ensures { OnOk result (out.new.items
         ≡ out.old.items
-        ++ page_text site.now (card_with site.now cited.now fit found.now limit.now link.now host.now coverage.now)) }
+        ++ page_text site.now (card_with site.now cited.now fit found.now limit.now page.now host.now coverage.now)) }
 {
+    let article = found.article_text();
     put_page(
         out,
         site,
@@ -139,13 +140,16 @@ fn put_card_with(
             (Slot::Title, title_shown(found.row().title(), cited)),
             (Slot::Unmatched, text_or_nothing(site, unmatched_text(fit))),
             (Slot::Limit, limit),
-            (Slot::Link, link),
+            (Slot::ArticleLink, article),
+            (Slot::PageLink, text_if(!article.is_empty(), page)),
+            (Slot::Link, text_if(article.is_empty(), page)),
             (Slot::Host, host),
             (
                 Slot::FitClass,
                 fit_class(found.availability(), found.grade()),
             ),
             (Slot::Fit, text_or_nothing(site, fit_text(fit, found))),
+            (Slot::Note, found.note()),
             (Slot::Coverage, coverage),
         ],
     )
@@ -163,11 +167,11 @@ fn put_card(
         ≡ out.old.items ++ page_text site.now (card_parts site.now cited.now fit found.now)) }
 {
     let limit = limit_words(*out.allocator(), site, found)?;
-    let link = found.link(*out.allocator())?;
+    let page = found.page(*out.allocator())?;
     let host = shown_host(*out.allocator(), found.row().url())?;
     let coverage = coverage_words(*out.allocator(), site, found.row())?;
     put_card_with(
-        out, site, cited, fit, found, &limit, &link, &host, &coverage,
+        out, site, cited, fit, found, &limit, &page, &host, &coverage,
     )
 }
 

@@ -1,18 +1,18 @@
 //! Writes the beginning of a page with the citation of a query, with links to what has a DOI or a PMID.
-ghost use Rattle.std.specs.Prelude.{◌≡◌, ◌++◌, OnOk};
+ghost use Rattle.std.specs.Prelude.{◌≡◌, ◌++◌, IfOk, OnOk};
 ghost use Rattle.std.specs.List.{list_all};
 ghost use Rattle.node_templates.specs.Pages.{page_text};
 ghost use Rattle.feed_openurl.specs.Citations.{text_at};
-ghost use Rattle.node_pages.specs.Citations.{cited_mark, cited_top, is_mark, is_plain, names_parts, place_parts};
-ghost use Rattle.node_pages.specs.Citations.{work_parts};
+ghost use Rattle.node_pages.specs.Citations.{cited_mark, cited_top, doi_address, is_mark, is_plain, names_parts};
+ghost use Rattle.node_pages.specs.Citations.{names_with, place_parts, work_parts};
 
 use crate::form::{isbn_in, issn_in};
 use feed_answer::Pair;
 use feed_openurl::CitationPart;
 use node_hits::{QueryFacts, is_blank};
-use node_site::SiteFile;
+use node_site::{SiteFile, doi_link};
 use node_templates::{Slot, Template, put_page, text_if};
-use std::alloc::AllocError;
+use std::alloc::{AllocError, Global};
 
 const CITED_TOP: [Template; 2] = [Template::Top, Template::CitedWork];
 
@@ -102,15 +102,30 @@ fn put_place(out: &mut Vec<u8>, site: &SiteFile, ask: &QueryFacts) -> Result<(),
     )
 }
 
-// Writes the names of the work, and the end of the citation.
-#[tactic(auto, unfolding(crate::specs::Citations::names_parts))]
-fn put_names(
+// Returns the link to what a DOI names, if the DOI needs no encoding in an address, or nothing.
+fn doi_address(alloc: Global, site: &SiteFile, doi: &[u8]) -> Result<Vec<u8>, AllocError>
+    ensures { IfOk result (λ address. address.items ≡ doi_address site.now doi.now) }
+{
+    if doi.is_empty() || !is_all_plain(doi) {
+        return Ok(Vec::new(alloc));
+    }
+    match doi_link(alloc, site, doi)? {
+        Some(link) => Ok(link),
+        None => Ok(Vec::new(alloc)),
+    }
+}
+
+// Writes the names of the work with this link to what its DOI names, and the end of the citation.
+#[tactic(auto, unfolding(crate::specs::Citations::names_with))]
+fn put_names_with(
     out: &mut Vec<u8>,
     site: &SiteFile,
     pairs: &[Pair<'_>],
     ask: &QueryFacts,
+    address: &[u8],
 ) -> Result<(), AllocError>
-    ensures { OnOk result (out.new.items ≡ out.old.items ++ page_text site.now (names_parts pairs.now ask.now)) }
+    ensures { OnOk result (out.new.items
+        ≡ out.old.items ++ page_text site.now (names_with pairs.now ask.now address.now)) }
 {
     let doi = cited(ask, CitationPart::Doi);
     let pmid = cited(ask, CitationPart::Pmid);
@@ -119,13 +134,28 @@ fn put_names(
         site,
         &[Template::CitedNames],
         &[
-            (Slot::DoiLink, text_if(is_all_plain(doi), doi)),
-            (Slot::Doi, text_if(!is_all_plain(doi), doi)),
+            (Slot::DoiAddress, address),
+            (Slot::DoiLink, doi),
+            (Slot::Doi, text_if(address.is_empty(), doi)),
             (Slot::PmidLink, text_if(is_all_plain(pmid), pmid)),
             (Slot::Pmid, text_if(!is_all_plain(pmid), pmid)),
             (Slot::Cited, cited_mark(pairs, ask)),
         ],
     )
+}
+
+// Writes the names of the work, and the end of the citation.
+fn put_names(
+    out: &mut Vec<u8>,
+    site: &SiteFile,
+    pairs: &[Pair<'_>],
+    ask: &QueryFacts,
+) -> Result<(), AllocError>
+    ensures { OnOk result (out.new.items
+        ≡ out.old.items ++ page_text site.now (names_parts site.now pairs.now ask.now)) }
+{
+    let address = doi_address(*out.allocator(), site, cited(ask, CitationPart::Doi))?;
+    put_names_with(out, site, pairs, ask, &address)
 }
 
 /// Writes the beginning of a page with this heading, and the citation of a query with its ISSN and its ISBN, if there
@@ -139,7 +169,7 @@ pub(crate) fn put_cited_top(
     ask: &QueryFacts,
 ) -> Result<(), AllocError>
     ensures { OnOk result (out.new.items
-        ≡ out.old.items ++ page_text site.now (cited_top heading.now pairs.now ask.now)) }
+        ≡ out.old.items ++ page_text site.now (cited_top site.now heading.now pairs.now ask.now)) }
 {
     put_work(out, site, heading, pairs, ask)?;
     put_place(out, site, ask)?;

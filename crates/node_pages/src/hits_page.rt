@@ -2,18 +2,20 @@
 ghost use Rattle.std.specs.Prelude.{◌≡◌, ◌++◌, IfOk, OnOk};
 ghost use Rattle.node_templates.specs.Pages.{page_text};
 ghost use Rattle.node_hits.specs.Tallying.{tally_from};
-ghost use Rattle.node_pages.specs.HitsPage.{cited_of, digits_of, hint, hits_end, is_none, least, list_mark};
-ghost use Rattle.node_pages.specs.HitsPage.{note_of, number_left_out, page_of_hits, request_of};
+ghost use Rattle.node_pages.specs.HitsPage.{digits_of, hint, hits_end, is_none, least, list_end};
+ghost use Rattle.node_pages.specs.HitsPage.{note_of, number_left_out, page_of_hits};
 
 use crate::card::{Fit, put_cards};
 use crate::citation::put_cited_top;
-use crate::form::{isbn_in, issn_in, put_form_end};
+use crate::form::put_form_end;
 use crate::heading::heading_of;
+use crate::lists::list_mark;
+use crate::ways::{cited_of, put_ways_to};
 use feed_answer::Pair;
 use feed_bytes::put_number;
 use feed_openurl::CitationPart;
 use node_hits::{QueryFacts, Tally};
-use node_site::{CitedTitle, SiteFile, Text, request_link, text_of};
+use node_site::{SiteFile, Text, text_of};
 use node_templates::{Slot, Template, put_page, text_or_nothing};
 use std::alloc::{AllocError, Global};
 
@@ -30,9 +32,6 @@ pub struct Tallies<'a> {
 
 // The statement about the hits, and the beginning of their list.
 const LIST_START: [Template; 2] = [Template::Note, Template::Cards];
-
-// The end of the list, the number of hits that are left out, and the link to the request form.
-const LIST_END: [Template; 2] = [Template::LeftOut, Template::Request];
 
 fn is_none(found: &Tallies<'_>) -> bool
     ensures { result
@@ -53,13 +52,6 @@ fn note_of(tally: &Tally<'_>, is_none: bool) -> Option<Text>
     } else {
         Some(Text::HeldOther)
     }
-}
-
-/// Returns a value for the slot of a list that has items.
-pub(crate) fn list_mark(is_empty: bool) -> &'static [u8]
-    ensures { result.now ≡ list_mark is_empty }
-{
-    if is_empty { b"" } else { b"list" }
 }
 
 // Returns the words before a number of hits, which may be too small.
@@ -106,30 +98,30 @@ pub(crate) fn digits_of(alloc: Global, number: Option<usize>) -> Result<Vec<u8>,
     Ok(digits)
 }
 
-// Returns the parts of a query's citation that a request form may take.
-fn cited_of<'p>(ask: &'p QueryFacts, pairs: &'p [Pair<'_>]) -> CitedTitle<'p>
-    ensures { result ≡ cited_of ask.now pairs.now }
-{
-    CitedTitle {
-        citation: &ask.citation,
-        issn: issn_in(pairs),
-        isbn: isbn_in(pairs),
-    }
-}
-
-/// Returns the link to the library's request form, filled with the citation, or nothing.
-pub(crate) fn request_of(
+// Writes the end of the list, and how many hits are left out.
+#[tactic(auto, unfolding(crate::specs::HitsPage::list_end))]
+fn put_list_end(
     alloc: Global,
+    out: &mut Vec<u8>,
     site: &SiteFile,
-    ask: &QueryFacts,
-    pairs: &[Pair<'_>],
-) -> Result<Vec<u8>, AllocError>
-    ensures { IfOk result (λ link. link.items ≡ request_of site.now ask.now pairs.now) }
+    tally: &Tally<'_>,
+    is_none: bool,
+) -> Result<(), AllocError>
+    ensures { OnOk result (out.new.items
+        ≡ out.old.items ++ page_text site.now (list_end site.now (tally_from tally.now) is_none)) }
 {
-    match request_link(alloc, site, &cited_of(ask, pairs))? {
-        Some(link) => Ok(link),
-        None => Ok(Vec::new(alloc)),
-    }
+    let left_out = digits_of(alloc, number_left_out(tally))?;
+    put_page(
+        out,
+        site,
+        &[Template::LeftOut],
+        &[
+            (Slot::Listed, list_mark(is_none)),
+            (Slot::LeastText, text_of(site, least(tally.is_whole()))),
+            (Slot::LeftOut, &left_out),
+            (Slot::Hint, hint(site, tally)),
+        ],
+    )
 }
 
 // Writes what is behind the cards.
@@ -146,20 +138,8 @@ fn put_hits_end(
     ensures { OnOk result (out.new.items
         ≡ out.old.items ++ page_text site.now (hits_end site.now pairs.now ask.now (tally_from tally.now) is_none)) }
 {
-    let left_out = digits_of(alloc, number_left_out(tally))?;
-    let request = request_of(alloc, site, ask, pairs)?;
-    put_page(
-        out,
-        site,
-        &LIST_END,
-        &[
-            (Slot::Listed, list_mark(is_none)),
-            (Slot::LeastText, text_of(site, least(tally.is_whole()))),
-            (Slot::LeftOut, &left_out),
-            (Slot::Hint, hint(site, tally)),
-            (Slot::Request, &request),
-        ],
-    )?;
+    put_list_end(alloc, out, site, tally, is_none)?;
+    put_ways_to(alloc, out, site, tally.outcome(), &cited_of(ask, pairs))?;
     put_form_end(out, site, pairs)
 }
 

@@ -7,7 +7,7 @@ ghost use Rattle.node_response.specs.declared.status.Status.TheVariants as statu
 ghost use Rattle.node_pages.specs.HomePage.{form_page, has_rows, home_page, listed_parts, package_parts, packages};
 ghost use Rattle.std.specs.List.{list_any};
 
-use crate::hits_page::list_mark;
+use crate::lists::list_mark;
 use feed_releases::ActiveRelease;
 use node_request::Representation;
 use node_response::{Response, Status};

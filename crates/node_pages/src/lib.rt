@@ -14,12 +14,14 @@ mod heading;
 mod hits_page;
 mod home_page;
 mod laws;
+mod lists;
 mod number_faults;
 mod opening;
 mod openurl_text;
 mod refusals;
 mod titles;
 mod titles_page;
+mod ways;
 
 pub use card::Fit;
 pub use error_page::error_response;

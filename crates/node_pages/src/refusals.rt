@@ -1,4 +1,4 @@
-//! The responses to queries for which nothing is looked up.
+//! The responses to OpenURLs for which nothing is looked up.
 ghost use Rattle.std.specs.Prelude.{◌≡◌, ◌++◌, IfOk, OnOk};
 ghost use Rattle.node_hits.specs.QueryFacts.{ask_of, names_work};
 ghost use Rattle.node_pages.specs.QueryRefusals.{asks_for_form, is_numberless, nothing_json};
@@ -10,28 +10,22 @@ ghost use Rattle.node_templates.specs.Pages.{page_text};
 use crate::citation::put_cited_top;
 use crate::error_page::error_response;
 use crate::form::{isbn_in, issn_in, put_form_end};
-use crate::hits_page::request_of;
 use crate::home_page::form_response;
 use crate::number_faults::{NumberKind, fault_words};
 use crate::openurl_text::OpenUrlText;
+use crate::ways::{cited_of, put_ways_to};
 use feed_answer::Pair;
 use feed_bytes::put_all;
 use feed_openurl::{CitationPart, OpenUrlFault};
 use node_hits::{QueryFacts, ReceivedOpenUrl, Tally, names_work, put_answer_json};
 use node_request::Representation;
 use node_response::{Fragment, Response, Status, put_fault};
-use node_site::{SiteFile, Text, text_of};
+use node_site::{SearchOutcome, SiteFile, Text, text_of};
 use node_templates::{Slot, Template, put_page};
 use std::alloc::{AllocError, Global};
 
-// The statement that nothing is looked up, what is wrong with the numbers, the form for the title, and the link to the
-// request form.
-const NOTHING: [Template; 4] = [
-    Template::Note,
-    Template::NumberFaults,
-    Template::TitlesForm,
-    Template::Request,
-];
+// The statement that nothing is looked up, what is wrong with the numbers, and the form for the title.
+const NOTHING: [Template; 3] = [Template::Note, Template::NumberFaults, Template::TitlesForm];
 
 fn reason_text(reason: OpenUrlFault) -> &'static [u8]
     ensures { result.now ≡ reason_text reason }
@@ -51,7 +45,7 @@ fn is_numberless(reason: OpenUrlFault) -> bool
     !matches!(reason, OpenUrlFault::TooMany)
 }
 
-// Writes that nothing is looked up, what is wrong with the numbers, and this link to the request form.
+// Writes that nothing is looked up, what is wrong with the numbers, and the form for the title.
 #[tactic(auto, unfolding(crate::specs::QueryRefusals::reasons_with))]
 fn put_reasons_with(
     out: &mut Vec<u8>,
@@ -60,11 +54,10 @@ fn put_reasons_with(
     ask: &QueryFacts,
     issn_fault: &[u8],
     isbn_fault: &[u8],
-    request: &[u8],
 ) -> Result<(), AllocError>
     ensures { OnOk result (out.new.items
         ≡ out.old.items
-        ++ page_text site.now (reasons_with site.now pairs.now ask.now issn_fault.now isbn_fault.now request.now)) }
+        ++ page_text site.now (reasons_with site.now pairs.now ask.now issn_fault.now isbn_fault.now)) }
 {
     put_page(
         out,
@@ -80,7 +73,6 @@ fn put_reasons_with(
                 Slot::Wanted,
                 ask.citation.text(CitationPart::Title).as_bytes(),
             ),
-            (Slot::Request, request),
         ],
     )
 }
@@ -93,14 +85,13 @@ fn put_reasons(
     site: &SiteFile,
     pairs: &[Pair<'_>],
     ask: &QueryFacts,
-    request: &[u8],
 ) -> Result<(), AllocError>
     ensures { OnOk result (out.new.items
-        ≡ out.old.items ++ page_text site.now (reasons site.now pairs.now ask.now request.now)) }
+        ≡ out.old.items ++ page_text site.now (reasons site.now pairs.now ask.now)) }
 {
     let issn_fault = fault_words(alloc, site, NumberKind::Issn, issn_in(pairs))?;
     let isbn_fault = fault_words(alloc, site, NumberKind::Isbn, isbn_in(pairs))?;
-    put_reasons_with(out, site, pairs, ask, &issn_fault, &isbn_fault, request)
+    put_reasons_with(out, site, pairs, ask, &issn_fault, &isbn_fault)
 }
 
 #[tactic(auto, unfolding(node_templates::specs::Pages::page_text, crate::specs::QueryRefusals::page_of_nothing))]
@@ -113,9 +104,15 @@ fn put_nothing(
 ) -> Result<(), AllocError>
     ensures { OnOk result (out.new.items ≡ out.old.items ++ page_of_nothing site.now pairs.now ask.now) }
 {
-    let request = request_of(alloc, site, ask, pairs)?;
     put_cited_top(out, site, text_of(site, Text::NothingToLookUp), pairs, ask)?;
-    put_reasons(alloc, out, site, pairs, ask, &request)?;
+    put_reasons(alloc, out, site, pairs, ask)?;
+    put_ways_to(
+        alloc,
+        out,
+        site,
+        SearchOutcome::Unknown,
+        &cited_of(ask, pairs),
+    )?;
     put_form_end(out, site, pairs)
 }
 

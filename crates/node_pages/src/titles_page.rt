@@ -10,7 +10,8 @@ ghost use Rattle.node_response.specs.declared.status.Status.TheVariants as statu
 ghost use Rattle.node_titles.specs.Walks.{titles_from};
 
 use crate::coverage::put_coverage;
-use crate::hits_page::{digits_of, list_mark};
+use crate::hits_page::digits_of;
+use crate::lists::list_mark;
 use crate::openurl_text::OpenUrlText;
 use crate::titles::{put_isbn, put_issn, put_titles_json, put_titles_text, title_pairs};
 use feed_kbart::Row;

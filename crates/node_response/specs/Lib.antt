@@ -11,3 +11,4 @@ pub mod Laws
 pub mod Tags
 pub mod TagLaws
 pub mod DayDigests
+pub mod DigestedSteps

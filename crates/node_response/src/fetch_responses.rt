@@ -24,7 +24,9 @@ fn progress_head(alloc: Global) -> Result<Vec<u8>, AllocError>
     Vec::from_slice(alloc, PROGRESS_HEAD)
 }
 
-fn progress_response(alloc: Global) -> Result<ResponseText, AllocError>
+/// Returns the head of a response whose body reports the progress of a work of the node, as text. It states no length,
+/// and the connection is closed behind it.
+pub fn progress_response(alloc: Global) -> Result<ResponseText, AllocError>
     ensures value { IfOk result (λ response. response ≡ progress_response) }
     ensures message { IfOk result BeginsStream }
 {

@@ -5,6 +5,7 @@
 
 mod day_digests;
 mod digested;
+mod digested_holdings;
 mod escape;
 mod fault;
 mod fetch_responses;
@@ -18,9 +19,10 @@ mod status;
 mod utf8;
 
 pub use digested::Digested;
+pub use digested_holdings::{DigestedHoldings, DigestedReading, DigestedStep};
 pub use escape::put;
 pub use fault::{bad_head_response, put_fault, refusal};
-pub use fetch_responses::fetch_response;
+pub use fetch_responses::{fetch_response, progress_response};
 pub use fragment::Fragment;
 pub use json_text::{put_comma, put_list_end, put_list_start};
 pub use laws::{

@@ -1,6 +1,6 @@
 //! The version, the settings, the site file and the holdings file of a node, on which its responses depend, and the
 //! tags that follow.
-ghost use Rattle.std.specs.Prelude.{◌≡◌, List, ℕ, IfErr, IfOk, OnErr, OnOk};
+ghost use Rattle.std.specs.Prelude.{◌≡◌, IfErr, IfOk, OnErr, OnOk};
 ghost use Rattle.std.specs.Fmt.{decimal};
 ghost use Rattle.node_response.specs.Tags.{digest_of_digests, entity_tag, inputs_of, kind_and_day};
 ghost use Rattle.node_response.specs.Tags.{message_of, quoted_hex, source_digest};
@@ -8,6 +8,7 @@ ghost use Rattle.sha2.specs.Sha256.{sha256};
 
 use crate::day_digests::{DayDigests, digest_on};
 use crate::digested::Digested;
+use crate::digested_holdings::{DigestedHoldings, DigestedReading};
 use feed_answer::Today;
 use node_request::Representation;
 use node_site::{HoldingsFault, SiteFault, SiteFile};
@@ -66,7 +67,7 @@ fn decimal(alloc: Global, number: u32) -> Result<Vec<u8>, AllocError>
     }
 }
 
-// Returns the digest of the digests of five texts, of which the last two are given as digests.
+// Returns the digest of the digests of five texts. The last two are given as digests.
 fn digest_of_digests(
     version: &Digested,
     settings: &Digested,
@@ -170,11 +171,27 @@ impl Site {
         ensures refused { IfErr result (IsHoldingsFault bytes.items) }
         ensures same { OnErr result (self.new ≡ self.old) }
     {
-        if let Err(fault) = self.library.read_holdings(alloc, bytes) {
-            return Err(fault);
+        let reading = match DigestedReading::begin(alloc, bytes) {
+            Ok(reading) => reading,
+            Err(fault) => return Err(fault),
+        };
+        match reading.finish(alloc) {
+            Ok(holdings) => {
+                self.set_holdings(holdings);
+                Ok(())
+            }
+            Err(fault) => Err(fault),
         }
+    }
+
+    /// Sets the holdings file that the site file names. The tags depend on its bytes.
+    pub fn set_holdings(&mut self, holdings: DigestedHoldings)
+        ensures { self.new ≡ with_listing holdings self.old }
+    {
+        let DigestedHoldings { file, digest } = holdings;
+        self.library.set_holdings(file);
         self.kept = None;
-        self.listing = Sha256::digest(self.library.listing());
+        self.listing = digest;
         self.source = digest_of_digests(
             &self.version,
             &self.settings,
@@ -182,7 +199,6 @@ impl Site {
             &self.listing,
             &self.releases,
         );
-        Ok(())
     }
 
     /// Returns what the site file says.

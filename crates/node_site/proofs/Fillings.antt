@@ -1,17 +1,16 @@
--- Links to a request form.
+-- Links to forms and to articles: filled templates.
 use Rattle.std.proofs.Common.{◌≡◌, ℕ, ◌+◌, ◌<◌, ◌&&◌, ◌||◌, ◌==◌, Bool, true, false, not, nat_lt, nat_le, is_some, List, [], ◌∷◌, ◌++◌, length, take, drop, codes, Option, Some, None, All}
 use Rattle.std.proofs.Common.{option_map, if◌then◌else◌, cond, refl, sym, ap, ◌∙◌, arith, length-append, suc}
 use Rattle.std.specs.List.{before_first, list_all, list_any, prefix_len}
 use Rattle.std.proofs.lemmas.List.{take-append-le, drop-append-le}
 use Rattle.std.proofs.lemmas.List.Elements.{filter-append}
 use Rattle.std.proofs.lemmas.Bool.Decides.{nat_tests}
-use Rattle.std.specs.Option.{option_and_then}
 use Rattle.percent_encoding.proofs.PercentLemmas.{All-percent_encode}
 use Rattle.percent_encoding.specs.declared.ascii_set.TheConstants.{NON_ALPHANUMERIC}
 use Rattle.node_site.specs.Kinds.{has_end, has_fields, is_front}
 use Rattle.node_site.specs.Laws.{is_plain}
-use Rattle.node_site.specs.RequestLaws.{PartsAddNoMarks, RequestsAreLinks, RequestsKeepHost, marks}
-use Rattle.node_site.specs.Requests.{CitedTitleValue, filled, filled_from, part_of, part_text, request_link, if_link}
+use Rattle.node_site.specs.RequestLaws.{PartsAddNoMarks, RequestsKeepHost, marks}
+use Rattle.node_site.specs.Requests.{CitedTitleValue, filled, filled_from, part_of, part_text}
 use Rattle.node_site.specs.Hosts.{host_behind, host_in, host_of, is_link}
 use Rattle.node_site.specs.Urls.{after_scheme, authority_of, before_byte, begins_with, ends_authority, has_byte, is_visible, url_limit}
 use Rattle.node_site.proofs.Through.{escape_is_plain, kept_is_plain}
@@ -229,26 +228,22 @@ link_lacks url h =
     (and_right (list_all is_visible url) (is_some (host_of url)) (and_right (nat_le (length url) url_limit) (list_all is_visible url && is_some (host_of url)) h))
 
 pub requests_keep_host : RequestsKeepHost
-requests_keep_host template cited h =
-    let parts = and_left (is_link template && has_fields template) (is_front (before_byte 123 template)) h in
-    let lacks = link_lacks template (and_left (is_link template) (has_fields template) parts) in
+requests_keep_host names template cited h =
+    let parts = and_left (is_link template && has_fields names template) (is_front (before_byte 123 template)) h in
+    let lacks = link_lacks template (and_left (is_link template) (has_fields names template) parts) in
     let fine : is_front (front (λ b. b == 123) template) ≡ true =
-    ap is_front (sym (is_front_of (λ b. b == 123) template)) ∙ and_right (is_link template && has_fields template) (is_front (before_byte 123 template)) h in
+    ap is_front (sym (is_front_of (λ b. b == 123) template)) ∙ and_right (is_link template && has_fields names template) (is_front (before_byte 123 template)) h in
     host_is (filled cited template) (filled_lacks cited false [] template lacks)
     ∙ host_begins (front (λ b. b == 123) template) (filled cited template) (filled_begins cited [] template) fine
     ∙ sym (host_begins (front (λ b. b == 123) template) template (text_begins template) fine)
     ∙ sym (host_is template lacks)
 
--- ---- the link
+-- ---- all names are given
 
-if_link_is : (c : Bool) (text link : List ℕ) → is_link text ≡ c → (if c then Some text else None) ≡ Some link → is_link link ≡ true
-if_link_is true text link e h = let same : text ≡ link = cc in rw (← same) e
-if_link_is false text link e h = cc
+pub and_assoc : (a b c : Bool) → ((a && b) && c) ≡ (a && (b && c))
+and_assoc true b c = refl
+and_assoc false b c = refl
 
-request_is : (cited : CitedTitleValue) (o : Option (List ℕ)) (link : List ℕ) → option_and_then (λ template. if_link (filled cited template)) o ≡ Some link → is_link link ≡ true
-request_is cited None link h = cc
-request_is cited (Some template) link h = if_link_is (is_link (filled cited template)) (filled cited template) link refl h
-
-pub requests_are_links : RequestsAreLinks
-unfolding request_link
-requests_are_links site cited link h = request_is cited site.request link h
+pub and_true : (a : Bool) → (a && true) ≡ a
+and_true true = refl
+and_true false = refl

@@ -1,6 +1,6 @@
--- What reading a holdings file returns.
-use Rattle.std.proofs.Common.{◌≡◌, ℕ, true, List, [], Some, None, inl, inr, refl, sym, ap, subst, ◌∙◌}
-use Rattle.std.specs.List.Sorted.{IsPermutation}
+-- The file or the fault that a reading returns.
+use Rattle.std.proofs.Common.{◌≡◌, ℕ, true, List, [], Some, None, inl, inr, refl, sym, ap, ◌∙◌}
+use Rattle.node_site.specs.declared.entry.Entry.{Entry}
 use Rattle.node_site.specs.declared.holdings_fault.BadLine.{BadLine}
 use Rattle.node_site.specs.declared.holdings_fault.HoldingsFault.{HoldingsFault}
 use Rattle.node_site.specs.declared.holdings_fault.HoldingsFault.TheVariants.{TooLong, NotUtf8, Line, Memory}
@@ -9,7 +9,9 @@ use Rattle.node_site.specs.Held.{title_holding}
 use Rattle.node_site.specs.Site.{site_of, with_listing}
 use Rattle.node_site.specs.HoldingsFaults.{IsHoldingsFault, IsHoldingsFile, file_fault, first_fault}
 use Rattle.node_site.specs.HoldingsFiles.{has_header, row_places, rows_of}
-use Rattle.node_site.specs.HoldingsIndex.{IsClash, IsFirstFault, IsHeadFault, IsHeaded, IsInOrder, IsIndexed, IsPeaceful}
+use Rattle.node_site.specs.HoldingsEntries.{AreEntries, IsInOrder}
+use Rattle.node_site.specs.HoldingsIndex.{IsClash, IsFirstFault, IsHeadFault, IsHeaded, IsIndexed, IsPeaceful}
+use Rattle.node_site.specs.HoldingsReadings.{IsRead}
 use Rattle.node_site.proofs.HoldingsOrder.{consistent, contradiction}
 
 -- behind a good header the first fault is that of the rows
@@ -30,19 +32,20 @@ rows_fault_is text NotUtf8 head h = absurd h
 rows_fault_is text (Line fault) head h = (head.fits, head.utf8, inl (rows_decide text head.header ∙ h))
 rows_fault_is text Memory head h = (head.fits, head.utf8)
 
-pub indexed : (text rows starts : List ℕ) → IsHeaded text → rows ≡ row_places text → IsPermutation rows starts → IsInOrder text starts → IsPeaceful text starts → IsIndexed text starts
-indexed text rows starts head are moved up peace =
-    let places : IsPermutation (row_places text) starts = subst (λ (places : List ℕ). IsPermutation places starts) are moved in
-    record { fits = head.fits; consistent = consistent text starts places up peace; places = places; sorted = up }
+pub indexed : (text : List ℕ) (entries : List Entry) → IsHeaded text → AreEntries text entries → IsInOrder text entries → IsPeaceful text entries → IsIndexed text entries
+indexed text entries head are up peace = record { fits = head.fits; consistent = consistent text entries are up peace; same = are; sorted = up }
 
-pub file_is : (text starts : List ℕ) → IsHeaded text → first_fault text (row_places text) ≡ None → IsIndexed text starts → IsHoldingsFile text
-file_is text starts head fine is = record { fits = head.fits; utf8 = head.utf8; is_fine = rows_decide text head.header ∙ fine; consistent = is.consistent }
+pub file_is : (text : List ℕ) (entries : List Entry) → IsHeaded text → IsRead text entries → IsHoldingsFile text
+file_is text entries head is =
+    record { fits = head.fits; utf8 = head.utf8; is_fine = rows_decide text head.header ∙ is.fine; consistent = is.indexed.consistent }
 
-pub clash_fault : (text rows starts : List ℕ) (fault : BadLine) → IsHeaded text → first_fault text (row_places text) ≡ None → rows ≡ row_places text
-    → IsPermutation rows starts → IsClash text starts fault → IsHoldingsFault text (Line fault)
-clash_fault text rows starts fault head fine are moved clash =
-    let places : IsPermutation (row_places text) starts = subst (λ (places : List ℕ). IsPermutation places starts) are moved in
-    (head.fits, head.utf8, inr (rows_decide text head.header ∙ fine, contradiction text starts fault places clash))
+pub clash_fault : (text : List ℕ) (entries : List Entry) (fault : BadLine) → IsHeaded text → first_fault text (row_places text) ≡ None → AreEntries text entries
+    → IsClash text entries fault → IsHoldingsFault text (Line fault)
+clash_fault text entries fault head fine are clash =
+    (head.fits, head.utf8, inr (rows_decide text head.header ∙ fine, contradiction text entries fault are clash))
+
+pub memory_fault : (text : List ℕ) → IsHeaded text → IsHoldingsFault text Memory
+memory_fault text head = (head.fits, head.utf8)
 
 -- without a file nothing is listed
 pub no_rows : rows_of [] ≡ []

@@ -1,6 +1,6 @@
 -- Which links go through the proxy.
 use Rattle.std.proofs.Common.{◌≡◌, ℕ, ◌+◌, ◌*◌, ◌<◌, ◌≤◌, length, subst, Bool, true, false, not, List, [], ◌∷◌, ◌++◌, ◌&&◌, Option, Some, None, is_some, nat_le, All}
-use Rattle.std.proofs.Common.{if◌then◌else◌, refl, arith, sym, ap, ◌∙◌}
+use Rattle.std.proofs.Common.{if◌then◌else◌, option_map, refl, arith, sym, ap, ◌∙◌}
 use Rattle.std.specs.Char.{is_ascii_alphanumeric}
 use Rattle.percent_encoding.specs.Percent.{percent_encode}
 use Rattle.percent_encoding.specs.declared.ascii_set.TheConstants.{NON_ALPHANUMERIC}
@@ -12,10 +12,10 @@ use Rattle.percent_encoding.proofs.AsciiSetLemmas.{ascii_from_kept, outside_from
 use Rattle.percent_encoding.proofs.PercentLemmas.{All-percent_encode, IsEscapeByte, length-percent_decode, round_trip}
 use Rattle.percent_encoding.proofs.StandardFacts.{non_alphanumeric}
 use Rattle.std.specs.List.{list_all}
-use Rattle.std.specs.Option.{option_map_or}
+use Rattle.std.specs.Option.{option_and_then, option_map_or, option_or}
 use Rattle.node_site.specs.Hosts.{host_of, is_link}
 use Rattle.node_site.specs.Site.{SiteValue}
-use Rattle.node_site.specs.Proxies.{encodes, is_excepted, is_proxied, needs_proxy, prefix_for, proxied, through, written_target}
+use Rattle.node_site.specs.Proxies.{PrefixValue, is_excepted, platform_prefix, prefix_at, prefix_for, prefix_of, proxied, site_prefix, through, written_target}
 use Rattle.node_site.specs.Urls.{is_visible, url_limit}
 use Rattle.node_site.specs.Laws.{IsTarget, GoesThrough, LinkFits, is_plain}
 
@@ -33,10 +33,20 @@ unfolding proxied
 excepted_is_target site target host true h e = refl
 excepted_is_target site target host false h e = rw (h, e)
 
-pub direct_is_target : (site : SiteValue) (target : List ℕ) (is_free : Bool) → site.prefix ≡ None → proxied site target is_free ≡ target
+pub direct_is_target : (site : SiteValue) (target : List ℕ) (is_direct : Bool) → site.prefix ≡ None → ((host : List ℕ) → platform_prefix site host ≡ None)
+    → proxied site target is_direct ≡ target
 unfolding proxied
-direct_is_target site target is_free none =
-    elim (is_proxied site target is_free) as (λ b. through (if b then site.prefix else None) target ≡ target) [ true ↦ rw none | false ↦ refl ]
+direct_is_target site target true none platforms = refl
+direct_is_target site target false none platforms = of_host (host_of target)
+  where
+    no_prefix : (host : List ℕ) (b : Bool) → (if b then None else option_or (platform_prefix site host) (site_prefix site)) ≡ None
+    no_prefix host true = refl
+    no_prefix host false =
+        ap (λ (o : Option PrefixValue). option_or o (site_prefix site)) (platforms host) ∙ ap (λ (t : Option (List ℕ)). option_map (prefix_of site.encodes) t) none
+
+    of_host : (o : Option (List ℕ)) → through (option_and_then (prefix_at site) o) target ≡ target
+    of_host None = refl
+    of_host (Some host) = ap (λ (p : Option PrefixValue). through p target) (no_prefix host (is_excepted site.except host))
 
 -- a byte that stays as it is is a letter or a digit
 kept_is_alphanumeric : (b : ℕ) → should_percent_encode NON_ALPHANUMERIC b ≡ false → is_ascii_alphanumeric b ≡ true
@@ -60,12 +70,14 @@ written false target bytes = refl
 written true target bytes =
     (round_trip NON_ALPHANUMERIC target refl bytes, All-percent_encode (λ b. is_plain b ≡ true) NON_ALPHANUMERIC target kept_is_plain escape_is_plain)
 
-pub others_go : (site : SiteValue) (target host prefix : List ℕ) → All (λ b. b < 256) target
-    → host_of target ≡ Some host → is_excepted site.except host ≡ false → site.prefix ≡ Some prefix
-    → GoesThrough prefix target (proxied site target false)
+pub others_go : (site : SiteValue) (target host : List ℕ) (prefix : PrefixValue) → All (λ b. b < 256) target
+    → host_of target ≡ Some host → prefix_at site host ≡ Some prefix → GoesThrough prefix target (proxied site target false)
 unfolding proxied
-others_go site target host prefix bytes h e p =
-    record { rest = written_target prefix target; begins = rw (h, e, p); follows = written (encodes prefix) target bytes }
+others_go site target host prefix bytes h p = record {
+  middle = written_target prefix.is_encoded target;
+  encloses = ap (λ (o : Option PrefixValue). through o target) (ap (option_and_then (prefix_at site)) h ∙ p);
+  follows = written prefix.is_encoded target bytes;
+}
 
 -- ---- the room of a link
 
@@ -79,10 +91,10 @@ written_fits true target bytes =
 pub link_fits : LinkFits
 link_fits None target bytes = omega arith
 link_fits (Some prefix) target bytes =
-    let whole : length (prefix ++ written_target prefix target) ≡ length prefix + length (written_target prefix target) =
-    length-append prefix (written_target prefix target) in
-    let fits : length (written_target prefix target) ≤ (if encodes prefix then 3 * length target else length target) =
-    written_fits (encodes prefix) target bytes in
+    let text : List ℕ = written_target prefix.is_encoded target in
+    let whole : length (prefix.front ++ (text ++ prefix.rest)) ≡ length prefix.front + length (text ++ prefix.rest) = length-append prefix.front (text ++ prefix.rest) in
+    let behind : length (text ++ prefix.rest) ≡ length text + length prefix.rest = length-append text prefix.rest in
+    let fits : length text ≤ (if prefix.is_encoded then 3 * length target else length target) = written_fits prefix.is_encoded target bytes in
     grind (arith)
 
 -- ---- links that are not safe
@@ -96,52 +108,78 @@ and_left true b e = absurd (cc)
 and_left false b e = refl
 
 -- a target that is too long has no safe link
-pub long_is_unsafe : (site : SiteValue) (target : List ℕ) (is_free : Bool) → All (λ b. b < 256) target → url_limit < length target
-    → is_link (through (prefix_for site target is_free) target) ≡ false
-long_is_unsafe site target is_free bytes long = of (prefix_for site target is_free)
+long_is_unsafe : (prefix : Option PrefixValue) (target : List ℕ) → All (λ b. b < 256) target → url_limit < length target
+    → is_link (through prefix target) ≡ false
+long_is_unsafe prefix target bytes long = of prefix
   where
-    whole : (takes : Bool) → length target ≤ length (if takes then percent_encode NON_ALPHANUMERIC target else target)
-    whole false = omega arith
-    whole true =
+    longer : (takes : Bool) → length target ≤ length (if takes then percent_encode NON_ALPHANUMERIC target else target)
+    longer false = omega arith
+    longer true =
         subst (λ (t : List ℕ). length t ≤ length (percent_encode NON_ALPHANUMERIC target)) (round_trip NON_ALPHANUMERIC target refl bytes)
         (length-percent_decode (percent_encode NON_ALPHANUMERIC target)).0
 
     too_long : (link : List ℕ) → url_limit < length link → is_link link ≡ false
     too_long link more = and_left (nat_le (length link) url_limit) _ (grind (arith, nat_tests))
 
-    of : (prefix : Option (List ℕ)) → is_link (through prefix target) ≡ false
+    of : (o : Option PrefixValue) → is_link (through o target) ≡ false
     of None = too_long target long
-    of (Some prefix) =
-        let joint : length (prefix ++ written_target prefix target) ≡ length prefix + length (written_target prefix target) =
-        length-append prefix (written_target prefix target) in
-        let more : length target ≤ length (written_target prefix target) = whole (encodes prefix) in
-        too_long (prefix ++ written_target prefix target) (omega (arith, joint, more, long))
+    of (Some p) =
+        let text : List ℕ = written_target p.is_encoded target in
+        let whole : length (p.front ++ (text ++ p.rest)) ≡ length p.front + length (text ++ p.rest) = length-append p.front (text ++ p.rest) in
+        let behind : length (text ++ p.rest) ≡ length text + length p.rest = length-append text p.rest in
+        let more : length target ≤ length text = longer p.is_encoded in
+        too_long (p.front ++ (text ++ p.rest)) (omega (arith, whole, behind, more, long))
 
--- nor has one with a byte that is not visible, where no prefix escapes it
-pub odd_is_unsafe : (site : SiteValue) (target : List ℕ) (is_free : Bool) → option_map_or encodes site.prefix false ≡ false
-    → list_all is_visible target ≡ false → is_link (through (prefix_for site target is_free) target) ≡ false
-odd_is_unsafe site target is_free plain odd = of (is_proxied site target is_free) site.prefix plain
+-- nor has one with a byte that is not visible, if it is not escaped
+odd_is_unsafe : (prefix : Option PrefixValue) (target : List ℕ) → option_map_or (λ p. p.is_encoded) prefix false ≡ false
+    → list_all is_visible target ≡ false → is_link (through prefix target) ≡ false
+odd_is_unsafe prefix target plain odd = of prefix plain
   where
-    odd_link : (front : List ℕ) → list_all is_visible (front ++ target) ≡ false
-    odd_link [] = odd
-    odd_link (b ∷ front) = and_right (is_visible b) (list_all is_visible (front ++ target)) (odd_link front)
+    odd_front : (text rest : List ℕ) → list_all is_visible text ≡ false → list_all is_visible (text ++ rest) ≡ false
+    odd_front [] rest e = absurd (cc)
+    odd_front (b ∷ text) rest e = go (is_visible b) e (odd_front text rest)
+      where
+        go : (c : Bool) → (c && list_all is_visible text) ≡ false → (list_all is_visible text ≡ false → list_all is_visible (text ++ rest) ≡ false)
+            → (c && list_all is_visible (text ++ rest)) ≡ false
+        go true h later = later h
+        go false h later = refl
 
-    unsafe : (front : List ℕ) → is_link (front ++ target) ≡ false
-    unsafe front =
-        and_right (nat_le (length (front ++ target)) url_limit) _ (and_left (list_all is_visible (front ++ target)) _ (odd_link front))
+    odd_behind : (front text : List ℕ) → list_all is_visible text ≡ false → list_all is_visible (front ++ text) ≡ false
+    odd_behind [] text e = e
+    odd_behind (b ∷ front) text e = and_right (is_visible b) (list_all is_visible (front ++ text)) (odd_behind front text e)
 
-    of : (b : Bool) (prefix : Option (List ℕ)) → option_map_or encodes prefix false ≡ false → is_link (through (if b then prefix else None) target) ≡ false
-    of false prefix e = unsafe []
-    of true None e = unsafe []
-    of true (Some prefix) e = ap (λ c. is_link (prefix ++ (if c then percent_encode NON_ALPHANUMERIC target else target))) e ∙ unsafe prefix
+    unsafe : (link : List ℕ) → list_all is_visible link ≡ false → is_link link ≡ false
+    unsafe link e = and_right (nat_le (length link) url_limit) _ (and_left (list_all is_visible link) _ e)
 
--- nor one without a host
-pub hostless_is_unsafe : (site : SiteValue) (target : List ℕ) (is_free : Bool) → is_some (host_of target) ≡ false
-    → is_link (through (prefix_for site target is_free) target) ≡ false
-hostless_is_unsafe site target is_free none =
-    ap (λ b. is_link (through (if b then site.prefix else None) target)) (and_right (not is_free) _ (direct (host_of target) none))
+    of : (o : Option PrefixValue) → option_map_or (λ p. p.is_encoded) o false ≡ false → is_link (through o target) ≡ false
+    of None e = unsafe target odd
+    of (Some p) e =
+        ap (λ c. is_link (p.front ++ ((if c then percent_encode NON_ALPHANUMERIC target else target) ++ p.rest))) e
+        ∙ unsafe (p.front ++ (target ++ p.rest)) (odd_behind p.front (target ++ p.rest) (odd_front target p.rest odd))
+
+-- nor one without a host, which goes through no proxy
+hostless_is_unsafe : (site : SiteValue) (target : List ℕ) (is_direct : Bool) → is_some (host_of target) ≡ false
+    → is_link (through (prefix_for site target is_direct) target) ≡ false
+hostless_is_unsafe site target is_direct none =
+    ap (λ (p : Option PrefixValue). is_link (through p target)) (direct is_direct (host_of target) none)
     ∙ and_right (nat_le (length target) url_limit) _ (and_right (list_all is_visible target) _ none)
   where
-    direct : (host : Option (List ℕ)) → is_some host ≡ false → needs_proxy site.except host ≡ false
-    direct None e = refl
-    direct (Some host) e = absurd (cc)
+    direct : (b : Bool) (host : Option (List ℕ)) → is_some host ≡ false → (if b then None else option_and_then (prefix_at site) host) ≡ None
+    direct true host e = refl
+    direct false None e = refl
+    direct false (Some host) e = absurd (cc)
+
+-- the same of the links that a page has
+pub no_long : (site : SiteValue) (target : List ℕ) (is_direct : Bool) → All (λ b. b < 256) target → url_limit < length target
+    → is_link (proxied site target is_direct) ≡ false
+unfolding proxied
+no_long site target is_direct bytes long = long_is_unsafe (prefix_for site target is_direct) target bytes long
+
+pub no_odd : (site : SiteValue) (target : List ℕ) (is_direct : Bool) → option_map_or (λ p. p.is_encoded) (prefix_for site target is_direct) false ≡ false
+    → list_all is_visible target ≡ false → is_link (proxied site target is_direct) ≡ false
+unfolding proxied
+no_odd site target is_direct plain odd = odd_is_unsafe (prefix_for site target is_direct) target plain odd
+
+pub no_hostless : (site : SiteValue) (target : List ℕ) (is_direct : Bool) → is_some (host_of target) ≡ false → is_link (proxied site target is_direct) ≡ false
+unfolding proxied
+no_hostless site target is_direct none = hostless_is_unsafe site target is_direct none

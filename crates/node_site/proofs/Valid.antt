@@ -1,6 +1,6 @@
 -- The values at the keys of a document without a fault.
 use Rattle.std.proofs.Common.{◌≡◌, ℕ, ◌+◌, ◌&&◌, Bool, true, false, is_some, List, [], ◌∷◌, Option, Some, None, option_map, unwrap_or, if◌then◌else◌, arith}
-use Rattle.std.proofs.Common.{codes, Ordering, Less, Equal, Greater, nat_cmp, refl, sym, ◌∙◌, ap}
+use Rattle.std.proofs.Common.{codes, nat_lt, Ordering, Less, Equal, Greater, nat_cmp, refl, sym, ◌∙◌, ap}
 use Rattle.std.specs.Option.{option_and_then}
 use Rattle.std.specs.List.{list_all, position_or_len}
 use Rattle.std.specs.Ordering.{is_eq, match_ordering}
@@ -9,23 +9,24 @@ use Rattle.std.proofs.lemmas.Map.Text.{is_eq-slice_cmp}
 use Rattle.toml.specs.Data.{Data, Items, no_items, item, Members, no_members, member, as_array, as_str, as_table, get_member}
 use Rattle.feed_dates.specs.declared.day_range.DayRange.{DayRange}
 use Rattle.node_site.specs.declared.kind.ValueKind.{ValueKind}
-use Rattle.node_site.specs.declared.kind.ValueKind.TheVariants.{Text, Language, Color, Url, Template, Package, FileName, Date, Switch, Hosts}
+use Rattle.node_site.specs.declared.kind.ValueKind.TheVariants.{Text, Note, Language, Color, Url, Template, Article, Prefix, Occasion, Package, FileName, Host, Date, Switch, Hosts}
 use Rattle.node_site.specs.declared.section.Section.{Section}
 use Rattle.node_site.specs.declared.section.Section.TheVariants as part
 use Rattle.node_site.specs.declared.fault.ValueFault.TheVariants as bad
 use Rattle.node_site.specs.declared.fault.Flaw.{Flaw}
 use Rattle.node_site.specs.Urls.{is_host}
 use Rattle.node_site.specs.Kinds.{is_of}
-use Rattle.node_site.specs.Schema.{is_list, kind_of, required, section_of}
+use Rattle.node_site.specs.Schema.{is_list, kind_of, required, section_of, table_limit}
 use Rattle.node_site.specs.Lookups.{items_at, text_at}
-use Rattle.node_site.specs.Faults.{MisfitValue, PlaceValue, at_key, days_at, fault_of, fields_fault, flaw, host_flaw, host_flaws, host_reason, hosts_flaw, is_backward, kind_fault}
-use Rattle.node_site.specs.Faults.{list_fault, missing_fault, or_misfit, order_fault, place_of, row_fault, rows_fault, section_fault, single_fault, table_fault, text_flaw, value_flaw}
+use Rattle.node_site.specs.Faults.{MisfitValue, PlaceValue, at_key, at_table, days_at, fault_of, fields_fault, flaw, host_flaw, host_flaws, host_reason, hosts_flaw, is_backward, kind_fault}
+use Rattle.node_site.specs.Faults.{list_fault, missing_fault, or_misfit, order_fault, place_of, row_fault, rows_fault, section_fault, single_fault, table_fault, text_flaw, twice_fault, value_flaw}
 use Rattle.node_site.specs.Faults.{reason_of}
 use Rattle.node_site.specs.Indexes.{count_in, count_of, first_place_in}
-use Rattle.node_site.specs.Site.{PackageValue, first_day, holding_of, last_day, or_empty, package_of, row_or, rows_in, rows_of, site_of, text_in, texts_in, texts_of, title_of}
+use Rattle.node_site.specs.Site.{PackageValue, first_day, holding_of, last_day, link_of, or_empty, package_of, platform_of, row_or, rows_in, rows_of, site_of, text_in, texts_in, texts_of}
+use Rattle.node_site.specs.Site.{title_of}
 use Rattle.node_site.proofs.FirstRows.{counted}
 use Rattle.node_site.proofs.Replaced.{text_is}
-use Rattle.node_site.specs.Valid.{IsSite, fits, is_forward, is_holding, is_package_rule, is_title_rule}
+use Rattle.node_site.specs.Valid.{IsSite, fits, is_forward, is_holding, is_link_rule, is_package_rule, is_platform_rule, is_title_rule}
 
 -- neither has a fault
 left : (a b : Option MisfitValue) → or_misfit a b ≡ None → a ≡ None
@@ -94,12 +95,17 @@ no_flaw place k (Some what) h = cc
 
 textual : (kind : ValueKind) (d : Data) → is_textual kind ≡ true → value_flaw kind d ≡ text_flaw kind (as_str d)
 textual Text d h = refl
+textual Note d h = refl
 textual Language d h = refl
 textual Color d h = refl
 textual Url d h = refl
 textual Template d h = refl
+textual Article d h = refl
+textual Prefix d h = refl
+textual Occasion d h = refl
 textual Package d h = refl
 textual FileName d h = refl
+textual Host d h = refl
 textual Date d h = refl
 textual Switch d h = cc
 textual Hosts d h = cc
@@ -199,11 +205,16 @@ except_section doc None fine found = refl
 except_section doc (Some d) fine found = except_single (as_table d) (section_fine (codes "proxy") d doc fine found)
 
 -- the tables of a list without a fault
+not_over : (b : Bool) (misfit : MisfitValue) (rest : Option MisfitValue) → (if b then Some misfit else rest) ≡ None → rest ≡ None
+not_over true misfit rest h = cc
+not_over false misfit rest h = h
+
 row_fits : {A : Type 0} (name : List ℕ) (section : Section) (make : Members → A) (test : A → Bool)
     → ((row : Option ℕ) (ms : Members) → table_fault (place_of name row) section ms ≡ None → test (make ms) ≡ true)
     → (row : ℕ) (t : Option Members) (rest : List A) → row_fault name section row t ≡ None → list_all test rest ≡ true → list_all test (row_or make t rest) ≡ true
 row_fits name section make test each row None rest fine more = more
-row_fits name section make test each row (Some ms) rest fine more = rw (each (Some row) ms fine, more)
+row_fits name section make test each row (Some ms) rest fine more =
+    rw (each (Some row) ms (not_over (nat_lt (table_limit section) row) (at_table (place_of name (Some row)) bad.TooMany) (table_fault (place_of name (Some row)) section ms) fine), more)
 
 rows_fit : {A : Type 0} (name : List ℕ) (section : Section) (make : Members → A) (test : A → Bool)
     → ((row : Option ℕ) (ms : Members) → table_fault (place_of name row) section ms ≡ None → test (make ms) ≡ true)
@@ -217,7 +228,8 @@ list_fits : {A : Type 0} (name : List ℕ) (section : Section) (make : Members �
     → ((row : Option ℕ) (ms : Members) → table_fault (place_of name row) section ms ≡ None → test (make ms) ≡ true)
     → (o : Option Items) → list_fault name section o ≡ None → list_all test (rows_in make o) ≡ true
 list_fits name section make test each None fine = refl
-list_fits name section make test each (Some items) fine = rows_fit name section make test each 1 items fine
+list_fits name section make test each (Some items) fine =
+    rows_fit name section make test each 1 items (left (rows_fault name section 1 items) (twice_fault name section items) fine)
 
 rows_in_fit : {A : Type 0} (name : List ℕ) (section : Section) (make : Members → A) (test : A → Bool)
     → ((row : Option ℕ) (ms : Members) → table_fault (place_of name row) section ms ≡ None → test (make ms) ≡ true)
@@ -234,7 +246,7 @@ place_in_rows test None fine = refl
 place_in_rows test (Some rows) fine =
     let same : 0 + count_of rows ≡ count_of rows = omega arith in
     let place : 0 + position_or_len test (rows_of package_of rows) ≡ position_or_len test (rows_of package_of rows) = omega arith in
-    rw (← same) (counted package_of test (codes "package") part.Package 1 0 rows fine ∙ place)
+    rw (← same) (counted package_of test (codes "package") part.Package 1 0 rows (left (rows_fault (codes "package") part.Package 1 rows) None fine) ∙ place)
 
 place_at_key : (test : PackageValue → Bool) (doc : Members) (o : Option Data) → fault_of doc ≡ None → get_member (codes "package") doc ≡ o
     → unwrap_or (first_place_in package_of test (option_and_then as_array o)) (count_in (option_and_then as_array o))
@@ -279,7 +291,10 @@ package_fits row ms fine =
     let missing = left (missing_fault place (required part.Package) ms) (order_fault place ms) others in
     let order = right (missing_fault place (required part.Package) ms) (order_fault place ms) others in
     let has = (not_missing (is_some (get_member (codes "id") ms)) None (at_key place (codes "id") (flaw bad.Missing)) missing).0 in
-    and_true _ _ (and_true _ _ (required_fits place part.Package (codes "id") Package ms fields refl refl has) (text_at_fits place part.Package (codes "name") Text ms fields refl refl))
+    and_true _ _
+    (and_true _ _
+    (and_true _ _ (required_fits place part.Package (codes "id") Package ms fields refl refl has) (text_at_fits place part.Package (codes "name") Text ms fields refl refl))
+    (and_true _ _ (text_at_fits place part.Package (codes "article") Article ms fields refl refl) (text_at_fits place part.Package (codes "note") Note ms fields refl refl)))
     (holding_fits place ms order)
 
 title_fits : (row : Option ℕ) (ms : Members) → table_fault (place_of (codes "title") row) part.Title ms ≡ None → is_title_rule (title_of ms) ≡ true
@@ -291,8 +306,31 @@ title_fits row ms fine =
     let order = right (missing_fault place (required part.Title) ms) (order_fault place ms) others in
     let first = not_missing (is_some (get_member (codes "package") ms)) (missing_fault place (codes "id" ∷ []) ms) (at_key place (codes "package") (flaw bad.Missing)) missing in
     let second = not_missing (is_some (get_member (codes "id") ms)) None (at_key place (codes "id") (flaw bad.Missing)) first.1 in
-    and_true _ _ (and_true _ _ (required_fits place part.Title (codes "package") Package ms fields refl refl first.0) (required_fits place part.Title (codes "id") Text ms fields refl refl second.0))
+    and_true _ _
+    (and_true _ _
+    (and_true _ _ (required_fits place part.Title (codes "package") Package ms fields refl refl first.0) (required_fits place part.Title (codes "id") Text ms fields refl refl second.0))
+    (text_at_fits place part.Title (codes "note") Note ms fields refl refl))
     (holding_fits place ms order)
+
+platform_fits : (row : Option ℕ) (ms : Members) → table_fault (place_of (codes "platform") row) part.Platform ms ≡ None → is_platform_rule (platform_of ms) ≡ true
+platform_fits row ms fine =
+    let place = place_of (codes "platform") row in
+    let fields = left (fields_fault place part.Platform ms) (or_misfit (missing_fault place (required part.Platform) ms) (order_fault place ms)) fine in
+    let others = right (fields_fault place part.Platform ms) (or_misfit (missing_fault place (required part.Platform) ms) (order_fault place ms)) fine in
+    let missing = left (missing_fault place (required part.Platform) ms) (order_fault place ms) others in
+    let has = (not_missing (is_some (get_member (codes "host") ms)) None (at_key place (codes "host") (flaw bad.Missing)) missing).0 in
+    and_true _ _ (required_fits place part.Platform (codes "host") Host ms fields refl refl has)
+    (and_true _ _ (text_at_fits place part.Platform (codes "article") Article ms fields refl refl) (text_at_fits place part.Platform (codes "prefix") Prefix ms fields refl refl))
+
+link_fits : (row : Option ℕ) (ms : Members) → table_fault (place_of (codes "link") row) part.Link ms ≡ None → is_link_rule (link_of ms) ≡ true
+link_fits row ms fine =
+    let place = place_of (codes "link") row in
+    let fields = left (fields_fault place part.Link ms) (or_misfit (missing_fault place (required part.Link) ms) (order_fault place ms)) fine in
+    let others = right (fields_fault place part.Link ms) (or_misfit (missing_fault place (required part.Link) ms) (order_fault place ms)) fine in
+    let missing = left (missing_fault place (required part.Link) ms) (order_fault place ms) others in
+    let first = not_missing (is_some (get_member (codes "label") ms)) (missing_fault place (codes "address" ∷ []) ms) (at_key place (codes "label") (flaw bad.Missing)) missing in
+    let second = not_missing (is_some (get_member (codes "address") ms)) None (at_key place (codes "address") (flaw bad.Missing)) first.1 in
+    and_true _ _ (required_fits place part.Link (codes "label") Text ms fields refl refl first.0) (required_fits place part.Link (codes "address") Template ms fields refl refl second.0)
 
 -- a document without a fault describes a site whose values are valid
 pub site_is_valid : (doc : Members) → fault_of doc ≡ None → IsSite (site_of doc)
@@ -306,8 +344,10 @@ site_is_valid doc fine = record {
   request = text_in_fits (codes "library") (codes "request") part.Library Template doc fine refl refl refl refl;
   holdings = text_in_fits (codes "library") (codes "holdings") part.Library FileName doc fine refl refl refl refl;
   replaced = λ name known. ap (fits Text) (sym (text_is name doc)) ∙ text_in_fits (codes "texts") name part.Texts Text doc fine refl refl (rw known refl) refl;
-  prefix = text_in_fits (codes "proxy") (codes "prefix") part.Proxy Url doc fine refl refl refl refl;
+  prefix = text_in_fits (codes "proxy") (codes "prefix") part.Proxy Prefix doc fine refl refl refl refl;
   except = except_section doc (get_member (codes "proxy") doc) fine refl;
+  platforms = rows_in_fit (codes "platform") part.Platform platform_of is_platform_rule platform_fits doc (get_member (codes "platform") doc) fine refl refl refl;
   packages = rows_in_fit (codes "package") part.Package package_of is_package_rule package_fits doc (get_member (codes "package") doc) fine refl refl refl;
   titles = rows_in_fit (codes "title") part.Title title_of is_title_rule title_fits doc (get_member (codes "title") doc) fine refl refl refl;
+  links = rows_in_fit (codes "link") part.Link link_of is_link_rule link_fits doc (get_member (codes "link") doc) fine refl refl refl;
 }

@@ -1,20 +1,24 @@
 -- The first fault of a site file, in the order of the keys.
-use Rattle.std.specs.Prelude.{ℕ, ◌+◌, Bool, false, is_some, List, [], ◌∷◌, Option, Some, None, if◌then◌else◌, option_map, codes}
+use Rattle.std.specs.Prelude.{ℕ, ◌+◌, Bool, false, is_some, nat_lt, List, [], ◌∷◌, ◌++◌, Option, Some, None, if◌then◌else◌, option_map, codes, unwrap_or}
+use Rattle.std.specs.List.{list_any}
 use Rattle.std.specs.Option.{option_and_then}
+use Rattle.std.specs.Str.{str_eq_ignore_ascii_case}
 use Rattle.std.specs.Prelude.{int_lt}
 use Rattle.toml.specs.Data.{Data, Items, no_items, item, Members, no_members, member, as_str, as_bool, as_array, as_table, get_member}
 use Rattle.feed_dates.specs.DayRanges.{days_of}
 use Rattle.feed_dates.specs.declared.day_range.DayRange.{DayRange}
 use Rattle.node_site.specs.declared.kind.ValueKind.{ValueKind}
-use Rattle.node_site.specs.declared.kind.ValueKind.TheVariants.{Text, Language, Color, Url, Template, Package, FileName, Date, Switch, Hosts}
+use Rattle.node_site.specs.declared.kind.ValueKind.TheVariants.{Text, Note, Language, Color, Url, Template, Article, Prefix, Occasion, Package, FileName}
+use Rattle.node_site.specs.declared.kind.ValueKind.TheVariants.{Host, Date, Switch, Hosts}
 use Rattle.node_site.specs.declared.section.Section.{Section}
+use Rattle.node_site.specs.declared.section.Section.TheVariants as part
 use Rattle.node_site.specs.declared.fault.ValueFault.{ValueFault}
 use Rattle.node_site.specs.declared.fault.ValueFault.TheVariants as bad
 use Rattle.node_site.specs.declared.fault.Flaw.{Flaw}
 use Rattle.node_site.specs.Lookups.{text_at}
 use Rattle.node_site.specs.Urls.{is_host}
 use Rattle.node_site.specs.Kinds.{is_of}
-use Rattle.node_site.specs.Schema.{section_of, is_list, kind_of, required}
+use Rattle.node_site.specs.Schema.{section_of, is_list, kind_of, required, table_limit}
 
 -- a table of a section: the section's key, and the number of the table where the section is a list
 pub record PlaceValue : Type 0 where
@@ -36,12 +40,17 @@ or_misfit None other = other
 -- the reason why a text is not a value of its kind
 abbrev pub reason_of : ValueKind → ValueFault
 reason_of Text = bad.TextSize
+reason_of Note = bad.NoteSize
 reason_of Language = bad.Language
 reason_of Color = bad.Color
 reason_of Url = bad.Url
 reason_of Template = bad.Template
+reason_of Article = bad.Article
+reason_of Prefix = bad.Prefix
+reason_of Occasion = bad.Occasion
 reason_of Package = bad.Package
 reason_of FileName = bad.FileName
+reason_of Host = bad.Host
 reason_of Date = bad.Date
 reason_of Switch = bad.NotSwitch
 reason_of Hosts = bad.NotList
@@ -135,7 +144,9 @@ single_fault key section (Some ms) = table_fault (place_of key None) section ms
 
 abbrev pub row_fault : List ℕ → Section → ℕ → Option Members → Option MisfitValue
 row_fault key section row None = Some (at_table (place_of key (Some row)) bad.NotTable)
-row_fault key section row (Some ms) = table_fault (place_of key (Some row)) section ms
+row_fault key section row (Some ms) =
+    if nat_lt (table_limit section) row then Some (at_table (place_of key (Some row)) bad.TooMany)
+    else table_fault (place_of key (Some row)) section ms
 
 -- the first fault of the tables of a list from this number on
 abbrev pub rows_fault : List ℕ → Section → ℕ → Items → Option MisfitValue
@@ -143,9 +154,29 @@ rows_fault key section row no_items = None
 rows_fault key section row (item d ds) =
     or_misfit (row_fault key section row (as_table d)) (rows_fault key section (row + 1) ds)
 
+-- the host that a table is about
+abbrev pub host_in : Option Members → List ℕ
+host_in None = []
+host_in (Some ms) = unwrap_or (text_at (codes "host") ms) []
+
+abbrev pub twice_at : List ℕ → ℕ → MisfitValue
+twice_at key row = at_key (place_of key (Some row)) (codes "host") (flaw bad.Twice)
+
+-- the first table from this number on that is about a host of an earlier one, in any case of letters
+abbrev pub twice_from : List ℕ → List (List ℕ) → ℕ → Items → Option MisfitValue
+twice_from key hosts row no_items = None
+twice_from key hosts row (item d ds) =
+    if list_any (str_eq_ignore_ascii_case (host_in (as_table d))) hosts then Some (twice_at key row)
+    else twice_from key (hosts ++ host_in (as_table d) ∷ []) (row + 1) ds
+
+-- a platform has one table
+abbrev pub twice_fault : List ℕ → Section → Items → Option MisfitValue
+twice_fault key part.Platform items = twice_from key [] 1 items
+twice_fault key section items = None
+
 abbrev pub list_fault : List ℕ → Section → Option Items → Option MisfitValue
 list_fault key section None = Some (at_table (place_of key None) bad.NotList)
-list_fault key section (Some items) = rows_fault key section 1 items
+list_fault key section (Some items) = or_misfit (rows_fault key section 1 items) (twice_fault key section items)
 
 -- the first fault of a section
 abbrev pub section_fault : List ℕ → Data → Option Section → Option MisfitValue

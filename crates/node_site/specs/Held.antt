@@ -36,7 +36,7 @@ listed_title package_id (b ∷ id) rows = title_holding package_id (b ∷ id) ro
 abbrev pub listed_package : List ℕ → List TitleValue → Option HoldingValue
 listed_package package_id rows = title_holding package_id [] rows
 
--- what the library has of that of which nothing is said: all, or with `held = false` in `[library]` nothing
+-- what the library has of a title or a package that no table mentions: all, or with `held = false` in `[library]` nothing
 abbrev pub unlisted : SiteValue → HoldingValue
 unlisted site = record { is_held = site.holds_unlisted; first = None; last = None }
 

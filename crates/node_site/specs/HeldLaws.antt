@@ -47,7 +47,7 @@ abbrev pub AllIsHeld : Type 0
 AllIsHeld = (site : SiteValue) (package_id id : List ℕ) (first last : Option ℤ) (asked : Option DayRange)
     → site.packages ≡ [] → site.titles ≡ [] → site.listing ≡ [] → site.holds_unlisted ≡ true → library_has site package_id id first last asked ≡ true
 
--- a site whose default is turned round has nothing of which nothing is said
+-- a site with `held = false` as its default has nothing of what no table mentions
 abbrev pub UnlistedIsNotHeld : Type 0
 UnlistedIsNotHeld = (site : SiteValue) (package_id id : List ℕ) (first last : Option ℤ) (asked : Option DayRange)
     → title_holding package_id id site.titles ≡ None → listed_title package_id id (rows_of site.listing) ≡ None → package_holding package_id site.packages ≡ None

@@ -1,8 +1,8 @@
 -- A holdings file: what a library has of packages and titles, a line for each.
-use Rattle.std.specs.Prelude.{ℕ, ◌+◌, ◌-◌, ◌==◌, Bool, false, true, List, [], ◌∷◌, length, take, drop, map, filter, codes, slice_index, if◌then◌else◌, option_map}
+use Rattle.std.specs.Prelude.{ℕ, ◌+◌, ◌-◌, ◌==◌, Bool, false, true, List, [], ◌∷◌, length, count_by, take, drop, map, filter, codes, slice_index}
+use Rattle.std.specs.Prelude.{if◌then◌else◌, option_map, None}
 use Rattle.std.specs.Str.{bytes_eq}
 use Rattle.feed_dates.specs.DayRanges.{days_of}
-use Rattle.node_site.specs.Positions.{position_of}
 use Rattle.node_site.specs.Site.{HoldingValue, TitleValue, first_day, last_day}
 use Rattle.node_site.specs.Urls.{after_byte, before_byte}
 
@@ -23,7 +23,7 @@ line_at text place = without_return (before_byte 10 (drop place text))
 
 -- the number of this line: 1 for the first
 abbrev pub line_number : List ℕ → ℕ → ℕ
-line_number text place = (position_of (take place text)).line
+line_number text place = 1 + count_by (λ b. b == 10) (take place text)
 
 -- the names of the columns, in the first line
 abbrev pub header : List ℕ
@@ -84,7 +84,7 @@ holding_in cells = record {
 
 -- the row of a line
 abbrev pub row_of : List ℕ → TitleValue
-row_of line = record { package_id = (cells_of line).package_id; id = (cells_of line).id; holding = holding_in (cells_of line) }
+row_of line = record { package_id = (cells_of line).package_id; id = (cells_of line).id; note = None; holding = holding_in (cells_of line) }
 
 -- the rows of a file, in its order
 unfoldable pub rows_of : List ℕ → List TitleValue

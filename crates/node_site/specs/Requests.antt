@@ -1,35 +1,96 @@
--- The address of a library's request form, with the parts of a citation in their places.
-use Rattle.std.specs.Prelude.{ℕ, ◌==◌, Bool, true, false, List, [], ◌∷◌, ◌++◌, Option, Some, None, if◌then◌else◌}
-use Rattle.std.specs.Option.{option_and_then}
+-- The addresses of forms and of articles, with the parts of a citation in their places.
+use Rattle.std.specs.Prelude.{ℕ, ◌==◌, ◌||◌, Bool, true, false, not, List, [], ◌∷◌, ◌++◌, Option, Some, None, if◌then◌else◌, codes, drop, filter, take}
+use Rattle.std.specs.List.{flat_map, list_all}
+use Rattle.std.specs.Str.{bytes_eq}
 use Rattle.percent_encoding.specs.Percent.{percent_encode}
 use Rattle.percent_encoding.specs.declared.ascii_set.TheConstants.{NON_ALPHANUMERIC}
 use Rattle.feed_openurl.specs.Citations.{CitationValue, text_at}
+use Rattle.feed_openurl.specs.declared.citation_part.CitationPart.{CitationPart}
+use Rattle.feed_openurl.specs.declared.citation_part.CitationPart.TheVariants as part
+use Rattle.feed_openurl.specs.declared.citation_part.TheConstants.{PARTS}
 use Rattle.node_site.specs.Fields.{field_named}
 use Rattle.node_site.specs.Hosts.{is_link}
-use Rattle.node_site.specs.Site.{SiteValue}
 use Rattle.node_site.specs.declared.field.Field.{Field}
-use Rattle.node_site.specs.declared.field.Field.TheVariants.{Issn, Isbn, Cited}
+use Rattle.node_site.specs.declared.field.Field.TheVariants.{Issn, IssnPlain, Isbn, TitleId, Year, Month, Query, Cited}
 
--- a citation and the identifiers of a query, for the parts of a request form; an absent one is empty
+-- a citation, the identifiers of a query, its date as it is understood, such as `1996-03`, and the `title_id` of a row; an
+-- absent one is empty
 pub record CitedTitleValue : Type 0 where
   pub citation : CitationValue
   pub issn : List ℕ
   pub isbn : List ℕ
+  pub date : List ℕ
+  pub title_id : List ℕ
 
--- the part of a field
+-- each byte that is not a letter or a digit is escaped
+abbrev pub escaped : List ℕ → List ℕ
+escaped text = percent_encode NON_ALPHANUMERIC text
+
+-- the key of a part in OpenURL 1.0, behind the pairs before it
+abbrev pub key_of : CitationPart → List ℕ
+key_of part.Article = codes "&rft.atitle="
+key_of part.Title = codes "&rft.title="
+key_of part.Author = codes "&rft.au="
+key_of part.Date = codes "&rft.date="
+key_of part.Volume = codes "&rft.volume="
+key_of part.Issue = codes "&rft.issue="
+key_of part.Page = codes "&rft.spage="
+key_of part.Doi = codes "&rft_id=info%3Adoi%2F"
+key_of part.Pmid = codes "&rft_id=info%3Apmid%2F"
+key_of part.Genre = codes "&rft.genre="
+key_of part.LastName = codes "&rft.aulast="
+key_of part.FirstName = codes "&rft.aufirst="
+key_of part.LastPage = codes "&rft.epage="
+key_of part.Pages = codes "&rft.pages="
+key_of part.Series = codes "&rft.series="
+key_of part.Edition = codes "&rft.edition="
+key_of part.Publisher = codes "&rft.pub="
+key_of part.Place = codes "&rft.place="
+key_of part.Institution = codes "&rft.inst="
+
+-- a pair of a query, unless its value is absent
+abbrev pub pair_text : List ℕ → List ℕ → List ℕ
+pair_text key [] = []
+pair_text key (b ∷ text) = key ++ escaped (b ∷ text)
+
+abbrev pub part_pair : CitationValue → CitationPart → List ℕ
+part_pair citation part = pair_text (key_of part) (text_at citation part)
+
+-- the whole citation as the query of an OpenURL 1.0, which names no format
+unfoldable pub citation_query : CitedTitleValue → List ℕ
+citation_query cited =
+    codes "url_ver=Z39.88-2004" ++ (pair_text (codes "&rft.issn=") cited.issn
+    ++ (pair_text (codes "&rft.isbn=") cited.isbn ++ flat_map (part_pair cited.citation) PARTS))
+
+abbrev pub without_hyphens : List ℕ → List ℕ
+without_hyphens text = filter (λ b. not (b == 45)) text
+
+-- what is known for a field
 abbrev pub field_text : CitedTitleValue → Option Field → List ℕ
-field_text cited (Some Issn) = cited.issn
-field_text cited (Some Isbn) = cited.isbn
-field_text cited (Some (Cited part)) = text_at cited.citation part
 field_text cited None = []
+field_text cited (Some Issn) = cited.issn
+field_text cited (Some IssnPlain) = without_hyphens cited.issn
+field_text cited (Some Isbn) = cited.isbn
+field_text cited (Some TitleId) = cited.title_id
+field_text cited (Some Year) = take 4 cited.date
+field_text cited (Some Month) = take 2 (drop 5 cited.date)
+field_text cited (Some Query) = citation_query cited
+field_text cited (Some (Cited part)) = text_at cited.citation part
 
--- the part of this name
+-- a step of a path (RFC 3986, section 3.3). Browsers take `%2E` for a dot, so escaping does not change what it is
+abbrev pub is_step : List ℕ → Bool
+is_step text = bytes_eq text (codes ".") || bytes_eq text (codes "..")
+
+abbrev pub without_step : List ℕ → List ℕ
+without_step text = if is_step text then [] else text
+
+-- the part of this name; a step counts as absent
 abbrev pub part_of : CitedTitleValue → List ℕ → List ℕ
-part_of cited name = field_text cited (field_named name)
+part_of cited name = without_step (field_text cited (field_named name))
 
--- the same as it is in an address: each byte that is not a letter or a digit is escaped
+-- the same as it is in an address
 unfoldable pub part_text : CitedTitleValue → List ℕ → List ℕ
-part_text cited name = percent_encode NON_ALPHANUMERIC (part_of cited name)
+part_text cited name = escaped (part_of cited name)
 
 -- the rest of a template, in which each name in braces is replaced by its part; if a brace is open, `name` was read in it
 abbrev pub filled_from : CitedTitleValue → Bool → List ℕ → List ℕ → List ℕ
@@ -42,10 +103,26 @@ filled_from cited false name (b ∷ rest) =
 abbrev pub filled : CitedTitleValue → List ℕ → List ℕ
 filled cited template = filled_from cited false [] template
 
+-- the names in braces in the rest of a template, read the same way
+abbrev pub names_from : Bool → List ℕ → List ℕ → List (List ℕ)
+names_from is_open name [] = []
+names_from true name (b ∷ rest) = if b == 125 then name ∷ names_from false [] rest else names_from true (name ++ b ∷ []) rest
+names_from false name (b ∷ rest) = if b == 123 then names_from true [] rest else names_from false name rest
+
+abbrev pub names_in : List ℕ → List (List ℕ)
+names_in template = names_from false [] template
+
+abbrev pub is_given : List ℕ → Bool
+is_given [] = false
+is_given (b ∷ text) = true
+
+-- the part of this name is there, and those of all names of a template are
+abbrev pub gives : CitedTitleValue → List ℕ → Bool
+gives cited name = is_given (part_of cited name)
+
+abbrev pub gives_all : CitedTitleValue → List ℕ → Bool
+gives_all cited template = list_all (gives cited) (names_in template)
+
 -- a text, if it is safe to link to
 abbrev pub if_link : List ℕ → Option (List ℕ)
 if_link text = if is_link text then Some text else None
-
--- the link to the library's request form for a citation, if there is a form; parts can make it too long
-unfoldable pub request_link : SiteValue → CitedTitleValue → Option (List ℕ)
-request_link site cited = option_and_then (λ template. if_link (filled cited template)) site.request

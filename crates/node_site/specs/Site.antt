@@ -4,6 +4,8 @@ use Rattle.std.specs.Option.{option_and_then}
 use Rattle.std.specs.Str.{bytes_eq}
 use Rattle.toml.specs.Data.{Items, no_items, item, Members, no_members, member, as_str, as_table}
 use Rattle.feed_dates.specs.declared.day_range.DayRange.{DayRange}
+use Rattle.node_site.specs.declared.occasion.Occasion.{Occasion}
+use Rattle.node_site.specs.declared.occasion.Occasion.TheVariants.{Always, Hits, NoHits, Embargoed}
 use Rattle.node_site.specs.Lookups.{text_at, switch_at, items_at, table_at}
 use Rattle.node_site.specs.Faults.{days_at}
 
@@ -13,26 +15,47 @@ pub record HoldingValue : Type 0 where
   pub first : Option ℤ
   pub last : Option ℤ
 
--- a package, the name that readers see, and what the library has of it
+-- a package, the name that readers see, the address of its articles, a note for readers, whether its links may go through a
+-- proxy, and what the library has of it
 pub record PackageValue : Type 0 where
   pub id : List ℕ
   pub name : Option (List ℕ)
+  pub article : Option (List ℕ)
+  pub note : Option (List ℕ)
+  pub is_proxied : Bool
   pub holding : HoldingValue
 
--- a title of a package, and what the library has of it. In a holdings file, a row without a title is about the whole package
+-- a title of a package, a note for readers, and what the library has of it. In a holdings file, a row without a title is about
+-- the whole package
 pub record TitleValue : Type 0 where
   pub package_id : List ℕ
   pub id : List ℕ
+  pub note : Option (List ℕ)
   pub holding : HoldingValue
+
+-- a platform by its host: the address of its articles, and the prefix of its links in place of the site's, which may take them
+-- percent-encoded
+pub record PlatformValue : Type 0 where
+  pub host : List ℕ
+  pub article : Option (List ℕ)
+  pub prefix : Option (List ℕ)
+  pub encodes : Bool
+
+-- a link of the library: what readers see, its address with names in braces, and when it is shown
+pub record LinkRuleValue : Type 0 where
+  pub label : List ℕ
+  pub address : List ℕ
+  pub occasion : Occasion
 
 -- a text of the pages that the site replaces, by its name; a value that is not a text is none
 pub record ReplacedValue : Type 0 where
   pub name : List ℕ
   pub words : Option (List ℕ)
 
--- a site: what it says of the library, whether a browser is redirected to a sole hit, whether the library has that of which
--- nothing is said, the name of its holdings file, the texts that it replaces, the prefix of links and the hosts that need
--- none, the packages in the order in which they are shown, the titles, and the text of the holdings file
+-- a site: what it says of the library, whether a browser is redirected to a sole hit, whether the library has what no table
+-- mentions, the name of its holdings file, the texts that it replaces, the prefix of links, whether that takes them
+-- percent-encoded, and the hosts that need none, the platforms, the packages in the order in which they are shown, the titles,
+-- the links of the library, and the text of the holdings file
 pub record SiteValue : Type 0 where
   pub name : Option (List ℕ)
   pub language : Option (List ℕ)
@@ -45,9 +68,12 @@ pub record SiteValue : Type 0 where
   pub holdings : Option (List ℕ)
   pub replaced : List ReplacedValue
   pub prefix : Option (List ℕ)
+  pub encodes : Bool
   pub except : List (List ℕ)
+  pub platforms : List PlatformValue
   pub packages : List PackageValue
   pub titles : List TitleValue
+  pub links : List LinkRuleValue
   pub listing : List ℕ
 
 -- the text at a key of a section
@@ -107,6 +133,9 @@ abbrev pub package_of : Members → PackageValue
 package_of ms = record {
   id = or_empty (text_at (codes "id") ms);
   name = text_at (codes "name") ms;
+  article = text_at (codes "article") ms;
+  note = text_at (codes "note") ms;
+  is_proxied = unwrap_or (switch_at (codes "proxy") ms) true;
   holding = holding_of ms;
 }
 
@@ -114,7 +143,31 @@ abbrev pub title_of : Members → TitleValue
 title_of ms = record {
   package_id = or_empty (text_at (codes "package") ms);
   id = or_empty (text_at (codes "id") ms);
+  note = text_at (codes "note") ms;
   holding = holding_of ms;
+}
+
+abbrev pub platform_of : Members → PlatformValue
+platform_of ms = record {
+  host = or_empty (text_at (codes "host") ms);
+  article = text_at (codes "article") ms;
+  prefix = text_at (codes "prefix") ms;
+  encodes = unwrap_or (switch_at (codes "encode") ms) false;
+}
+
+-- when a link is shown: always, where nothing is said
+abbrev pub occasion_of : List ℕ → Occasion
+occasion_of text =
+    if bytes_eq text (codes "hits") then Hits
+    else if bytes_eq text (codes "no-hits") then NoHits
+    else if bytes_eq text (codes "embargoed") then Embargoed
+    else Always
+
+abbrev pub link_of : Members → LinkRuleValue
+link_of ms = record {
+  label = or_empty (text_at (codes "label") ms);
+  address = or_empty (text_at (codes "address") ms);
+  occasion = occasion_of (or_empty (text_at (codes "when") ms));
 }
 
 -- the tables of a list, each by a function
@@ -144,9 +197,12 @@ site_of doc = record {
   holdings = text_in (codes "library") (codes "holdings") doc;
   replaced = replaced_in (table_at (codes "texts") doc);
   prefix = text_in (codes "proxy") (codes "prefix") doc;
+  encodes = switch_in (codes "proxy") (codes "encode") false doc;
   except = texts_in (except_in doc);
+  platforms = rows_in platform_of (items_at (codes "platform") doc);
   packages = rows_in package_of (items_at (codes "package") doc);
   titles = rows_in title_of (items_at (codes "title") doc);
+  links = rows_in link_of (items_at (codes "link") doc);
   listing = [];
 }
 

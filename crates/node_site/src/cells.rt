@@ -13,7 +13,6 @@ use crate::cuts::{after, before, is_sized};
 use crate::fault::ValueFault;
 use crate::holding::Holding;
 use crate::holdings_fault::BadLine;
-use crate::position::position_of;
 use crate::text::{is_date, is_package};
 use feed_dates::DayRange;
 use std::marker::Model;
@@ -104,6 +103,14 @@ impl<'a> Cells<'a> {
         }
     }
 
+    /// Returns the package and the title that the line is about.
+    pub(crate) fn subject(&self) -> (&'a [u8], &'a [u8])
+        ensures package { result.0.now ≡ self.now.package_id }
+        ensures title { result.1.now ≡ self.now.id }
+    {
+        (self.package_id, self.id)
+    }
+
     /// Returns what the cells say that the library has.
     pub(crate) fn holding(&self) -> Holding
         ensures { result ≡ holding_in self.now }
@@ -172,17 +179,18 @@ fn cells_flaw(cells: &Cells<'_>) -> Option<CellFlaw>
     }
 }
 
-fn tabs_in(line: &[u8]) -> usize
-    ensures { result ≡ count_by (λ b. b == 9) line.now }
+fn count_of(byte: u8, text: &[u8]) -> usize
+    ensures { result ≡ count_by (λ b. b == byte) text.now }
 {
-    line.iter().filter(|byte| **byte == b'\t').count()
+    text.iter().filter(|other| **other == byte).count()
 }
 
+#[tactic(auto, using(crate::proofs::HoldingsRows::few_feeds))]
 fn line_number(text: &[u8], place: usize) -> usize
     requires { length text.now ≤ holdings_limit }
     ensures { result ≡ line_number text.now place }
 {
-    position_of(&text[..text.len().min(place)]).line
+    1 + count_of(b'\n', &text[..text.len().min(place)])
 }
 
 /// Returns the fault of the line that begins at a place, as a whole.
@@ -211,14 +219,20 @@ fn cell_fault(text: &[u8], place: usize, flaw: Option<CellFlaw>) -> Option<BadLi
     }
 }
 
-/// Returns what is wrong with the line that begins at a place.
-pub(crate) fn line_fault(text: &[u8], place: usize) -> Option<BadLine>
-    requires { length text.now ≤ holdings_limit }
+/// Returns what is wrong with the line that begins at a place and has these cells.
+pub(crate) fn line_fault(
+    text: &[u8],
+    place: usize,
+    line: &[u8],
+    cells: &Cells<'_>,
+) -> Option<BadLine>
+    requires short { length text.now ≤ holdings_limit }
+    requires line { line.now ≡ line_at text.now place }
+    requires cells { cells.now ≡ cells_of line.now }
     ensures { result ≡ line_fault text.now place }
 {
-    let line = line_at(text, place);
-    if tabs_in(line) == 4 {
-        cell_fault(text, place, cells_flaw(&Cells::of(line)))
+    if count_of(b'\t', line) == 4 {
+        cell_fault(text, place, cells_flaw(cells))
     } else {
         Some(at_line(text, place, ValueFault::Columns))
     }

@@ -1,8 +1,11 @@
 //! Finds the first fault of a document.
-ghost use Rattle.std.specs.Prelude.{◌≡◌, [], ◌∷◌};
+ghost use Rattle.std.specs.Prelude.{◌≡◌, [], ◌∷◌, take};
+ghost use Rattle.std.specs.List.{list_any};
+ghost use Rattle.std.specs.Str.{str_eq_ignore_ascii_case};
 ghost use Rattle.toml.specs.Data.{as_array, as_table};
 ghost use Rattle.toml.specs.View.{view, array_view, table_view};
-ghost use Rattle.node_site.specs.Faults.{days_at, fault_of, fields_fault, flaw, is_backward, kind_fault, list_fault};
+ghost use Rattle.node_site.specs.Faults.{days_at, fault_of, fields_fault, flaw, host_in, is_backward, kind_fault};
+ghost use Rattle.node_site.specs.Faults.{list_fault, twice_at, twice_fault, twice_from};
 ghost use Rattle.node_site.specs.Faults.{missing_fault, order_fault, place_of, row_fault, rows_fault, section_fault};
 ghost use Rattle.node_site.specs.Faults.{single_fault, table_fault};
 ghost use Rattle.node_site.specs.Schema.{kind_of, required, section_of};
@@ -85,10 +88,15 @@ fn missing_fault<'a>(
     match section {
         Section::Library | Section::Texts => None,
         Section::Proxy => lack(name, row, "prefix", table),
+        Section::Platform => lack(name, row, "host", table),
         Section::Package => lack(name, row, "id", table),
         Section::Title => match lack(name, row, "package", table) {
             Some(misfit) => Some(misfit),
             None => lack(name, row, "id", table),
+        },
+        Section::Link => match lack(name, row, "label", table) {
+            Some(misfit) => Some(misfit),
+            None => lack(name, row, "address", table),
         },
     }
 }
@@ -158,10 +166,13 @@ fn row_fault<'a>(
 ) -> Option<Misfit<'a>>
     ensures { result ≡ row_fault name.now section row (as_table (view value.now)) }
 {
-    match value.as_table() {
-        Some(table) => table_fault(section, name, Some(row), table),
-        None => Some(Misfit::at_table(name, Some(row), ValueFault::NotTable)),
+    let Some(table) = value.as_table() else {
+        return Some(Misfit::at_table(name, Some(row), ValueFault::NotTable));
+    };
+    if row > section.table_limit() {
+        return Some(Misfit::at_table(name, Some(row), ValueFault::TooMany));
     }
+    table_fault(section, name, Some(row), table)
 }
 
 // Returns the first fault of the tables of a list.
@@ -176,12 +187,72 @@ fn rows_fault<'a>(section: Section, name: &'a str, rows: &'a Array) -> Option<Mi
     None
 }
 
+// Returns the host that a table is about.
+fn host_in(row: &Value) -> &str
+    ensures { result.now ≡ host_in (as_table (view row.now)) }
+{
+    match row.as_table() {
+        Some(table) => text_at("host", table).unwrap_or(""),
+        None => "",
+    }
+}
+
+// Returns whether a host is that of a row, in any case of letters.
+fn is_host_of(row: &Value, host: &str) -> bool
+    ensures { result ≡ str_eq_ignore_ascii_case host.now (host_in (as_table (view row.now))) }
+{
+    host.eq_ignore_ascii_case(host_in(row))
+}
+
+// Returns the rows before a place.
+fn earlier(rows: &Array, place: usize) -> &[Value]
+    ensures { result.now ≡ take place rows.now.items }
+{
+    &rows[..rows.len().min(place)]
+}
+
+fn has_host(rows: &[Value], host: &str) -> bool
+    ensures { result ≡ list_any (λ v. str_eq_ignore_ascii_case host.now (host_in (as_table (view v)))) rows.now }
+{
+    rows.iter().any(|row| is_host_of(row, host))
+}
+
+fn twice_at(name: &str, row: usize) -> Misfit<'_>
+    ensures { result ≡ twice_at name.now row }
+{
+    Misfit::at_key(name, Some(row), "host", plain(ValueFault::Twice))
+}
+
+// Returns the first table that is about a host of an earlier one.
+fn twice_among<'a>(name: &'a str, rows: &'a Array) -> Option<Misfit<'a>>
+    ensures { result ≡ twice_from name.now [] 1 (array_view rows.now) }
+{
+    for index in 0..rows.len() {
+        if has_host(earlier(rows, index), host_in(&rows[index])) {
+            return Some(twice_at(name, index + 1));
+        }
+    }
+    None
+}
+
+fn twice_fault<'a>(section: Section, name: &'a str, rows: &'a Array) -> Option<Misfit<'a>>
+    ensures { result ≡ twice_fault name.now section (array_view rows.now) }
+{
+    match section {
+        Section::Platform => twice_among(name, rows),
+        _ => None,
+    }
+}
+
 fn list_fault<'a>(section: Section, name: &'a str, value: &'a Value) -> Option<Misfit<'a>>
     ensures { result ≡ list_fault name.now section (as_array (view value.now)) }
 {
-    match value.as_array() {
-        Some(rows) => rows_fault(section, name, rows),
-        None => Some(Misfit::at_table(name, None, ValueFault::NotList)),
+    let Some(rows) = value.as_array() else {
+        return Some(Misfit::at_table(name, None, ValueFault::NotList));
+    };
+    match rows_fault(section, name, rows) {
+        Some(misfit) => Some(misfit),
+        None => twice_fault(section, name, rows),
     }
 }
 

@@ -33,7 +33,8 @@ fn text_of(value: &Value) -> &str
     }
 }
 
-fn put_domain(
+/// Gives a domain a place in lower case, unless it has one.
+pub(crate) fn put_domain(
     alloc: Global,
     places: &mut Places,
     domain: &[u8],

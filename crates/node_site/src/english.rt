@@ -1,5 +1,5 @@
 //! The words of each text in English, in the order of the texts.
-pub(crate) static ENGLISH: [&'static str; 96] = [
+pub(crate) static ENGLISH: [&'static str; 98] = [
     "Full text",
     "Abstract only",
     "Holdings found",
@@ -21,6 +21,8 @@ pub(crate) static ENGLISH: [&'static str; 96] = [
     "Page",
     "not understood",
     "Read at",
+    "Read the article",
+    "The page of the journal",
     "Covers the whole of what you asked for",
     "Covers a part of the date that you asked for",
     "Not compared with a date or a volume",

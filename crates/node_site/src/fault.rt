@@ -18,14 +18,22 @@ pub enum ValueFault {
     NotSwitch,
     /// The text does not have 1 to 250 bytes.
     TextSize,
+    /// The text does not have 1 to 500 bytes.
+    NoteSize,
     /// The text is not a tag of a language.
     Language,
     /// The text is not a colour.
     Color,
     /// The text is not a URL of `http` or `https` with a host.
     Url,
-    /// The text is not such a URL, or a brace does not enclose a part of a citation.
+    /// The text is not such a URL, or a brace does not enclose a name of a field.
     Template,
+    /// The same of the address of an article, or it has no name.
+    Article,
+    /// The same of a prefix, in which the only name is `url`.
+    Prefix,
+    /// The text does not say when a link is shown.
+    Occasion,
     /// The text is not the name of a package.
     Package,
     /// The text is not the name of a file beside the site file.
@@ -36,6 +44,10 @@ pub enum ValueFault {
     Host,
     /// The last day is before the first.
     Order,
+    /// An earlier table is about the same host.
+    Twice,
+    /// There are more tables than the section may have.
+    TooMany,
     /// The first line of a holdings file is not its header.
     Header,
     /// The line does not have five cells.
@@ -57,6 +69,7 @@ impl ValueFault {
             ValueFault::NotText => "it is not a text in quotation marks",
             ValueFault::NotSwitch => "it is neither true nor false",
             ValueFault::TextSize => "the text does not have 1 to 250 bytes",
+            ValueFault::NoteSize => "the text does not have 1 to 500 bytes",
             ValueFault::Language => "it is not a tag of a language, as en-GB",
             ValueFault::Color => "it is not a colour, as #00539f",
             ValueFault::Url => {
@@ -66,6 +79,15 @@ impl ValueFault {
                 "it is not a URL of http or https with parts of a citation in braces, \
                 as https://library.example/ill?issn={issn}"
             }
+            ValueFault::Article => {
+                "it is not a URL of http or https with names in braces, at least one, \
+                as https://platform.example/{issn}/{volume}/{spage}"
+            }
+            ValueFault::Prefix => {
+                "it is not a URL of http or https with a / behind its host, \
+                as https://proxy.example/login?url= or https://proxy.example/?to={url}"
+            }
+            ValueFault::Occasion => "it is not always, hits, no-hits or embargoed",
             ValueFault::Package => {
                 "it is not the name of a package: 1 to 100 letters, digits, -, _ and ., not beginning with ."
             }
@@ -78,6 +100,8 @@ impl ValueFault {
             }
             ValueFault::Host => "it is not the name of a host, as library.example",
             ValueFault::Order => "it is before the first day",
+            ValueFault::Twice => "an earlier table has the same host",
+            ValueFault::TooMany => "there are too many tables: at most 256 platforms and 20 links",
             ValueFault::Header => {
                 "the first line does not have the names package, title_id, first, last and held, with tabs between them"
             }

@@ -1,5 +1,5 @@
 //! The words of each text in French, in the order of the texts.
-pub(crate) static FRENCH: [&'static str; 96] = [
+pub(crate) static FRENCH: [&'static str; 98] = [
     "Texte intégral",
     "Résumé seulement",
     "Ressources trouvées",
@@ -21,6 +21,8 @@ pub(crate) static FRENCH: [&'static str; 96] = [
     "Page",
     "non reconnu",
     "Lire sur",
+    "Lire l’article",
+    "La page de la revue",
     "Couvre toute votre demande",
     "Couvre une partie de la période demandée",
     "Non comparé à une date ou à un volume",

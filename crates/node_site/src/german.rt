@@ -1,5 +1,5 @@
 //! The words of each text in German, in the order of the texts.
-pub(crate) static GERMAN: [&'static str; 96] = [
+pub(crate) static GERMAN: [&'static str; 98] = [
     "Volltext",
     "Nur Zusammenfassung",
     "Bestand gefunden",
@@ -21,6 +21,8 @@ pub(crate) static GERMAN: [&'static str; 96] = [
     "Seite",
     "nicht erkannt",
     "Lesen bei",
+    "Artikel lesen",
+    "Zur Seite der Zeitschrift",
     "Deckt Ihre Anfrage vollständig ab",
     "Deckt einen Teil des gesuchten Zeitraums ab",
     "Nicht mit einem Datum oder Band verglichen",

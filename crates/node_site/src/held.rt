@@ -13,7 +13,7 @@ use crate::site_file::SiteFile;
 use feed_dates::DayRange;
 use toml::Table;
 
-// Returns what the library has of that of which nothing is said.
+// Returns what the library has of a title or a package that no table mentions.
 fn unlisted(site: &SiteFile) -> Holding
     ensures { result ≡ unlisted site.now }
 {

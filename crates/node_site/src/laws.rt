@@ -1,10 +1,11 @@
-//! Laws of the links of a page, of the links to a request form, and of what a library has: each is the contract of a
+//! Laws of the links of a page, of those to forms and articles, and of what a library has: each is the contract of a
 //! function with an empty body.
 ghost use Rattle.node_site.specs.Laws.{ExceptedIsDirect, FreeIsDirect, NoProxyIsDirect, OthersGoThrough};
 ghost use Rattle.node_site.specs.Laws.{LinkFits, SubdomainsAreWithin};
 ghost use Rattle.node_site.specs.HostLaws.{HostsAreStandard, LinksAreStandard};
 ghost use Rattle.node_site.specs.HeldLaws.{AllIsHeld, HeldDaysAreShown, OffIsNotHeld, UnlistedIsNotHeld};
-ghost use Rattle.node_site.specs.RequestLaws.{PartsAddNoMarks, RequestsAreLinks, RequestsKeepHost};
+ghost use Rattle.node_site.specs.RequestLaws.{ArticlesAreWhole, PartsAddNoMarks, PartsAreNoSteps, RequestsAreLinks};
+ghost use Rattle.node_site.specs.RequestLaws.{RequestsKeepHost};
 ghost use Rattle.node_site.specs.SitesLaws.{CaseDoesNotCount, OtherSiteDecides, OwnSiteDecides};
 ghost use Rattle.node_site.specs.TextLaws.{TextsHaveNames};
 
@@ -18,12 +19,13 @@ pub fn excepted_is_direct()
     ensures { ExceptedIsDirect }
 {}
 
-/// Without a proxy each link is its target.
+/// Without a proxy, and without a prefix of a platform, each link is its target.
 pub fn no_proxy_is_direct()
     ensures { NoProxyIsDirect }
 {}
 
-/// Every other link begins with the prefix of the proxy, and the rest is the target, or decodes to it.
+/// Every other link is the prefix of its platform or of the site, and the target is in the place of the address: as it
+/// is, or what decodes to it.
 pub fn others_go_through()
     ensures { OthersGoThrough }
 {}
@@ -65,25 +67,36 @@ pub fn all_is_held()
     ensures { AllIsHeld }
 {}
 
-/// With `held = false` as the default, a library has nothing of a title of which nothing is said, nor of its package.
+/// With `held = false` as the default, a library has nothing of a title that no table mentions, nor of its package.
 pub fn unlisted_is_not_held()
     ensures { UnlistedIsNotHeld }
 {}
 
-/// A citation adds no byte but letters, digits and `%` to the link to a request form: it ends no value and begins no
-/// parameter.
+/// A citation adds no byte but letters, digits and `%` to a link to a form or to an article: it ends no value and
+/// begins no parameter.
 pub fn parts_add_no_marks()
     ensures { PartsAddNoMarks }
 {}
 
-/// The link to a request form has the host of its template.
+/// Such a link has the host of its template.
 pub fn requests_keep_host()
     ensures { RequestsKeepHost }
 {}
 
-/// The link to a request form is safe in a page.
+/// No part is a step of a path, also where it is escaped.
+pub fn parts_are_no_steps()
+    ensures { PartsAreNoSteps }
+{}
+
+/// Each link of a library is safe in a page.
 pub fn requests_are_links()
     ensures { RequestsAreLinks }
+{}
+
+/// A row has a link to an article exactly if the citation has each name of the template of the row's package or
+/// platform, and the link that this gives is safe. It goes through a proxy as the link to the row does.
+pub fn articles_are_whole()
+    ensures { ArticlesAreWhole }
 {}
 
 /// Each text can be replaced by its name.

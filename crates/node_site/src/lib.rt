@@ -1,32 +1,45 @@
-//! The site file of a library: its name and colour, its proxy, its request form, and which packages it has; the
+//! The site file of a library: its name and colour, its proxy, its links, and which packages it has; the
 //! holdings file beside it, which lists titles; the sites of several hosts; and the texts of the pages in English,
 //! German and French, which a site may replace.
 #![tactic(auto)]
 
+mod articles;
 mod bytes;
 mod cells;
 mod checks;
+mod cited;
 mod column;
 mod cuts;
 mod domains;
 mod english;
+mod entry;
 mod fault;
 mod field;
+mod filling;
 mod french;
 mod german;
 mod held;
 mod holding;
+mod holdings_clash;
 mod holdings_fault;
 mod holdings_file;
+mod holdings_reading;
+mod holdings_rows;
 mod hosts;
 mod kind;
 mod laws;
+mod library_link;
 mod links;
 mod lookup;
+mod merge;
+mod notes;
+mod occasion;
+mod open_prefixes;
 mod packages;
 mod places;
+mod platforms;
 mod position;
-mod request;
+mod prefixes;
 mod section;
 mod site_fault;
 mod site_file;
@@ -41,23 +54,30 @@ mod title_places;
 mod urls;
 mod values;
 
+pub use articles::{article_link, doi_link, is_direct};
+pub use cited::CitedTitle;
 pub use column::Column;
 pub use fault::ValueFault;
 pub use held::library_has;
 pub use holdings_fault::{BadLine, HoldingsFault};
-pub use holdings_file::HOLDINGS_LIMIT;
+pub use holdings_file::HoldingsFile;
+pub use holdings_reading::{HoldingsReading, ReadingStep};
+pub use holdings_rows::HOLDINGS_LIMIT;
 pub use hosts::{host_of, is_link, shown_host};
 pub use laws::{
-    all_is_held, case_does_not_count, excepted_is_direct, free_is_direct, held_days_are_shown,
-    hosts_are_standard, link_fits, links_are_standard, no_proxy_is_direct, off_is_not_held,
-    other_site_decides, others_go_through, own_site_decides, parts_add_no_marks,
-    requests_are_links, requests_keep_host, subdomains_are_within, texts_have_names,
-    unlisted_is_not_held,
+    all_is_held, articles_are_whole, case_does_not_count, excepted_is_direct, free_is_direct,
+    held_days_are_shown, hosts_are_standard, link_fits, links_are_standard, no_proxy_is_direct,
+    off_is_not_held, other_site_decides, others_go_through, own_site_decides, parts_add_no_marks,
+    parts_are_no_steps, requests_are_links, requests_keep_host, subdomains_are_within,
+    texts_have_names, unlisted_is_not_held,
 };
-pub use links::{left_beside, link_to, may_be_link, prefix_for, proxied};
+pub use library_link::{LibraryLink, library_links};
+pub use links::{left_beside, may_be_link, proxied};
+pub use notes::note_on;
+pub use occasion::{LinkUse, SearchOutcome};
+pub use open_prefixes::{OpenPrefix, prefixes_left_open};
 pub use packages::{name_for_readers, package_place, shown_package};
 pub use position::Position;
-pub use request::{CitedTitle, request_link};
 pub use site_fault::{KeyFault, SiteFault};
 pub use site_file::{SITE_LIMIT, SiteFile};
 pub use sites::{SITES_LIMIT, Sites, SitesFault};

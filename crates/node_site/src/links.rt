@@ -1,51 +1,20 @@
-//! The links of a page: which of them go through the library's proxy, and how.
-ghost use Rattle.std.specs.Prelude.{◌≡◌, ◌-◌, ◌++◌, Bool, IfOk, OnOk, false, string_bytes, option_copied};
+//! The links of a page: which of them go through a proxy, and how.
+ghost use Rattle.std.specs.Prelude.{◌≡◌, ◌-◌, ◌++◌, IfOk, OnOk, false, string_bytes};
 ghost use Rattle.std.specs.Bool.{OnFalse};
 ghost use Rattle.std.specs.Option.{option_map_or};
 ghost use Rattle.std.specs.Cow.{cow_slice_items};
 ghost use Rattle.percent_encoding.specs.Percent.{percent_encode};
 ghost use Rattle.percent_encoding.specs.declared.ascii_set.TheConstants.{NON_ALPHANUMERIC};
 ghost use Rattle.node_site.specs.Hosts.{is_link};
-ghost use Rattle.node_site.specs.Proxies.{encodes, is_proxied, prefix_for, proxied, room_of, through, written_target};
+ghost use Rattle.node_site.specs.Proxies.{prefix_for, proxied, room_of, through, written_target};
 
 use crate::hosts::{URL_LIMIT, host_of};
+use crate::prefixes::{Prefix, prefix_for};
 use crate::site_file::SiteFile;
 use crate::urls::is_all_visible;
 use percent_encoding::{NON_ALPHANUMERIC, percent_encode};
 use std::alloc::{AllocError, Global};
 use std::borrow::CowSlice;
-
-// The end of a prefix that takes the target percent-encoded.
-const ENCODING_END: &[u8] = b"qurl=";
-
-fn encodes(prefix: &[u8]) -> bool
-    ensures { result ≡ encodes prefix.now }
-{
-    let start = prefix.len().saturating_sub(5);
-    &prefix[start..] == ENCODING_END
-}
-
-// Returns whether a prefix takes the target percent-encoded.
-fn is_encoded(prefix: Option<&str>) -> bool
-    ensures { result ≡ option_map_or encodes (option_copied prefix.entry) false }
-{
-    match prefix {
-        Some(prefix) => encodes(prefix.as_bytes()),
-        None => false,
-    }
-}
-
-fn is_proxied(site: &SiteFile, target: &[u8], is_free: bool) -> bool
-    ensures { result ≡ is_proxied site.now target.now is_free }
-{
-    if is_free {
-        return false;
-    }
-    match host_of(target) {
-        Some(host) => !site.is_excepted(host),
-        None => false,
-    }
-}
 
 /// Returns the target with `%` and two hexadecimal digits for each byte that is not a letter or a digit.
 pub(crate) fn encoded(alloc: Global, target: &[u8]) -> Result<String, AllocError>
@@ -59,12 +28,12 @@ pub(crate) fn encoded(alloc: Global, target: &[u8]) -> Result<String, AllocError
 fn put_target(
     alloc: Global,
     link: &mut Vec<u8>,
-    prefix: &[u8],
+    is_encoded: bool,
     target: &[u8],
 ) -> Result<(), AllocError>
-    ensures { OnOk result (link.new.items ≡ link.old.items ++ written_target prefix.now target.now) }
+    ensures { OnOk result (link.new.items ≡ link.old.items ++ written_target is_encoded target.now) }
 {
-    if encodes(prefix) {
+    if is_encoded {
         let text = encoded(alloc, target)?;
         link.extend_from_slice(text.as_bytes())
     } else {
@@ -72,76 +41,43 @@ fn put_target(
     }
 }
 
-fn joined(alloc: Global, prefix: &[u8], target: &[u8]) -> Result<Vec<u8>, AllocError>
-    ensures { IfOk result (λ link. link.items ≡ prefix.now ++ written_target prefix.now target.now) }
+fn joined(alloc: Global, prefix: &Prefix<'_>, target: &[u8]) -> Result<Vec<u8>, AllocError>
+    ensures { IfOk result (λ link. link.items
+        ≡ prefix.now.front ++ (written_target prefix.now.is_encoded target.now ++ prefix.now.rest)) }
 {
-    let mut link = Vec::from_slice(alloc, prefix)?;
-    put_target(alloc, &mut link, prefix, target)?;
+    let mut link = Vec::from_slice(alloc, prefix.front)?;
+    put_target(alloc, &mut link, prefix.is_encoded, target)?;
+    link.extend_from_slice(prefix.rest)?;
     Ok(link)
 }
 
-/// Returns the prefix of the link to a target: that of the proxy, unless the target is free to read, its host is one
-/// that needs no proxy, or the library has none.
-pub fn prefix_for<'a>(site: &'a SiteFile, target: &[u8], is_free: bool) -> Option<&'a str>
-    ensures { option_copied result ≡ prefix_for site.now target.now is_free }
+// Returns whether the target is percent-encoded in the link to it.
+fn is_encoded(site: &SiteFile, target: &[u8], is_direct: bool) -> bool
+    ensures { result ≡ option_map_or (λ p. p.is_encoded) (prefix_for site.now target.now is_direct) false }
 {
-    if is_proxied(site, target, is_free) {
-        site.prefix()
-    } else {
-        None
+    match prefix_for(site, target, is_direct) {
+        Some(prefix) => prefix.is_encoded,
+        None => false,
     }
 }
 
 /// Returns false only if the link to a target is not safe ([`is_link`](crate::is_link)). Looks at the length of the
 /// target, its bytes and its host, and does not write the link.
-pub fn may_be_link(site: &SiteFile, target: &[u8]) -> bool
-    ensures { OnFalse result ((is_free : Bool)
-        → is_link (through (prefix_for site.now target.now is_free) target.now) ≡ false) }
+#[tactic(auto, using(crate::proofs::Through::no_odd, crate::proofs::Through::no_hostless))]
+pub fn may_be_link(site: &SiteFile, target: &[u8], is_direct: bool) -> bool
+    ensures { OnFalse result (is_link (proxied site.now target.now is_direct) ≡ false) }
 {
-    target.len() <= URL_LIMIT
-        && (is_encoded(site.prefix()) || is_all_visible(target))
-        && host_of(target).is_some()
-}
-
-/// Returns the link to a target behind a prefix, which takes it as it is or percent-encoded. Without a prefix the link
-/// is the target.
-///
-/// # Errors
-///
-/// Running out of memory.
-pub fn link_to<'a>(
-    alloc: Global,
-    prefix: Option<&str>,
-    target: &'a [u8],
-) -> Result<CowSlice<'a, u8, Global>, AllocError>
-    ensures { IfOk result (λ link. cow_slice_items link ≡ through (option_copied prefix.entry) target.now) }
-{
-    match prefix {
-        Some(prefix) => Ok(CowSlice::Owned(joined(alloc, prefix.as_bytes(), target)?)),
-        None => Ok(CowSlice::Borrowed(target)),
+    if target.len() > URL_LIMIT {
+        return false;
     }
-}
-
-/// Returns how many of some bytes are left beside the link to a target behind a prefix. Counts three bytes for each
-/// byte of a target that is percent-encoded.
-pub fn left_beside(bytes: usize, prefix: Option<&str>, target: &[u8]) -> usize
-    ensures { result ≡ bytes - room_of (option_copied prefix.entry) target.now }
-{
-    let Some(prefix) = prefix else {
-        return bytes.saturating_sub(target.len());
-    };
-    let left = bytes
-        .saturating_sub(prefix.len())
-        .saturating_sub(target.len());
-    if encodes(prefix.as_bytes()) {
-        left.saturating_sub(target.len())
-            .saturating_sub(target.len())
-    } else {
-        left
+    if !host_of(target).is_some() {
+        return false;
     }
+    is_all_visible(target) || is_encoded(site, target, is_direct)
 }
 
-/// Returns the link to a target as a page has it: behind its prefix, if it goes through the proxy.
+/// Returns the link to a target as a page has it: through the proxy of its platform or of the site, unless it is direct
+/// or the host of the target needs no proxy. Then it is the target.
 ///
 /// # Errors
 ///
@@ -151,9 +87,32 @@ pub fn proxied<'a>(
     alloc: Global,
     site: &SiteFile,
     target: &'a [u8],
-    is_free: bool,
+    is_direct: bool,
 ) -> Result<CowSlice<'a, u8, Global>, AllocError>
-    ensures { IfOk result (λ link. cow_slice_items link ≡ proxied site.now target.now is_free) }
+    ensures { IfOk result (λ link. cow_slice_items link ≡ proxied site.now target.now is_direct) }
 {
-    link_to(alloc, prefix_for(site, target, is_free), target)
+    match prefix_for(site, target, is_direct) {
+        Some(prefix) => Ok(CowSlice::Owned(joined(alloc, &prefix, target)?)),
+        None => Ok(CowSlice::Borrowed(target)),
+    }
+}
+
+/// Returns how many of some bytes are left beside the link to a target. Counts three bytes for each byte of a target
+/// that is percent-encoded.
+pub fn left_beside(bytes: usize, site: &SiteFile, target: &[u8], is_direct: bool) -> usize
+    ensures { result ≡ bytes - room_of (prefix_for site.now target.now is_direct) target.now }
+{
+    let Some(prefix) = prefix_for(site, target, is_direct) else {
+        return bytes.saturating_sub(target.len());
+    };
+    let left = bytes
+        .saturating_sub(prefix.front.len())
+        .saturating_sub(target.len())
+        .saturating_sub(prefix.rest.len());
+    if prefix.is_encoded {
+        left.saturating_sub(target.len())
+            .saturating_sub(target.len())
+    } else {
+        left
+    }
 }

@@ -1,25 +1,30 @@
 //! The sections of a site file, and the kind of value of each key.
 ghost use Rattle.std.specs.Prelude.{◌≡◌};
-ghost use Rattle.node_site.specs.Schema.{holding_kind, is_list, kind_of, library_kind, package_kind, proxy_kind};
-ghost use Rattle.node_site.specs.Schema.{section_of, texts_kind, title_kind};
+ghost use Rattle.node_site.specs.Schema.{holding_kind, is_list, kind_of, library_kind, link_kind, package_kind};
+ghost use Rattle.node_site.specs.Schema.{platform_kind, proxy_kind, section_of, table_limit, texts_kind, title_kind};
 
 use crate::kind::ValueKind;
+use crate::site_file::SITE_LIMIT;
 use crate::text_words::is_name;
 
 /// A section of a site file.
 #[derive(Clone, Copy)]
 pub(crate) enum Section {
     /// `[library]`: the names, the addresses and the colour of the page, whether a sole hit is redirected to, and what
-    /// the library has of that of which nothing is said.
+    /// the library has of what no table mentions.
     Library,
     /// `[texts]`: the texts of the pages that the site replaces.
     Texts,
     /// `[proxy]`: the prefix of links, and the hosts that need none.
     Proxy,
-    /// `[[package]]`: the name of a package, and what the library has of it.
+    /// `[[platform]]`: the address of the articles at a host, and the prefix of the links to it.
+    Platform,
+    /// `[[package]]`: the name of a package, the address of its articles, a note, and what the library has of it.
     Package,
-    /// `[[title]]`: what the library has of a title.
+    /// `[[title]]`: a note on a title, and what the library has of it.
     Title,
+    /// `[[link]]`: a link of the library beside the hits.
+    Link,
 }
 
 /// Returns the section of a key at the top of the file.
@@ -30,8 +35,10 @@ pub(crate) fn section_of(key: &str) -> Option<Section>
         "library" => Some(Section::Library),
         "texts" => Some(Section::Texts),
         "proxy" => Some(Section::Proxy),
+        "platform" => Some(Section::Platform),
         "package" => Some(Section::Package),
         "title" => Some(Section::Title),
+        "link" => Some(Section::Link),
         _ => None,
     }
 }
@@ -67,8 +74,21 @@ fn proxy_kind(key: &str) -> Option<ValueKind>
     ensures { result ≡ proxy_kind key.now }
 {
     match key {
-        "prefix" => Some(ValueKind::Url),
+        "prefix" => Some(ValueKind::Prefix),
+        "encode" => Some(ValueKind::Switch),
         "except" => Some(ValueKind::Hosts),
+        _ => None,
+    }
+}
+
+fn platform_kind(key: &str) -> Option<ValueKind>
+    ensures { result ≡ platform_kind key.now }
+{
+    match key {
+        "host" => Some(ValueKind::Host),
+        "article" => Some(ValueKind::Article),
+        "prefix" => Some(ValueKind::Prefix),
+        "encode" => Some(ValueKind::Switch),
         _ => None,
     }
 }
@@ -90,6 +110,9 @@ fn package_kind(key: &str) -> Option<ValueKind>
     match key {
         "id" => Some(ValueKind::Package),
         "name" => Some(ValueKind::Text),
+        "article" => Some(ValueKind::Article),
+        "note" => Some(ValueKind::Note),
+        "proxy" => Some(ValueKind::Switch),
         _ => holding_kind(key),
     }
 }
@@ -100,7 +123,19 @@ fn title_kind(key: &str) -> Option<ValueKind>
     match key {
         "package" => Some(ValueKind::Package),
         "id" => Some(ValueKind::Text),
+        "note" => Some(ValueKind::Note),
         _ => holding_kind(key),
+    }
+}
+
+fn link_kind(key: &str) -> Option<ValueKind>
+    ensures { result ≡ link_kind key.now }
+{
+    match key {
+        "label" => Some(ValueKind::Text),
+        "address" => Some(ValueKind::Template),
+        "when" => Some(ValueKind::Occasion),
+        _ => None,
     }
 }
 
@@ -111,7 +146,18 @@ impl Section {
     {
         match self {
             Section::Library | Section::Texts | Section::Proxy => false,
-            Section::Package | Section::Title => true,
+            Section::Platform | Section::Package | Section::Title | Section::Link => true,
+        }
+    }
+
+    /// Returns the most tables of the section.
+    pub(crate) fn table_limit(self) -> usize
+        ensures { result ≡ table_limit self }
+    {
+        match self {
+            Section::Platform => 256,
+            Section::Link => 20,
+            _ => SITE_LIMIT,
         }
     }
 
@@ -123,8 +169,10 @@ impl Section {
             Section::Library => library_kind(key),
             Section::Texts => texts_kind(key),
             Section::Proxy => proxy_kind(key),
+            Section::Platform => platform_kind(key),
             Section::Package => package_kind(key),
             Section::Title => title_kind(key),
+            Section::Link => link_kind(key),
         }
     }
 }

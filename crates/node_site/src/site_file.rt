@@ -1,5 +1,5 @@
 //! The site file, and how it is read.
-ghost use Rattle.std.specs.Prelude.{◌≡◌, ◌≤◌, IfErr, IfOk, OnErr, OnOk, Some, length, option_copied, option_map, take};
+ghost use Rattle.std.specs.Prelude.{◌≡◌, ◌≤◌, IfErr, IfOk, Some, length, option_copied, option_map, take};
 ghost use Rattle.std.specs.List.{find, position_or_len};
 ghost use Rattle.toml.specs.Errors.{IsMemory, IsWithin, span_start};
 ghost use Rattle.toml.specs.Parse.{parse_document};
@@ -9,17 +9,19 @@ ghost use Rattle.node_site.specs.HoldingsFiles.{rows_of};
 ghost use Rattle.node_site.specs.Indexes.{count_in, row_at, row_in};
 ghost use Rattle.node_site.specs.Limits.{site_limit};
 ghost use Rattle.node_site.specs.Positions.{position_of};
-ghost use Rattle.node_site.specs.Site.{except_in, package_of, replacement, switch_in, text_in, title_of};
+ghost use Rattle.node_site.specs.Platforms.{platform_at};
+ghost use Rattle.node_site.specs.Site.{except_in, link_of, package_of, platform_of, replacement, rows_in, switch_in};
+ghost use Rattle.node_site.specs.Site.{text_in, title_of};
 ghost use Rattle.node_site.specs.Syntax.{IsTextFault};
 
 use crate::checks::fault_of;
 use crate::domains::Domains;
 use crate::holding::Holding;
-use crate::holdings_fault::HoldingsFault;
 use crate::holdings_file::HoldingsFile;
 use crate::lookup::{items_at, switch_at, table_at, text_at};
 use crate::packages::package_places;
 use crate::places::Places;
+use crate::platforms::{place_of_host, platform_places};
 use crate::position::position_of;
 use crate::site_fault::{KeyFault, SiteFault};
 use crate::title_places::{TitlePlaces, title_places};
@@ -37,6 +39,7 @@ pub const SITE_LIMIT: usize = 65_536;
 #[derive(Drop)]
 pub struct SiteFile {
     document: Table,
+    platforms: Places,
     packages: Places,
     titles: TitlePlaces,
     domains: Domains,
@@ -56,7 +59,7 @@ impl Model for SiteFile {
     ghost view = { λ s. with_listing (unwrap_or s.listing []) (site_of (table_view s.document)) };
 
     ghost invariant = { λ s. (fault_of (table_view s.document) ≡ None)
-        × AreIndexes (table_view s.document) s.packages s.titles s.domains };
+        × AreIndexes (table_view s.document) s.platforms s.packages s.titles s.domains };
 }
 
 // Returns the text at a key of a section.
@@ -159,11 +162,13 @@ impl SiteFile {
         ensures value { IfOk result (λ site. site ≡ site_of (table_view document)) }
         ensures valid { IfOk result IsSite }
     {
+        let platforms = platform_places(alloc, items_at("platform", &document))?;
         let packages = package_places(alloc, items_at("package", &document))?;
         let titles = title_places(alloc, items_at("title", &document))?;
         let domains = Domains::of(alloc, except_in(&document))?;
         Ok(SiteFile {
             document,
+            platforms,
             packages,
             titles,
             domains,
@@ -207,28 +212,13 @@ impl SiteFile {
 }
 
 impl SiteFile {
-    ghost use Rattle.node_site.specs.HoldingsFaults.{IsHoldingsFault, IsHoldingsFile};
     ghost use Rattle.node_site.specs.Site.{with_listing};
 
-    /// Reads the holdings file that the site file names. It replaces one that was read before.
-    ///
-    /// # Errors
-    ///
-    /// The bytes are too long or not UTF-8, a line is not accepted or contradicts another one, or an allocation fails.
-    /// The site is as before then.
-    pub fn read_holdings(&mut self, alloc: Global, bytes: Vec<u8>) -> Result<(), HoldingsFault>
-        ensures read { OnOk result (IsHoldingsFile bytes.items) }
-        ensures listed { OnOk result (self.new ≡ with_listing bytes.items self.old) }
-        ensures refused { IfErr result (IsHoldingsFault bytes.items) }
-        ensures same { OnErr result (self.new ≡ self.old) }
+    /// Sets the holdings file that the site file names. It replaces one that was set before.
+    pub fn set_holdings(&mut self, file: HoldingsFile)
+        ensures { self.new ≡ with_listing file self.old }
     {
-        match HoldingsFile::read(alloc, bytes) {
-            Ok(listing) => {
-                self.listing = Some(listing);
-                Ok(())
-            }
-            Err(fault) => Err(fault),
-        }
+        self.listing = Some(file);
     }
 }
 
@@ -285,7 +275,7 @@ impl SiteFile {
         switch_in("library", "redirect_sole_hit", false, &self.document)
     }
 
-    /// Returns whether the library has that of which nothing is said.
+    /// Returns whether the library has what no table mentions.
     pub(crate) fn holds_unlisted(&self) -> bool
         ensures { result ≡ self.now.holds_unlisted }
     {
@@ -312,6 +302,37 @@ impl SiteFile {
         ensures { option_copied result ≡ self.now.prefix }
     {
         text_in("proxy", "prefix", &self.document)
+    }
+
+    /// Returns whether the prefix takes the address percent-encoded.
+    pub fn encodes(&self) -> bool
+        ensures { result ≡ self.now.encodes }
+    {
+        switch_in("proxy", "encode", false, &self.document)
+    }
+
+    /// Returns the table about the platform of a host, in any case of letters.
+    pub(crate) fn platform_table(&self, host: &[u8]) -> Option<&Table>
+        ensures { option_map (λ m. platform_of (table_view m.now)) result ≡ platform_at self.now.platforms host.now }
+    {
+        row_in(
+            place_of_host(&self.platforms, host),
+            items_at("platform", &self.document),
+        )
+    }
+
+    /// Returns the tables about platforms.
+    pub(crate) fn platform_tables(&self) -> Option<&Array>
+        ensures { rows_in platform_of (option_map (λ v. array_view v.now) result) ≡ self.now.platforms }
+    {
+        items_at("platform", &self.document)
+    }
+
+    /// Returns the tables about the links of the library.
+    pub(crate) fn link_tables(&self) -> Option<&Array>
+        ensures { rows_in link_of (option_map (λ v. array_view v.now) result) ≡ self.now.links }
+    {
+        items_at("link", &self.document)
     }
 
     /// Returns the first table about a package.

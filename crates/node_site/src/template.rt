@@ -1,42 +1,34 @@
-//! The template of a request form's address: a URL with parts of a citation in braces.
+//! The templates of addresses: URLs with names in braces, which parts of a citation replace.
 ghost use Rattle.std.specs.Prelude.{◌≡◌, drop, option_copied};
 ghost use Rattle.std.specs.List.{list_all, list_any};
-ghost use Rattle.node_site.specs.Kinds.{ends_authority, has_end, has_fields, is_after_open, is_field, is_front};
-ghost use Rattle.node_site.specs.Kinds.{is_template};
+ghost use Rattle.node_site.specs.Kinds.{ends_authority, has_end, has_fields, is_after_open, is_article, is_front};
+ghost use Rattle.node_site.specs.Kinds.{is_prefix, is_template};
 ghost use Rattle.node_site.specs.Urls.{parts_between};
 
 use crate::cuts::{after, before, has};
-use crate::field::Field;
+use crate::field::Names;
 use crate::hosts::is_link;
 use crate::urls::after_scheme;
 
-// Returns whether a text names a part of a citation, or an identifier.
-#[tactic(auto, unfolding(crate::specs::Kinds::is_field))]
-fn is_field(name: &[u8]) -> bool
-    ensures { result ≡ is_field name.now }
+// Returns whether the text after an opening brace of a template begins with a name and the closing brace.
+fn is_after_open(names: Names, piece: &[u8]) -> bool
+    ensures { result ≡ is_after_open names piece.now }
 {
-    Field::named(name).is_some()
+    has(b'}', piece) && names.allow(before(b'}', piece)) && !has(b'}', after(b'}', piece))
 }
 
-// Returns whether the text after an opening brace of a template begins with a part of a citation and the closing brace.
-fn is_after_open(piece: &[u8]) -> bool
-    ensures { result ≡ is_after_open piece.now }
-{
-    has(b'}', piece) && is_field(before(b'}', piece)) && !has(b'}', after(b'}', piece))
-}
-
-fn are_after_open(text: &[u8]) -> bool
-    ensures { result ≡ list_all is_after_open (drop 1 (parts_between 123 text.now)) }
+fn are_after_open(names: Names, text: &[u8]) -> bool
+    ensures { result ≡ list_all (is_after_open names) (drop 1 (parts_between 123 text.now)) }
 {
     text.split(|byte| *byte == b'{')
         .skip(1)
-        .all(|piece| is_after_open(piece))
+        .all(|piece| is_after_open(names, piece))
 }
 
-fn has_fields(text: &[u8]) -> bool
-    ensures { result ≡ has_fields text.now }
+fn has_fields(names: Names, text: &[u8]) -> bool
+    ensures { result ≡ has_fields names text.now }
 {
-    !has(b'}', before(b'{', text)) && are_after_open(text)
+    !has(b'}', before(b'{', text)) && are_after_open(names, text)
 }
 
 fn ends_authority(byte: u8) -> bool
@@ -67,10 +59,24 @@ fn is_front(front: &[u8]) -> bool
     front.len() > 8 && is_link(front) && has_end(after_scheme(front))
 }
 
-/// Returns whether a text is the address of a request form: a URL in which each brace encloses a part of a citation and
-/// is behind the host, such as `https://a.example/ill?issn={issn}`.
-pub(crate) fn is_template(text: &[u8]) -> bool
-    ensures { result ≡ is_template text.now }
+/// Returns whether a text is a URL in which each brace encloses a name and is behind the host, such as
+/// `https://a.example/ill?issn={issn}`.
+pub(crate) fn is_template(names: Names, text: &[u8]) -> bool
+    ensures { result ≡ is_template names text.now }
 {
-    is_link(text) && has_fields(text) && is_front(before(b'{', text))
+    is_link(text) && has_fields(names, text) && is_front(before(b'{', text))
+}
+
+/// Returns whether a text is the address of an article, with at least one name.
+pub(crate) fn is_article(text: &[u8]) -> bool
+    ensures { result ≡ is_article text.now }
+{
+    is_template(Names::OfArticle, text) && has(b'{', text)
+}
+
+/// Returns whether a text is the prefix of a proxy. The address follows it, or is at its only `{url}`.
+pub(crate) fn is_prefix(text: &[u8]) -> bool
+    ensures { result ≡ is_prefix text.now }
+{
+    is_template(Names::OfPrefix, text) && !has(b'{', after(b'{', text))
 }

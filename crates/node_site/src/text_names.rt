@@ -1,5 +1,5 @@
 //! The name of each text, by which a site file replaces it, in the order of the texts.
-pub(crate) static NAMES: [&'static str; 96] = [
+pub(crate) static NAMES: [&'static str; 98] = [
     "full_text",
     "abstract_only",
     "held",
@@ -21,6 +21,8 @@ pub(crate) static NAMES: [&'static str; 96] = [
     "page",
     "not_understood",
     "read_at",
+    "read_article",
+    "journal_page",
     "inside",
     "overlap",
     "untested",

@@ -24,6 +24,8 @@ pub enum Text {
     Page,
     NotUnderstood,
     ReadAt,
+    ReadArticle,
+    JournalPage,
     Inside,
     Overlap,
     Untested,
@@ -102,7 +104,7 @@ pub enum Text {
 }
 
 /// All texts.
-pub const TEXTS: [Text; 96] = [
+pub const TEXTS: [Text; 98] = [
     Text::FullText,
     Text::AbstractOnly,
     Text::Held,
@@ -124,6 +126,8 @@ pub const TEXTS: [Text; 96] = [
     Text::Page,
     Text::NotUnderstood,
     Text::ReadAt,
+    Text::ReadArticle,
+    Text::JournalPage,
     Text::Inside,
     Text::Overlap,
     Text::Untested,

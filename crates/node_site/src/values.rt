@@ -21,12 +21,17 @@ fn reason_of(kind: ValueKind) -> ValueFault
 {
     match kind {
         ValueKind::Text => ValueFault::TextSize,
+        ValueKind::Note => ValueFault::NoteSize,
         ValueKind::Language => ValueFault::Language,
         ValueKind::Color => ValueFault::Color,
         ValueKind::Url => ValueFault::Url,
         ValueKind::Template => ValueFault::Template,
+        ValueKind::Article => ValueFault::Article,
+        ValueKind::Prefix => ValueFault::Prefix,
+        ValueKind::Occasion => ValueFault::Occasion,
         ValueKind::Package => ValueFault::Package,
         ValueKind::FileName => ValueFault::FileName,
+        ValueKind::Host => ValueFault::Host,
         ValueKind::Date => ValueFault::Date,
         ValueKind::Switch => ValueFault::NotSwitch,
         ValueKind::Hosts => ValueFault::NotList,

@@ -4,8 +4,8 @@ use Rattle.node_templates.specs.Plain.{template_of}
 use Rattle.node_templates.specs.declared.citation.TheConstants.{CITED_NAMES, CITED_PLACE, CITED_WORK, NUMBER_FAULTS}
 use Rattle.node_templates.specs.declared.form.TheConstants.{SEARCH_FORM, TITLES_FORM}
 use Rattle.node_templates.specs.declared.frame.TheConstants.{ASK_AGAIN, FAULT, FOOT, NOTE, TOP}
-use Rattle.node_templates.specs.declared.lists.TheConstants.{CARD, CARDS, LEFT_OUT, PACKAGE, PACKAGES, PACKAGES_END, REQUEST}
-use Rattle.node_templates.specs.declared.lists.TheConstants.{TITLES_END, TITLE_CARD}
+use Rattle.node_templates.specs.declared.lists.TheConstants.{CARD, CARDS, LEFT_OUT, PACKAGE, PACKAGES, PACKAGES_END}
+use Rattle.node_templates.specs.declared.lists.TheConstants.{TITLES_END, TITLE_CARD, WAY, WAYS, WAYS_END}
 use Rattle.node_templates.specs.declared.template.Hole.{Hole}
 use Rattle.node_templates.specs.declared.template.Template.{Template}
 use Rattle.node_templates.specs.declared.template.Template.TheVariants as template
@@ -26,7 +26,9 @@ lines_of template.CitedNames = template_of CITED_NAMES.now
 lines_of template.Cards = template_of CARDS.now
 lines_of template.Card = template_of CARD.now
 lines_of template.LeftOut = template_of LEFT_OUT.now
-lines_of template.Request = template_of REQUEST.now
+lines_of template.Ways = template_of WAYS.now
+lines_of template.Way = template_of WAY.now
+lines_of template.WaysEnd = template_of WAYS_END.now
 lines_of template.TitleCard = template_of TITLE_CARD.now
 lines_of template.TitlesEnd = template_of TITLES_END.now
 lines_of template.NumberFaults = template_of NUMBER_FAULTS.now

@@ -23,7 +23,9 @@ pub(crate) const CITED_PLACE: &[TemplateLine] = template![
 
 /// The names of the work, and the end of the citation. A DOI and a PMID that need no encoding in an address are links.
 pub(crate) const CITED_NAMES: &[TemplateLine] = template![
-    if (DoiLink) [r#"<dt>DOI</dt><dd><a href="https://doi.org/"# {DoiLink} r#""><bdi>"# {DoiLink} "</bdi></a></dd>"]
+    if (link DoiAddress) [
+        r#"<dt>DOI</dt><dd><a href=""# {DoiAddress} r#""><bdi>"# {DoiLink} "</bdi></a></dd>"
+    ]
     if (Doi) ["<dt>DOI</dt><dd><bdi>" {Doi} "</bdi></dd>"]
     if (PmidLink) [
         r#"<dt>PubMed</dt><dd><a href="https://pubmed.ncbi.nlm.nih.gov/"# {PmidLink} r#""><bdi>"# {PmidLink}

@@ -7,7 +7,8 @@ use crate::citation::{CITED_NAMES, CITED_PLACE, CITED_WORK, NUMBER_FAULTS};
 use crate::form::{SEARCH_FORM, TITLES_FORM};
 use crate::frame::{ASK_AGAIN, FAULT, FOOT, NOTE, TOP};
 use crate::lists::{
-    CARD, CARDS, LEFT_OUT, PACKAGE, PACKAGES, PACKAGES_END, REQUEST, TITLE_CARD, TITLES_END,
+    CARD, CARDS, LEFT_OUT, PACKAGE, PACKAGES, PACKAGES_END, TITLE_CARD, TITLES_END, WAY, WAYS,
+    WAYS_END,
 };
 use crate::template::{Template, TemplateLine};
 
@@ -30,7 +31,9 @@ pub(crate) fn lines_of(template: Template) -> &'static [TemplateLine]
         Template::Cards => CARDS,
         Template::Card => CARD,
         Template::LeftOut => LEFT_OUT,
-        Template::Request => REQUEST,
+        Template::Ways => WAYS,
+        Template::Way => WAY,
+        Template::WaysEnd => WAYS_END,
         Template::TitleCard => TITLE_CARD,
         Template::TitlesEnd => TITLES_END,
         Template::NumberFaults => NUMBER_FAULTS,

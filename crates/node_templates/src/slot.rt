@@ -23,7 +23,8 @@ pub enum Slot {
     /// The text for which titles are searched.
     Wanted,
     /// The parts of a citation. `Cited` has a value if any other has. Of `DateRead` and `DateNoted` at most one has a
-    /// value, and so have `VolumeRead` and `VolumeNoted`, `DoiLink` and `Doi`, `PmidLink` and `Pmid`.
+    /// value, and so have `VolumeRead` and `VolumeNoted`, `DoiAddress` and `Doi`, `PmidLink` and `Pmid`. `DoiLink` is
+    /// the DOI that leads to `DoiAddress`.
     Cited,
     Article,
     Work,
@@ -34,13 +35,17 @@ pub enum Slot {
     VolumeNoted,
     Issue,
     FirstPage,
+    DoiAddress,
     DoiLink,
     Doi,
     PmidLink,
     Pmid,
-    /// The name of a package, the title of a row, its link, and the host of the platform.
+    /// The name of a package and the title of a row; the link to an article with that to the page of its row, or else
+    /// the link to the page alone; and the host of the platform.
     Package,
     Title,
+    ArticleLink,
+    PageLink,
     Link,
     Host,
     /// That a row does not match, and the limit that an embargo sets.
@@ -57,8 +62,9 @@ pub enum Slot {
     LeftOut,
     LeastText,
     Hint,
-    /// The address of the library's request form.
-    Request,
+    /// What readers see of a link of the library, and the address of it.
+    Label,
+    Way,
     /// The pairs of a query for a title.
     Numbers,
     /// The text that is searched, percent-encoded, and the place of the next title.

@@ -59,8 +59,11 @@ pub enum Template {
     Card,
     /// The end of the list, and the number of hits that are left out, if any are.
     LeftOut,
-    /// The link to the request form, and a heading for the form of a new search.
-    Request,
+    /// The beginning of the list of the library's links, if it has any, such a link, and the end of the list with a
+    /// heading for the form of a new search.
+    Ways,
+    Way,
+    WaysEnd,
     /// The card of a title.
     TitleCard,
     /// The end of the list, the order of titles, and the link to the next ones.

@@ -1,4 +1,4 @@
-use Rattle.node_site.proofs.Fillings.{requests_are_links}
+use Rattle.node_site.proofs.LinksMade.{requests_are_links}
 use Rattle.node_site.proofs.laws.requests_are_links.Goals as goal
 
 pub returns : goal.returns

@@ -9,7 +9,7 @@ use Rattle.node_site.proofs.template.are_after_open.Goals as goal
 
 pub returns : goal.returns
 returns c =
-    all_from_yields_List is_after_open _ _ _ c.all.ensures.ran
+    all_from_yields_List (is_after_open c.args.names) _ _ _ c.all.ensures.ran
     (YieldsList-from_skip 1 (YieldsList-at c.skip.ensures.source
     (YieldsList-from_slice_split _ _ c.args.text.now c.split.ensures.rest c.split.ensures.done c.split.ensures.closure (λ x b q k. search (rules, tests))))
     c.skip.ensures.count)

@@ -21,9 +21,10 @@ split c =
 pub returns-then-place-ge-SHOWN_LIMIT : goal.returns-then-place-ge-SHOWN_LIMIT
 returns-then-place-ge-SHOWN_LIMIT c =
     let hits : List ReleaseHitValue = c.self.inside.hits.items in
+    let at = (goal.at.returns-then-place-ge-SHOWN_LIMIT c).After-place_of-place in
     subst (λ (top : List ReleaseHitValue). top ≡ with_top top c.args.found) c.self.view_is
-    (full hits c.args.found c.place_of-place.result (within c.before) c.self.invariant.1 (omega (arith, c.if-place-ge-SHOWN_LIMIT.true))
-    ∙ ap (λ p. take shown_limit (insert hits p c.args.found)) (place_is (rank_of c.args.found) hits c.place_of-place.result (within c.before) (split c.before)))
+    (full hits c.args.found c.place_of-place.result (within at) c.self.invariant.1 (omega (arith, c.if-place-ge-SHOWN_LIMIT.true))
+    ∙ ap (λ p. take shown_limit (insert hits p c.args.found)) (place_is (rank_of c.args.found) hits c.place_of-place.result (within at) (split at)))
 
 pub invariant_of-self : goal.invariant_of-self
 invariant_of-self c = rw c.in_err-insert.ensures.items c.self.invariant

@@ -1,0 +1,142 @@
+//! The links to articles, and to what a DOI names.
+ghost use Rattle.std.specs.Prelude.{◌≡◌, ◌++◌, codes, IfOk, option_copied, option_map};
+ghost use Rattle.node_site.specs.Articles.{article_address, article_link, article_template, doi_link, package_article};
+ghost use Rattle.node_site.specs.Articles.{platform_article};
+ghost use Rattle.node_site.specs.Proxies.{is_direct, is_proxied_package, proxied};
+ghost use Rattle.node_site.specs.Requests.{if_link};
+
+use crate::cited::CitedTitle;
+use crate::filling::{Filling, if_link};
+use crate::hosts::host_of;
+use crate::links::proxied;
+use crate::lookup::{switch_at, text_at};
+use crate::site_file::SiteFile;
+use std::alloc::{AllocError, Global};
+
+fn package_article<'a>(site: &'a SiteFile, id: &[u8]) -> Option<&'a str>
+    ensures { option_copied result ≡ package_article site.now id.now }
+{
+    match site.package_table(id) {
+        Some(table) => text_at("article", table),
+        None => None,
+    }
+}
+
+fn platform_article<'a>(site: &'a SiteFile, host: &[u8]) -> Option<&'a str>
+    ensures { option_copied result ≡ platform_article site.now host.now }
+{
+    match site.platform_table(host) {
+        Some(table) => text_at("article", table),
+        None => None,
+    }
+}
+
+// Returns the template for the articles of a row: that of its package, or else that of the platform of its URL.
+fn article_template<'a>(site: &'a SiteFile, id: &[u8], url: &[u8]) -> Option<&'a str>
+    ensures { option_copied result ≡ article_template site.now id.now url.now }
+{
+    if let Some(template) = package_article(site, id) {
+        return Some(template);
+    }
+    match host_of(url) {
+        Some(host) => platform_article(site, host),
+        None => None,
+    }
+}
+
+// Returns the address of the cited article, if the citation has every name of the template.
+fn article_address(
+    alloc: Global,
+    cited: &CitedTitle<'_>,
+    template: &[u8],
+) -> Result<Option<Vec<u8>>, AllocError>
+    ensures { IfOk result (λ address. option_map (λ text. text.items) address
+        ≡ article_address cited.now template.now) }
+{
+    let filling = Filling::of(alloc, cited, template)?;
+    if filling.is_whole {
+        Ok(Some(filling.link))
+    } else {
+        Ok(None)
+    }
+}
+
+fn is_proxied_package(site: &SiteFile, id: &[u8]) -> bool
+    ensures { result ≡ is_proxied_package site.now id.now }
+{
+    match site.package_table(id) {
+        Some(table) => switch_at("proxy", table).unwrap_or(true),
+        None => true,
+    }
+}
+
+/// Returns whether a link of a package never goes through a proxy: it is free to read, or the site file says so of the
+/// package.
+pub fn is_direct(site: &SiteFile, id: &[u8], is_free: bool) -> bool
+    ensures { result ≡ is_direct site.now id.now is_free }
+{
+    is_free || !is_proxied_package(site, id)
+}
+
+// Returns the link to an address as a page has it, if that is safe.
+fn safe_link(
+    alloc: Global,
+    site: &SiteFile,
+    address: &[u8],
+    is_direct: bool,
+) -> Result<Option<Vec<u8>>, AllocError>
+    ensures { IfOk result (λ link. option_map (λ text. text.items) link
+        ≡ if_link (proxied site.now address.now is_direct)) }
+{
+    let link = proxied(alloc, site, address, is_direct)?;
+    Ok(if_link(link.into_owned(alloc)?))
+}
+
+/// Returns the link to the cited article in a row of a package. It is there if the package, or else the platform of the
+/// row's URL, has a template and the citation each name in it, and if it has at most 8,000 bytes. It goes through a
+/// proxy as the link to the row does.
+///
+/// # Errors
+///
+/// Running out of memory.
+#[tactic(auto, unfolding(crate::specs::Articles::article_link))]
+pub fn article_link(
+    alloc: Global,
+    site: &SiteFile,
+    id: &[u8],
+    url: &[u8],
+    is_free: bool,
+    cited: &CitedTitle<'_>,
+) -> Result<Option<Vec<u8>>, AllocError>
+    ensures { IfOk result (λ link. option_map (λ text. text.items) link
+        ≡ article_link site.now id.now url.now is_free cited.now) }
+{
+    let Some(template) = article_template(site, id, url) else {
+        return Ok(None);
+    };
+    match article_address(alloc, cited, template.as_bytes())? {
+        Some(address) => safe_link(alloc, site, &address, is_direct(site, id, is_free)),
+        None => Ok(None),
+    }
+}
+
+fn doi_address(alloc: Global, doi: &[u8]) -> Result<Vec<u8>, AllocError>
+    ensures { IfOk result (λ address. address.items ≡ codes "https://doi.org/" ++ doi.now) }
+{
+    let mut address = Vec::from_slice(alloc, b"https://doi.org/")?;
+    address.extend_from_slice(doi)?;
+    Ok(address)
+}
+
+/// Returns the link to what a DOI names, if it is safe. It goes through a proxy as others do.
+///
+/// # Errors
+///
+/// Running out of memory.
+#[tactic(auto, unfolding(crate::specs::Articles::doi_link))]
+pub fn doi_link(alloc: Global, site: &SiteFile, doi: &[u8]) -> Result<Option<Vec<u8>>, AllocError>
+    ensures { IfOk result (λ link. option_map (λ text. text.items) link ≡ doi_link site.now doi.now) }
+{
+    let address = doi_address(alloc, doi)?;
+    safe_link(alloc, site, &address, false)
+}
