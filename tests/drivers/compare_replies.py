@@ -357,9 +357,10 @@ class Node:
         return [f"{name} {value}" for name, value in grown.items()]
 
     def printed(self, name):
-        """Returns the lines of the log, or of standard error, without times."""
+        """Returns the lines of the log, or of standard error, without times. A dash for no site is left out."""
         lines = (self.folder / name).read_text(encoding="latin-1").split("\n")
-        lines = [re.sub(r"^(\S+ - - \[)\d\d/[A-Z][a-z]+/[\d:]{13}( .*) \d+$", r"\1TIME\2 N", it) for it in lines]
+        line = re.compile(r"^(\S+ - - \[)\d\d/[A-Z][a-z]+/[\d:]{13}( .*) \d+(?: -|( \S+))?$")
+        lines = [line.sub(r"\1TIME\2 N\3", it) for it in lines]
         return [re.sub(r"\d+\.\d{3} seconds$", "N seconds", it) for it in lines]
 
     def exchange(self, parts, ends_at_once):

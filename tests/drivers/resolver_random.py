@@ -231,6 +231,7 @@ class Hit:
                 self.availability = "available"
             else:
                 self.availability = "partly" if days[0] <= days[1] and meet(query.days, days) else "embargoed"
+        self.is_open = self.availability != "embargoed" and row.cells["coverage_depth"] != "abstracts"
         self.url = row.cells["title_url"]
         self.is_link = host_of(self.url) is not None
         self.link = world.through_proxy(row) if self.is_link else self.url
@@ -478,7 +479,8 @@ class Request:
         found = self.world.hits(query, packages)
         ranked = sorted((it for hits in found.values() for it in hits), key=lambda it: it.rank(self.world))
         if self.path == "/go":
-            best = next((it for it in ranked if it.is_link), None)
+            linked = [it for it in ranked if it.is_link]
+            best = next((it for it in linked if it.is_open), next(iter(linked), None))
             if best:
                 return 302, best.link, None
             return 404 if self.world.is_whole(query, packages) else 200, None, self.body(query, packages, found, ranked)
@@ -550,7 +552,8 @@ def json_of(hit):
             "grade": hit.grade, "availability": hit.availability, "title": cells["publication_title"], "url": hit.link,
             "title_id": cells["title_id"], "depth": cells["coverage_depth"], "target": hit.url,
             "host": shown_host(hit.url),
-            "embargo": cells["embargo_info"], "access": cells["access_type"]}
+            "embargo": cells["embargo_info"], "access": cells["access_type"],
+            "article": "", "note": ""}
 
 
 class Links(html.parser.HTMLParser):

@@ -7,7 +7,7 @@ use crate::helps::{
     ANSWER_HELP, ASK_HELP, CHECK_HELP, DIFF_HELP, EXPORT_HELP, FETCH_HELP, NODE_HELP, OPENURL_HELP,
     REPLAY_HELP, SERVE_HELP, STATUS_HELP, WHY_HELP,
 };
-use crate::node::NODE;
+use crate::node::{NODE, token_uses};
 use clap::{Arg, ArgAction, Command};
 use std::alloc::{AllocError, Global};
 
@@ -306,5 +306,8 @@ fn command_of<'a>(
     for argument in subcommand.arguments() {
         command = command.arg(arg_of(alloc, argument)?)?;
     }
-    Ok(command)
+    match subcommand {
+        Subcommand::Node => command.group(token_uses(alloc)?),
+        _ => Ok(command),
+    }
 }

@@ -2,8 +2,12 @@
 use crate::argument::{Argument, ArgumentKind, CLIENT_TIMEOUT, DATABASE, LISTENING_ADDRESS, PIECE};
 use crate::commands::version;
 use crate::parsing::{number, text};
-use clap::ArgMatches;
+use clap::{ArgGroup, ArgMatches};
 use feed_options::{LogOptions, NodeOptions, SitePath, Source};
+use std::alloc::{AllocError, Global};
+
+// The options of which the token needs one.
+const TOKEN_USES: &str = "from or sites";
 
 /// The arguments of `node`.
 pub static NODE: [Argument; 19] = [
@@ -26,9 +30,9 @@ pub static NODE: [Argument; 19] = [
         id: "token",
         kind: ArgumentKind::Text {
             value: "FILE",
-            needs: &["from"],
+            needs: &[TOKEN_USES],
         },
-        help: "The file whose first line is the token that authorizes a fetch",
+        help: "The file whose first line is the token for a fetch or a reload of DIR",
     },
     Argument {
         id: "site",
@@ -126,6 +130,12 @@ pub static NODE: [Argument; 19] = [
     },
 ];
 
+/// Returns the options of which the token needs one.
+pub fn token_uses<'a>(alloc: Global) -> Result<ArgGroup<'a>, AllocError> {
+    let uses = ArgGroup::new(alloc, TOKEN_USES).arg("from")?.arg("sites")?;
+    Ok(uses.multiple(true))
+}
+
 /// Returns the options of `node`.
 pub fn node_options<'a>(given: &ArgMatches<'a>) -> NodeOptions<'a> {
     NodeOptions {
@@ -142,6 +152,7 @@ pub fn node_options<'a>(given: &ArgMatches<'a>) -> NodeOptions<'a> {
         },
         is_check: given.get_flag("check"),
         site: site_path(given),
+        token_file: given.get_str("token"),
         wanted: given.get_str("wanted"),
         source: source(given),
     }
@@ -169,7 +180,6 @@ fn site_path<'a>(node: &ArgMatches<'a>) -> SitePath<'a> {
 fn source<'a>(node: &ArgMatches<'a>) -> Option<Source<'a>> {
     Some(Source {
         addr: node.get_str("from")?,
-        token_file: node.get_str("token")?,
         piece: number(node, "piece"),
         fetch_limit: number(node, "fetch-timeout"),
         has_any_type: node.get_flag("any-type"),

@@ -2,10 +2,8 @@
 #![tactic(auto)]
 
 mod command;
-mod folder;
 mod node;
 mod site;
-mod site_faults;
 mod token;
 mod wanted;
 

@@ -10,7 +10,7 @@ use feed_bytes::read_number;
 use feed_console::{Console, DONE, FAILED, MISUSED, REFUSED, open_plain_file};
 use feed_http::is_host;
 use feed_keep::Keep;
-use feed_options::{NodeOptions, SitePath};
+use feed_options::{NodeOptions, SitePath, Source};
 use feed_releases::{Feed, Opening};
 use node_connection::TimeLimits;
 use node_resolver::NodeSites;
@@ -19,6 +19,7 @@ use node_service::{
     End, NodeLog, NodeSetup, NodeState, SourceAddrs, StartFault, WantedPackage, WatchedFile, run,
     start,
 };
+use std::alloc::{AllocError, Global};
 use std::io;
 use std::io::Write;
 use std::net::ToSocketAddrs;
@@ -30,12 +31,13 @@ const MIN_CLIENTS: usize = 16;
 /// records of the database are loaded. Until their lists are checked, readers get 503, and while a package of the file
 /// of wanted ones has no active release, which is reported (`NoRelease`). If the node has a source, a client that has
 /// the token can make it fetch a release from there. It prints a line for each request, at once. The first fault is
-/// reported: of the source (`Host`, `Read`, `Token`), of the site files (`Read`, `Site`, `Holdings`, `Sites`), of the
-/// file of wanted packages (`Read`, `Wanted`), of the database, of the address (`Bind`), of a list (`Damaged`), of the
-/// sockets (`Poll`), and of a database whose file is gone (`Device`). Of a folder of site files, what is wrong with
-/// each is reported. Lines of the log that cannot be written are dropped and counted, and that is reported. A host that
-/// has no address yet is reported too (`Resolve`), and the node runs. If there are too few descriptors for all clients,
-/// that is reported (`Descriptors`), and the node answers fewer at a time, or does not start with fewer than 16.
+/// reported: of the source (`Host`), of the token (`Read`, `Token`), of the site files (`Read`, `Site`, `Holdings`,
+/// `Sites`), of the file of wanted packages (`Read`, `Wanted`), of the database, of the address (`Bind`), of a list
+/// (`Damaged`), of the sockets (`Poll`), and of a database whose file is gone (`Device`). Of a folder of site files,
+/// what is wrong with each is reported. Lines of the log that cannot be written are dropped and counted, and that is
+/// reported. A host that has no address yet is reported too (`Resolve`), and the node runs. If there are too few
+/// descriptors for all clients, that is reported (`Descriptors`), and the node answers fewer at a time, or does not
+/// start with fewer than 16.
 ///
 /// A check answers no reader, and prints `ok` if all is well, with the number of sites if there is a folder of them. It
 /// also reports a prefix of a proxy behind which a list can add parameters (`Prefix`), which is not a fault.
@@ -48,20 +50,43 @@ pub fn run_node<D: Database, O: Write, F: Write + Drop>(
     options: NodeOptions<'_>,
     console: &mut Console<'_, O, F>,
 ) -> Result<u8, u8> {
-    let mut addrs = SourceAddrs::new(console.rt);
-    let Some(source) = options.source else {
-        return run_server(database, options, None, addrs, console);
-    };
-    if !is_host(source.addr.as_bytes()) || !has_port(source.addr.as_bytes()) {
-        return Err(report_source(source.addr, console));
+    if let Some(source) = options.source {
+        check_source(source.addr, console)?;
     }
-    let token = token_of(source.token_file, console)?;
+    let token = match options.token_file {
+        Some(path) => Some(token_of(path, console)?),
+        None => None,
+    };
+    let addrs = addrs_of(options.source, console);
+    run_server(database, options, token.as_ref(), addrs, console)
+}
+
+// Reports an address that is not one of a source, and returns the exit status.
+fn check_source<O: Write, F: Write + Drop>(
+    addr: &str,
+    console: &mut Console<'_, O, F>,
+) -> Result<(), u8> {
+    if is_host(addr.as_bytes()) && has_port(addr.as_bytes()) {
+        return Ok(());
+    }
+    Err(report_source(addr, console))
+}
+
+// Returns the addresses of a source, if there is one. Reports a name that has none yet.
+fn addrs_of<O: Write, F: Write + Drop>(
+    source: Option<Source<'_>>,
+    console: &mut Console<'_, O, F>,
+) -> SourceAddrs {
+    let mut addrs = SourceAddrs::new(console.rt);
+    let Some(source) = source else {
+        return addrs;
+    };
     if let Err(error) = addrs.resolve(console.rt, source.addr) {
         let _ = console
             .faults
             .report_with("Resolve", source.addr, error, DONE);
     }
-    run_server(database, options, Some(&token), addrs, console)
+    addrs
 }
 
 // Reports that an address is not one of a source, and returns the exit status.
@@ -120,12 +145,21 @@ fn run_server<D: Database, O: Write, F: Write + Drop>(
         note_open_prefixes(&sites, console);
         return check_server(database, options, &wanted, sites.list().len(), console);
     }
-    let Ok(state) = NodeState::new(console.rt.alloc()) else {
+    let Ok(state) = state_of(console.rt.alloc(), options.site, &sites) else {
         return Err(report_end(End::Memory, database.name(), console));
     };
     let (opening, server, file) = begin(database, options, console)?;
     let setup = setup_of(options, token, sites, addrs, &wanted, &state, file);
     Ok(serve(database, opening, server, setup, console))
+}
+
+// Returns the state of a node, whose log and metrics have the names of a folder's site files.
+fn state_of(alloc: Global, path: SitePath<'_>, sites: &NodeSites) -> Result<NodeState, AllocError> {
+    let state = NodeState::new(alloc)?;
+    if let SitePath::Folder(_) = path {
+        state.name_sites(alloc, sites.list())?;
+    }
+    Ok(state)
 }
 
 // Returns the setup of a node that has this token and these sites.

@@ -2,13 +2,12 @@
 ghost use Rattle.std.specs.Prelude.{IfOk, IfSome};
 ghost use Rattle.cmd_node.specs.Sites.{IsSiteRead};
 
-use crate::folder::read_folder;
-use crate::site_faults::{report_holdings, report_site};
 use feed_console::{Console, DONE, FAILED, open_plain_file, read_front};
 use feed_options::{NodeOptions, SitePath};
 use node_resolver::{NamedSite, NodeSites};
 use node_response::Site;
-use node_site::{HOLDINGS_LIMIT, SITE_LIMIT, SiteFault};
+use node_service::{read_folder, report_holdings, report_site};
+use node_site::{HOLDINGS_LIMIT, SITE_LIMIT, SiteFault, prefixes_left_open};
 use std::alloc::{AllocError, Global};
 use std::fs::File;
 use std::io;
@@ -44,33 +43,31 @@ fn read_site<O: Write, F: Write + Drop>(
     console: &mut Console<'_, O, F>,
 ) -> Result<Site, u8> {
     let mut file = open_plain_file(path, console)?;
-    let mut site = site_of(path, None, options, &mut file, console)?;
+    let mut site = site_of(path, options, &mut file, console)?;
     let Some(list) = holdings_path(path, &site, console)? else {
         return Ok(site);
     };
     let mut file = open_plain_file(list.as_str(), console)?;
-    add_holdings(list.as_str(), None, &mut site, &mut file, console)?;
+    add_holdings(list.as_str(), &mut site, &mut file, console)?;
     Ok(site)
 }
 
-/// Returns the site of an open file, or reports what is wrong with it and returns the exit status. The name is that of
-/// the file in a folder.
-pub fn site_of<O: Write, F: Write + Drop>(
+// Returns the site of an open file, or reports what is wrong with it and returns the exit status.
+fn site_of<O: Write, F: Write + Drop>(
     path: &str,
-    name: Option<&str>,
     options: NodeOptions<'_>,
     file: &mut File,
     console: &mut Console<'_, O, F>,
 ) -> Result<Site, u8> {
     match site_in(console.rt.alloc(), options, file) {
         Ok(Ok(site)) => Ok(site),
-        Ok(Err(fault)) => Err(report_site(path, name, fault, console)),
+        Ok(Err(fault)) => Err(report_site(path, None, fault, console)),
         Err(error) => Err(console.faults.report_read(path, error)),
     }
 }
 
-/// Returns the path of the holdings file that a site file names, which is beside it.
-pub fn holdings_path<O: Write, F: Write + Drop>(
+// Returns the path of the holdings file that a site file names, which is beside it.
+fn holdings_path<O: Write, F: Write + Drop>(
     path: &str,
     site: &Site,
     console: &mut Console<'_, O, F>,
@@ -92,11 +89,9 @@ fn beside(alloc: Global, path: &str, name: &str) -> Result<String, AllocError> {
     }
 }
 
-/// Reads the holdings file of a site, or reports what is wrong with it and returns the exit status. The name is that of
-/// the file in a folder.
-pub fn add_holdings<O: Write, F: Write + Drop>(
+// Reads the holdings file of a site, or reports what is wrong with it and returns the exit status.
+fn add_holdings<O: Write, F: Write + Drop>(
     path: &str,
-    name: Option<&str>,
     site: &mut Site,
     file: &mut File,
     console: &mut Console<'_, O, F>,
@@ -105,7 +100,7 @@ pub fn add_holdings<O: Write, F: Write + Drop>(
     match read_front(alloc, file, HOLDINGS_LIMIT + 1) {
         Ok(bytes) => match site.read_holdings(alloc, bytes) {
             Ok(()) => Ok(()),
-            Err(fault) => Err(report_holdings(path, name, fault, console)),
+            Err(fault) => Err(report_holdings(path, None, fault, console)),
         },
         Err(error) => Err(console.faults.report_read(path, error)),
     }
@@ -125,34 +120,28 @@ fn site_in<R: Read>(
     Ok(Site::read(alloc, version, options.max_age, bytes))
 }
 
-// The end of a prefix that a proxy takes the address behind as all of the rest: EZproxy's.
-const WHOLE_REST: &str = "login?url=";
-
-// The end of a prefix behind which the address is percent-encoded.
-const ENCODING_END: &str = "qurl=";
-
-/// Reports each prefix of a proxy behind which a list can add parameters: one that ends in `=` and gets the address as
-/// it is. The node runs with it.
+/// Reports each prefix, of a proxy or a platform, behind which a list can add parameters: one that ends in `=` and gets
+/// the address as it is. The node runs with it.
 pub fn note_open_prefixes<O: Write, F: Write + Drop>(
     sites: &NodeSites,
     console: &mut Console<'_, O, F>,
 ) {
     for named in sites.list() {
-        note_open_prefix(&named.site, console);
+        note_open_in(&named.site, console);
     }
 }
 
-fn note_open_prefix<O: Write, F: Write + Drop>(site: &Site, console: &mut Console<'_, O, F>) {
-    let Some(prefix) = site.library().prefix() else {
+// Reports those of a site.
+fn note_open_in<O: Write, F: Write + Drop>(site: &Site, console: &mut Console<'_, O, F>) {
+    let Ok(prefixes) = prefixes_left_open(console.rt.alloc(), site.library()) else {
         return;
     };
-    if !prefix.ends_with("=") || prefix.ends_with(WHOLE_REST) || prefix.ends_with(ENCODING_END) {
-        return;
+    for prefix in &prefixes {
+        let _ = console.faults.report_with(
+            "Prefix",
+            prefix.text(),
+            "addresses are not encoded behind it, so a list can add parameters: set encode if the proxy takes that",
+            DONE,
+        );
     }
-    let _ = console.faults.report_with(
-        "Prefix",
-        prefix,
-        "addresses are not encoded behind it, so a list can add parameters: end it in qurl= if the proxy takes that",
-        DONE,
-    );
 }

@@ -19,6 +19,8 @@ pub struct NodeOptions<'a> {
     /// Whether the node ends once it has opened all that it needs.
     pub is_check: bool,
     pub site: SitePath<'a>,
+    /// The path of the file with the token that authorizes a fetch, and a reload of the site files.
+    pub token_file: Option<&'a str>,
     /// The path of the file with the packages that readers wait for.
     pub wanted: Option<&'a str>,
     pub source: Option<Source<'a>>,
@@ -61,8 +63,6 @@ pub struct LogOptions {
 pub struct Source<'a> {
     /// The host and port.
     pub addr: &'a str,
-    /// The path of the file with the token that authorizes a fetch.
-    pub token_file: &'a str,
     /// How many bytes a request asks for, 1 to 1,048,576.
     pub piece: u64,
     /// How many seconds a fetch may take.

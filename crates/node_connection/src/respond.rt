@@ -45,6 +45,8 @@ pub struct ResponseSummary {
     pub is_streamed: bool,
     /// Why the response is `UNAVAILABLE`, or `None` if the responder made it.
     pub fault: Option<RespondFault>,
+    /// The place of the site that responded among those of the node, or none.
+    pub site: Option<usize>,
 }
 
 /// A response: its bytes, and the facts about it that a log records.
@@ -55,7 +57,7 @@ pub struct LoggedResponse {
 }
 
 impl LoggedResponse {
-    /// Returns a complete response with this status code and this number of bytes in its body.
+    /// Returns a complete response of no site, with this status code and this number of bytes in its body.
     pub fn new(bytes: Vec<u8>, status: u16, body_len: usize) -> LoggedResponse
         ensures { result.bytes ≡ bytes }
     {
@@ -66,6 +68,7 @@ impl LoggedResponse {
                 body_len,
                 is_streamed: false,
                 fault: None,
+                site: None,
             },
         }
     }
@@ -137,6 +140,7 @@ pub(crate) fn unavailable(alloc: Global, fault: RespondFault) -> Result<LoggedRe
             body_len: 12,
             is_streamed: false,
             fault: Some(fault),
+            site: None,
         },
     })
 }

@@ -8,7 +8,7 @@ use Rattle.feed_names.specs.declared.release_name.NameFault.{NameFault}
 use Rattle.feed_model.specs.History.{History}
 use Rattle.node_machine.specs.declared.fetching.Fetching.{Fetching}
 use Rattle.node_machine.specs.declared.machine.NodeMachine.{NodeMachine}
-use Rattle.node_machine.specs.NodeEvents.{NodeEvent, Accepted, Served, Passed, DayBegan, Asked, Began, Finished, Took, TookPart, Exchanged, Reopened}
+use Rattle.node_machine.specs.NodeEvents.{NodeEvent, Accepted, Served, Passed, DayBegan, Asked, Began, Finished, Took, TookPart, Exchanged, AskedSites, SitesBegan, SitesKept, Reopened}
 use Rattle.node_machine.specs.NodeEvents.{busy_in, exchange_in, fetching_in, given_in, requested_in}
 use Rattle.node_machine.specs.Exchanges.{IsExchangeOf}
 use Rattle.node_machine.specs.Rules.{Rules, Terms, AreAllowed}
@@ -21,7 +21,7 @@ not_one None requested is = refl
 not_one (Some name) requested is = absurd (cc)
 
 -- a fetch is requested only while none is under way
-pub alone : (rules : Rules) (token : Option (List ℕ)) (asked : Result Name NameFault) (history : List NodeEvent) → AreAllowed rules token history
+pub alone : {V : Type 0} (rules : Rules V) (token : Option (List ℕ)) (asked : Result Name NameFault) (history : List (NodeEvent V)) → AreAllowed rules token history
     → requested_in history ≡ Some asked → fetching_in history ≡ None
 alone rules token asked [] allowed is = refl
 alone rules token asked (Accepted key ∷ earlier) allowed is = alone rules token asked earlier allowed is
@@ -34,10 +34,13 @@ alone rules token asked (Finished ∷ earlier) allowed is = refl
 alone rules token asked (Took name phase reply steps ∷ earlier) allowed is = alone rules token asked earlier allowed.1 is
 alone rules token asked (TookPart name first size bytes answer ∷ earlier) allowed is = alone rules token asked earlier allowed.1 is
 alone rules token asked (Exchanged event ∷ earlier) allowed is = alone rules token asked earlier allowed.1 is
+alone rules token asked (AskedSites key bytes other ∷ earlier) allowed is = alone rules token asked earlier allowed.2 is
+alone rules token asked (SitesBegan begun ∷ earlier) allowed is = alone rules token asked earlier allowed.1 is
+alone rules token asked (SitesKept ∷ earlier) allowed is = alone rules token asked earlier allowed.1 is
 alone rules token asked (Reopened ∷ earlier) allowed is = refl
 
 -- fetches are one at a time
-pub in_turn : (rules : Rules) (token : Option (List ℕ)) (history : List NodeEvent) → AreAllowed rules token history → FetchesInTurn history
+pub in_turn : {V : Type 0} (rules : Rules V) (token : Option (List ℕ)) (history : List (NodeEvent V)) → AreAllowed rules token history → FetchesInTurn history
 in_turn rules token history allowed = record {
   asked = λ key bytes asked earlier is. (subst (AreAllowed rules token) is allowed).1;
   began = λ asked earlier is. (let so = subst (AreAllowed rules token) is allowed in (so.0, so.1));
@@ -51,16 +54,16 @@ busy_by fetched requested asked None idle busy same =
     ap (λ (x : Option Name). is_some x || is_some requested) (idle refl) ∙ ap (λ (r : Option (Result Name NameFault)). is_some r) same
 busy_by fetched requested asked (Some f) idle busy same = ap (λ (x : Option Name). is_some x || is_some requested) (busy f refl)
 
-module _ {T K S : Type 0} {k : Ghosts K} (wanted : S → RequestHead → ℕ)
-    (replies : S → Terms → History → List ℕ → List ℕ → Bool → List ℕ → Type 0) where
-  pub busy_is : (node : NodeMachine T K S k) (history : List NodeEvent) → HasHistory wanted replies node history
+module _ {T K S V : Type 0} {k : Ghosts K} (wanted : S → RequestHead → ℕ)
+    (replies : S → Terms V → History → List ℕ → List ℕ → Bool → List ℕ → Type 0) (sites : S → V) where
+  pub busy_is : (node : NodeMachine T K S k) (history : List (NodeEvent V)) → HasHistory wanted replies sites node history
       → busy_in history ≡ (is_some node.fetching || is_some node.requested)
   busy_is node history has = busy_by (fetching_in history) (requested_in history) node.requested node.fetching has.idle (λ f e. (has.fetching f e).0) has.requested
 
   -- the fetch that was requested begins
-  pub begun_on : (old : NodeMachine T K S k) (next : Fetching) (left : Option (Result Name NameFault)) (history : List NodeEvent) → old.requested ≡ Some (Ok next.name)
-      → next.exchange ≡ None → left ≡ None → HasHistory wanted replies old history
-      → HasHistory wanted replies (record old { fetching = Some next; requested = left }) (Began (Ok next.name) ∷ history)
+  pub begun_on : (old : NodeMachine T K S k) (next : Fetching) (left : Option (Result Name NameFault)) (history : List (NodeEvent V)) → old.requested ≡ Some (Ok next.name)
+      → next.exchange ≡ None → left ≡ None → HasHistory wanted replies sites old history
+      → HasHistory wanted replies sites (record old { fetching = Some next; requested = left }) (Began (Ok next.name) ∷ history)
   begun_on old next left history is none gone has = record {
     connections = has.connections;
     feed = has.feed;
@@ -69,15 +72,17 @@ module _ {T K S : Type 0} {k : Ghosts K} (wanted : S → RequestHead → ℕ)
     idle = λ e. absurd (cc);
     requested = sym gone;
     today = has.today;
-    allowed = (has.requested ∙ is, alone (rules_of wanted replies old) (option_copied old.token) (Ok next.name) history has.allowed (has.requested ∙ is), has.allowed);
+    sites_had = has.sites_had;
+    reload = has.reload;
+    allowed = (has.requested ∙ is, alone (rules_of wanted replies sites old) (option_copied old.token) (Ok next.name) history has.allowed (has.requested ∙ is), has.allowed);
     given = has.given;
   }
 
   -- it is refused for its name
-  pub refused_on : (old : NodeMachine T K S k) (fault : NameFault) (left : Option (Result Name NameFault)) (history : List NodeEvent) → old.requested ≡ Some (Err fault)
-      → left ≡ None → HasHistory wanted replies old history → HasHistory wanted replies (record old { requested = left }) (Began (Err fault) ∷ history)
+  pub refused_on : (old : NodeMachine T K S k) (fault : NameFault) (left : Option (Result Name NameFault)) (history : List (NodeEvent V)) → old.requested ≡ Some (Err fault)
+      → left ≡ None → HasHistory wanted replies sites old history → HasHistory wanted replies sites (record old { requested = left }) (Began (Err fault) ∷ history)
   refused_on old fault left history is gone has =
-      let alone_so = alone (rules_of wanted replies old) (option_copied old.token) (Err fault) history has.allowed (has.requested ∙ is) in
+      let alone_so = alone (rules_of wanted replies sites old) (option_copied old.token) (Err fault) history has.allowed (has.requested ∙ is) in
       record {
         connections = has.connections;
         feed = has.feed;
@@ -85,13 +90,15 @@ module _ {T K S : Type 0} {k : Ghosts K} (wanted : S → RequestHead → ℕ)
         idle = λ e. refl;
         requested = sym gone;
         today = has.today;
+        sites_had = has.sites_had;
+        reload = has.reload;
         allowed = (has.requested ∙ is, alone_so, has.allowed);
         given = has.given;
       }
 
   -- the fetch that is under way ends
-  pub finished_on : (old : NodeMachine T K S k) (was : Fetching) (left : Option Fetching) (history : List NodeEvent) → old.fetching ≡ Some was → left ≡ None
-      → HasHistory wanted replies old history → HasHistory wanted replies (record old { fetching = left }) (Finished ∷ history)
+  pub finished_on : (old : NodeMachine T K S k) (was : Fetching) (left : Option Fetching) (history : List (NodeEvent V)) → old.fetching ≡ Some was → left ≡ None
+      → HasHistory wanted replies sites old history → HasHistory wanted replies sites (record old { fetching = left }) (Finished ∷ history)
   finished_on old was left history is gone has = record {
     connections = has.connections;
     feed = has.feed;
@@ -99,6 +106,8 @@ module _ {T K S : Type 0} {k : Ghosts K} (wanted : S → RequestHead → ℕ)
     idle = λ e. refl;
     requested = has.requested;
     today = has.today;
+    sites_had = has.sites_had;
+    reload = has.reload;
     allowed = (subst (λ x. IsSome x) (sym (has.fetching was is).0) refl, has.allowed);
     given = has.given;
   }

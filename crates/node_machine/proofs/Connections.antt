@@ -27,11 +27,11 @@ module _ {T : Type 0} where
   never_both slot peer none some = absurd (cc)
 
   -- a table without connections
-  pub at_empty : (table : Table T) (history : List NodeEvent) → size_of table ≡ 0 → AreAt table history
+  pub at_empty : {V : Type 0} (table : Table T) (history : List (NodeEvent V)) → size_of table ≡ 0 → AreAt table history
   at_empty table history empty key peer there = absurd (let some = some_there table key peer there in omega arith)
 
   -- the connections that remain are as they were
-  pub at_kept : (old new : Table T) (history : List NodeEvent) → KeepsConnections old new → AreAt old history → AreAt new history
+  pub at_kept : {V : Type 0} (old new : Table T) (history : List (NodeEvent V)) → KeepsConnections old new → AreAt old history → AreAt new history
   at_kept old new history keeps at key peer there =
       let was = keeps key peer there in subst (λ c. HasState c (events_of key history)) (sym was.2) (at key was.0 was.1)
 
@@ -46,7 +46,7 @@ module _ {T : Type 0} where
   ]
 
   -- one connection is added
-  pub at_accepted : (key : ℕ) (old new : Table T) (history : List NodeEvent) → KeepsOthers key old new
+  pub at_accepted : {V : Type 0} (key : ℕ) (old new : Table T) (history : List (NodeEvent V)) → KeepsOthers key old new
       → IsSomeAnd (peer_at new key) (λ peer. HasState peer.connection []) → AreAt old history → AreAt new (Accepted key ∷ history)
   at_accepted key old new history others fresh at other peer there =
       here_or key other (λ events. HasState peer.connection events) [] (events_of other history)
@@ -54,7 +54,7 @@ module _ {T : Type 0} where
       (λ differs. at other peer (sym (others other (λ e. differs (sym e))) ∙ there))
 
   -- one connection had a share
-  pub at_served : (key : ℕ) (share : List Event) (old new : Table T) (history : List NodeEvent) → KeepsOthers key old new
+  pub at_served : {V : Type 0} (key : ℕ) (share : List Event) (old new : Table T) (history : List (NodeEvent V)) → KeepsOthers key old new
       → ((peer : Peer T) → peer_at new key ≡ Some peer → HasState peer.connection (share ++ events_of key history))
       → AreAt old history → AreAt new (Served key share ∷ history)
   at_served key share old new history others served at other peer there =
@@ -71,7 +71,7 @@ module _ {T : Type 0} where
   millis_at table now key = millis_in (peer_at table key) now
 
   -- time passed
-  pub at_passed : (now : ℕ) (old new : Table T) (history : List NodeEvent) → AreElapsed now old new → AreAt old history
+  pub at_passed : {V : Type 0} (now : ℕ) (old new : Table T) (history : List (NodeEvent V)) → AreElapsed now old new → AreAt old history
       → AreAt new (Passed (millis_at old now) ∷ history)
   at_passed now old new history elapsed at key peer there =
       let was = elapsed key peer there in

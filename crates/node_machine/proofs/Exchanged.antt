@@ -32,16 +32,16 @@ has_response (Some (exchange.Arriving arrival)) reply name events given is has =
 has_response None reply name events given is has = absurd (cc (is))
 
 -- the fetch continues
-fetching_on : (next : Fetching) (history : List NodeEvent) → IsFetching next history → (fetching : Fetching) → Some next ≡ Some fetching → IsFetching fetching history
+fetching_on : {V : Type 0} (next : Fetching) (history : List (NodeEvent V)) → IsFetching next history → (fetching : Fetching) → Some next ≡ Some fetching → IsFetching fetching history
 fetching_on next history is fetching e = let same : next ≡ fetching = cc (e) in subst (λ (f : Fetching). IsFetching f history) same is
 
-module _ {T K S : Type 0} {k : Ghosts K} (wanted : S → RequestHead → ℕ)
-    (replies : S → Terms → History → List ℕ → List ℕ → Bool → List ℕ → Type 0) where
+module _ {T K S V : Type 0} {k : Ghosts K} (wanted : S → RequestHead → ℕ)
+    (replies : S → Terms V → History → List ℕ → List ℕ → Bool → List ℕ → Type 0) (sites : S → V) where
   -- with an event of the exchange, after which the fetch has this value
-  pub exchanged_on : (event : ExchangeEvent) (old : NodeMachine T K S k) (was next : Fetching) (history : List NodeEvent) → old.fetching ≡ Some was → next.name ≡ was.name
+  pub exchanged_on : (event : ExchangeEvent) (old : NodeMachine T K S k) (was next : Fetching) (history : List (NodeEvent V)) → old.fetching ≡ Some was → next.name ≡ was.name
       → IsExchangeOf next.exchange next.name (exchange_with event (exchange_in history)) (given_after event (given_in history))
-      → MayExchange event history → IsOwedAfter event (feed_history history) → HasHistory wanted replies old history
-      → HasHistory wanted replies (record old { fetching = Some next }) (Exchanged event ∷ history)
+      → MayExchange event history → IsOwedAfter event (feed_history history) → HasHistory wanted replies sites old history
+      → HasHistory wanted replies sites (record old { fetching = Some next }) (Exchanged event ∷ history)
   exchanged_on event old was next history is same exchange may owed has = record {
     connections = has.connections;
     feed = has.feed;
@@ -49,15 +49,17 @@ module _ {T K S : Type 0} {k : Ghosts K} (wanted : S → RequestHead → ℕ)
     idle = λ e. absurd (cc);
     requested = has.requested;
     today = has.today;
+    sites_had = has.sites_had;
+    reload = has.reload;
     allowed = (may, has.allowed);
     given = (owed, has.given);
   }
 
   -- with a response that the feed took
-  pub took_reply : (old : NodeMachine T K S k) (feed : Feed K k) (was next : Fetching) (reply : Result Got RequestFault) (Stands : History → Type 0) (history : List NodeEvent)
+  pub took_reply : (old : NodeMachine T K S k) (feed : Feed K k) (was next : Fetching) (reply : Result Got RequestFault) (Stands : History → Type 0) (history : List (NodeEvent V))
       → old.fetching ≡ Some was → next.name ≡ was.name → next.exchange ≡ None → ended_response was.exchange ≡ Some reply
-      → IsSubmitted was.name was.fetch.phase reply Stands (recorded old.feed) (recorded feed) → HasHistory wanted replies old history
-      → (steps : History) × HasHistory wanted replies (record old { feed = feed; fetching = Some next }) (Took was.name was.fetch.phase reply steps ∷ history)
+      → IsSubmitted was.name was.fetch.phase reply Stands (recorded old.feed) (recorded feed) → HasHistory wanted replies sites old history
+      → (steps : History) × HasHistory wanted replies sites (record old { feed = feed; fetching = Some next }) (Took was.name was.fetch.phase reply steps ∷ history)
   took_reply old feed was next reply Stands history is same none of extends has =
       let more = extends (feed_history history) has.feed in
       let asked = (has.fetching was is).0 in
@@ -71,18 +73,20 @@ module _ {T K S : Type 0} {k : Ghosts K} (wanted : S → RequestHead → ℕ)
           idle = λ e. absurd (cc);
           requested = has.requested;
           today = has.today;
+          sites_had = has.sites_had;
+          reload = has.reload;
           allowed = (asked, has.allowed);
           given = (more.1, received.0, received.1, has.given);
         },
       )
 
   -- with a part of a whole file that it took
-  pub took_part : (old : NodeMachine T K S k) (feed : Feed K k) (was next : Fetching) (first size : ℕ) (bytes : List ℕ) (ComesOut : Answer → Type 0) (history : List NodeEvent)
+  pub took_part : (old : NodeMachine T K S k) (feed : Feed K k) (was next : Fetching) (first size : ℕ) (bytes : List ℕ) (ComesOut : Answer → Type 0) (history : List (NodeEvent V))
       → old.fetching ≡ Some was → next.name ≡ was.name
       → ((events : List ExchangeEvent) (given : List ℕ) → IsExchangeOf was.exchange was.name events given
       → (name_of events ≡ Some was.name) × IsExchangeOf next.exchange was.name events (given ++ bytes) × HasArrivedPart events size first bytes)
-      → HasRightAnswer ComesOut (recorded old.feed) (Piece was.name first (Some size) bytes) (recorded feed) → HasHistory wanted replies old history
-      → (answer : Answer) × HasHistory wanted replies (record old { feed = feed; fetching = Some next }) (TookPart was.name first size bytes answer ∷ history)
+      → HasRightAnswer ComesOut (recorded old.feed) (Piece was.name first (Some size) bytes) (recorded feed) → HasHistory wanted replies sites old history
+      → (answer : Answer) × HasHistory wanted replies sites (record old { feed = feed; fetching = Some next }) (TookPart was.name first size bytes answer ∷ history)
   took_part old feed was next first size bytes ComesOut history is same passed right has =
       let answered = right (feed_history history) has.feed in
       let asked = (has.fetching was is).0 in
@@ -98,49 +102,51 @@ module _ {T K S : Type 0} {k : Ghosts K} (wanted : S → RequestHead → ℕ)
           idle = λ e. absurd (cc);
           requested = has.requested;
           today = has.today;
+          sites_had = has.sites_had;
+          reload = has.reload;
           allowed = (asked, has.allowed);
           given = (part.0, part.2, has.given);
         },
       )
 
   -- after an event of the exchange, if its response is arriving
-  pub later_either : (event : ExchangeEvent) (old new : NodeMachine T K S k) → (is_arriving (exchange_of old.fetching) ≡ true → HasExchanged wanted replies event old new)
-      → (is_arriving (exchange_of old.fetching) ≡ false → new ≡ old) → IsLater wanted replies old new
+  pub later_either : (event : ExchangeEvent) (old new : NodeMachine T K S k) → (is_arriving (exchange_of old.fetching) ≡ true → HasExchanged wanted replies sites event old new)
+      → (is_arriving (exchange_of old.fetching) ≡ false → new ≡ old) → IsLater wanted replies sites old new
   later_either event old new has same = by (is_arriving (exchange_of old.fetching)) refl
     where
-      by : (b : Bool) → is_arriving (exchange_of old.fetching) ≡ b → IsLater wanted replies old new
-      by true is = later_exchanged wanted replies event old new (has is)
-      by false is = subst (λ node. IsLater wanted replies old node) (sym (same is)) (later_same {wanted = wanted} {replies = replies} old)
+      by : (b : Bool) → is_arriving (exchange_of old.fetching) ≡ b → IsLater wanted replies sites old new
+      by true is = later_exchanged wanted replies sites event old new (has is)
+      by false is = subst (λ node. IsLater wanted replies sites old node) (sym (same is)) (later_same {wanted = wanted} {replies = replies} {sites = sites} old)
 
   -- the response that was taken is the one that the exchange ended with
-  pub taken_as : (old new : NodeMachine T K S k) (history : List NodeEvent) (was : Fetching) (reply : Result Got RequestFault) → old.fetching ≡ Some was
-      → ended_response was.exchange ≡ Some reply → (steps : History) × HasHistory wanted replies new (Took was.name was.fetch.phase reply steps ∷ history)
-      → HasTaken wanted replies old new history
+  pub taken_as : (old new : NodeMachine T K S k) (history : List (NodeEvent V)) (was : Fetching) (reply : Result Got RequestFault) → old.fetching ≡ Some was
+      → ended_response was.exchange ≡ Some reply → (steps : History) × HasHistory wanted replies sites new (Took was.name was.fetch.phase reply steps ∷ history)
+      → HasTaken wanted replies sites old new history
   taken_as old new history was reply is of taken fetching other e f =
       let same : was ≡ fetching = cc (sym is ∙ e) in
       subst (λ (x : Fetching). (r : Result Got RequestFault) → ended_response x.exchange ≡ Some r
-      → (steps : History) × HasHistory wanted replies new (Took x.name x.fetch.phase r steps ∷ history)) same
+      → (steps : History) × HasHistory wanted replies sites new (Took x.name x.fetch.phase r steps ∷ history)) same
       (λ r given. (let whole : reply ≡ r = cc (sym of ∙ given) in
-      subst (λ (r : Result Got RequestFault). (steps : History) × HasHistory wanted replies new (Took was.name was.fetch.phase r steps ∷ history)) whole taken)) other f
+      subst (λ (r : Result Got RequestFault). (steps : History) × HasHistory wanted replies sites new (Took was.name was.fetch.phase r steps ∷ history)) whole taken)) other f
 
   -- the part that was taken is the one that has arrived
-  pub part_taken_as : (old new : NodeMachine T K S k) (history : List NodeEvent) (was : Fetching) → old.fetching ≡ Some was
+  pub part_taken_as : (old new : NodeMachine T K S k) (history : List (NodeEvent V)) (was : Fetching) → old.fetching ≡ Some was
       → ((first size : ℕ) (bytes : List ℕ) → ◌≡◌ {A = Option (ℕ × ℕ × List ℕ)} (part_of was.exchange) (Some (first, size, bytes))
-      → (answer : Answer) × HasHistory wanted replies new (TookPart was.name first size bytes answer ∷ history))
-      → HasTakenPart wanted replies old new history
+      → (answer : Answer) × HasHistory wanted replies sites new (TookPart was.name first size bytes answer ∷ history))
+      → HasTakenPart wanted replies sites old new history
   part_taken_as old new history was is taken fetching first size bytes e f =
       let same : was ≡ fetching = cc (sym is ∙ e) in
       subst (λ (x : Fetching). (first size : ℕ) (bytes : List ℕ) → ◌≡◌ {A = Option (ℕ × ℕ × List ℕ)} (part_of x.exchange) (Some (first, size, bytes))
-      → (answer : Answer) × HasHistory wanted replies new (TookPart x.name first size bytes answer ∷ history)) same taken first size bytes f
+      → (answer : Answer) × HasHistory wanted replies sites new (TookPart x.name first size bytes answer ∷ history)) same taken first size bytes f
 
   -- after such a part, if one has arrived
   pub later_part : (old new : NodeMachine T K S k) (was : Fetching) → old.fetching ≡ Some was
       → (◌≡◌ {A = Option (ℕ × ℕ × List ℕ)} (part_of (exchange_of old.fetching)) None → new ≡ old)
-      → ((history : List NodeEvent) → HasHistory wanted replies old history → HasTakenPart wanted replies old new history) → IsLater wanted replies old new
+      → ((history : List (NodeEvent V)) → HasHistory wanted replies sites old history → HasTakenPart wanted replies sites old new history) → IsLater wanted replies sites old new
   later_part old new was is idle taken = by (part_of was.exchange) refl
     where
-      by : (part : Option (ℕ × ℕ × List ℕ)) → part_of was.exchange ≡ part → IsLater wanted replies old new
+      by : (part : Option (ℕ × ℕ × List ℕ)) → part_of was.exchange ≡ part → IsLater wanted replies sites old new
       by None none =
-          subst (λ node. IsLater wanted replies old node) (sym (idle (ap (λ (f : Option Fetching). part_of (exchange_of f)) is ∙ none)))
-          (later_same {wanted = wanted} {replies = replies} old)
-      by (Some (first, size, bytes)) some = later_taken_part wanted replies was first size bytes old new is some taken
+          subst (λ node. IsLater wanted replies sites old node) (sym (idle (ap (λ (f : Option Fetching). part_of (exchange_of f)) is ∙ none)))
+          (later_same {wanted = wanted} {replies = replies} {sites = sites} old)
+      by (Some (first, size, bytes)) some = later_taken_part wanted replies sites was first size bytes old new is some taken

@@ -22,7 +22,7 @@ use Rattle.feed_http.specs.ResponseLaws.{HasPart}
 use Rattle.feed_http.proofs.ResponseLaw.{part_of_file}
 use Rattle.feed_fetch.specs.declared.machine.FetchRequest.{FetchRequest}
 use Rattle.node_machine.specs.Exchanges.{ExchangeEvent, HasResponse, HasArrivedPart, Reads, method_of, received_of, request_of}
-use Rattle.node_machine.specs.NodeEvents.{NodeEvent, Accepted, Served, Passed, DayBegan, Asked, Began, Finished, Took, TookPart, Exchanged, Reopened}
+use Rattle.node_machine.specs.NodeEvents.{NodeEvent, Accepted, Served, Passed, DayBegan, Asked, Began, Finished, Took, TookPart, Exchanged, AskedSites, SitesBegan, SitesKept, Reopened}
 use Rattle.node_machine.specs.NodeEvents.{feed_history, exchange_in}
 use Rattle.node_machine.specs.Rules.{AreGiven}
 use Rattle.node_machine.specs.Promise.{AgreeWith, IsOfFile, IsServedFrom, AreOfFiles, FilesArePublished, NeverOlder}
@@ -66,7 +66,7 @@ keeps_steps [] h legal = keeps_all h
 keeps_steps ((event, answer) ∷ steps) h legal =
     keeps_on h (steps ++ h) (((event, answer) ∷ steps) ++ h) (keeps_steps steps h legal.1) (keeps_more (steps ++ h) event answer legal.0)
 
-keeps_moment : (later moment : List NodeEvent) → IsLegal (feed_history (later ++ moment)) → Keeps (feed_history moment) (feed_history (later ++ moment))
+keeps_moment : {V : Type 0} (later moment : List (NodeEvent V)) → IsLegal (feed_history (later ++ moment)) → Keeps (feed_history moment) (feed_history (later ++ moment))
 keeps_moment [] moment legal = keeps_all (feed_history moment)
 keeps_moment (Accepted key ∷ later) moment legal = keeps_moment later moment legal
 keeps_moment (Served key share ∷ later) moment legal = keeps_moment later moment legal
@@ -83,6 +83,9 @@ keeps_moment (TookPart name first size bytes answer ∷ later) moment legal =
     keeps_on (feed_history moment) h ((Piece name first (Some size) bytes, answer) ∷ h) (keeps_moment later moment legal.1)
     (keeps_more h (Piece name first (Some size) bytes) answer legal.0)
 keeps_moment (Exchanged event ∷ later) moment legal = keeps_moment later moment legal
+keeps_moment (AskedSites other bytes asked ∷ later) moment legal = keeps_moment later moment legal
+keeps_moment (SitesBegan begun ∷ later) moment legal = keeps_moment later moment legal
+keeps_moment (SitesKept ∷ later) moment legal = keeps_moment later moment legal
 keeps_moment (Reopened ∷ later) moment legal = keeps_moment later moment legal
 
 get_some : (xs : List ℕ) (i : ℕ) → i < length xs → (x : ℕ) × (slice_get xs i ≡ Some x)
@@ -102,10 +105,10 @@ later_report h k package_name n None s x y = absurd (y n x.0 (good_kept h k n s 
 later_report h k package_name n (Some m) s x y = (m, refl, y.0, y.1.1 n (x.0 ∙ sym y.0) (good_kept h k n s x.1.0))
 
 -- no report names an older release than one before
-pub never_older : (history : List NodeEvent) → IsLegal (feed_history history) → NeverOlder history
-never_older history legal moment package_name n report (later, is) before now =
-    let kept_so : Keeps (feed_history moment) (feed_history history) = subst (λ (all : List NodeEvent). Keeps (feed_history moment) (feed_history all)) is
-    (keeps_moment later moment (subst (λ (all : List NodeEvent). IsLegal (feed_history all)) (sym is) legal)) in
+pub never_older : {V : Type 0} (history : List (NodeEvent V)) → IsLegal (feed_history history) → NeverOlder history
+never_older {V} history legal moment package_name n report (later, is) before now =
+    let kept_so : Keeps (feed_history moment) (feed_history history) = subst (λ (all : List (NodeEvent V)). Keeps (feed_history moment) (feed_history all)) is
+    (keeps_moment later moment (subst (λ (all : List (NodeEvent V)). IsLegal (feed_history all)) (sym is) legal)) in
     later_report (feed_history moment) (feed_history history) package_name n report kept_so before now
 
 -- ---- what is known of a release agrees with the published file
@@ -206,7 +209,7 @@ true_steps : (file : Name → List ℕ) (n : Name) (phase : Phase) (reply : Resu
 true_steps file n phase reply [] of all = tt
 true_steps file n phase reply (step ∷ steps) of all = (true_step file n phase reply step.0 of all.0, true_steps file n phase reply steps of all.1)
 
-over_history : (file : Name → List ℕ) (history : List NodeEvent) → AreGiven history → AreOfFiles file history → IsOver file (feed_history history)
+over_history : {V : Type 0} (file : Name → List ℕ) (history : List (NodeEvent V)) → AreGiven history → AreOfFiles file history → IsOver file (feed_history history)
 over_history file [] given of = record { size = λ n s e. absurd (cc); bytes = λ n place b e. absurd (cc) }
 over_history file (Accepted key ∷ earlier) given of = over_history file earlier given of
 over_history file (Served key share ∷ earlier) given of = over_history file earlier given of
@@ -223,6 +226,9 @@ over_history file (TookPart name first size bytes answer ∷ earlier) given of =
     over_more file (feed_history earlier) (Piece name first (Some size) bytes) answer (over_history file earlier given.2 of.1)
     (of_part (file name) (exchange_in earlier) size first bytes of.0 given.1)
 over_history file (Exchanged event ∷ earlier) given of = over_history file earlier given.1 of
+over_history file (AskedSites other bytes asked ∷ earlier) given of = over_history file earlier given of
+over_history file (SitesBegan begun ∷ earlier) given of = over_history file earlier given of
+over_history file (SitesKept ∷ earlier) given of = over_history file earlier given of
 over_history file (Reopened ∷ earlier) given of = over_history file earlier given of
 
 same_list : (xs ys : List ℕ) → length xs ≡ length ys → ((i : ℕ) → i < length xs → slice_get xs i ≡ slice_get ys i) → xs ≡ ys
@@ -235,7 +241,7 @@ same_list (x ∷ xs) (y ∷ ys) e f =
     cc
 
 -- each complete file is the published one
-pub files_published : FilesArePublished
+pub files_published : {V : Type 0} → FilesArePublished V
 files_published file history n text given of is =
     let over = over_history file history given of in
     let size : length text ≡ length (file n) = over.size n (length text) is.0 in

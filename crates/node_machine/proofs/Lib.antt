@@ -6,6 +6,7 @@ pub mod Moments
 pub mod Shares
 pub mod Busy
 pub mod Asked
+pub mod Reloads
 pub mod Later
 pub mod Exchanged
 pub mod Tabled

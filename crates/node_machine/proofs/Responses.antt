@@ -9,6 +9,7 @@ use Rattle.node_connection.specs.States.{HasState}
 use Rattle.node_connection.specs.Streams.{AreResponses}
 use Rattle.node_connection.proofs.States.{all_served}
 use Rattle.node_machine.specs.NodeEvents.{NodeEvent, Accepted, Served, Passed, DayBegan, Asked, Began, Finished, Took, TookPart, Exchanged, Reopened, events_of, IsMoment}
+use Rattle.node_machine.specs.NodeEvents.{AskedSites, SitesBegan, SitesKept}
 use Rattle.node_machine.specs.Rules.{Rules, IsShare, AreAllowed}
 use Rattle.node_machine.specs.Promise.{IsMadeFor, responses_in}
 
@@ -66,11 +67,11 @@ are_both replies (Resumed idle ∷ later) earlier first second = are_both replie
 are_both replies (Elapsed millis ∷ later) earlier first second = are_both replies later earlier first second
 
 -- a moment stays one
-moment_more : (event : NodeEvent) (moment history : List NodeEvent) → IsMoment moment history → IsMoment moment (event ∷ history)
+moment_more : {V : Type 0} (event : NodeEvent V) (moment history : List (NodeEvent V)) → IsMoment moment history → IsMoment moment (event ∷ history)
 moment_more event moment history (later, is) = (event ∷ later, ap (λ h. event ∷ h) is)
 
-module _ (rules : Rules) (token : Option (List ℕ)) (key : ℕ) where
-  made_more : (event : NodeEvent) (history : List NodeEvent) (head body : List ℕ) (keeps : Bool) (reply : Option (List ℕ))
+module _ {V : Type 0} (rules : Rules V) (token : Option (List ℕ)) (key : ℕ) where
+  made_more : (event : NodeEvent V) (history : List (NodeEvent V)) (head body : List ℕ) (keeps : Bool) (reply : Option (List ℕ))
       → IsMadeFor rules token key history head body keeps reply → IsMadeFor rules token key (event ∷ history) head body keeps reply
   made_more event history head body keeps reply is = record {
     share = is.share;
@@ -79,24 +80,26 @@ module _ (rules : Rules) (token : Option (List ℕ)) (key : ℕ) where
     is_local = is.is_local;
     today = is.today;
     day = is.day;
+    sites = is.sites;
+    had = is.had;
     made = is.made;
   }
 
-  more_in : (event : NodeEvent) (history : List NodeEvent) (events : List Event) → AreResponses (responses_in rules token key history) events
+  more_in : (event : NodeEvent V) (history : List (NodeEvent V)) (events : List Event) → AreResponses (responses_in rules token key history) events
       → AreResponses (responses_in rules token key (event ∷ history)) events
   more_in event history events are = are_more rules.0 _ (IsMadeFor rules token key (event ∷ history)) (made_more event history) events are
 
-  served_in : (event : NodeEvent) (history : List NodeEvent) (received sent : List ℕ) → IsServed (responses_in rules token key history) received sent
+  served_in : (event : NodeEvent V) (history : List (NodeEvent V)) (received sent : List ℕ) → IsServed (responses_in rules token key history) received sent
       → IsServed (responses_in rules token key (event ∷ history)) received sent
   served_in event history received sent is = served_more rules.0 _ (IsMadeFor rules token key (event ∷ history)) (made_more event history) received sent is
 
   -- the responses of a share are made in it
-  of_share : (share : List Event) (earlier : List NodeEvent) → IsShare rules token key share earlier
+  of_share : (share : List Event) (earlier : List (NodeEvent V)) → IsShare rules token key share earlier
       → AreResponses (responses_in rules token key (Served key share ∷ earlier)) share
   of_share share earlier is =
       are_more rules.0 _ (IsMadeFor rules token key (Served key share ∷ earlier))
       (λ head body keeps reply made.
-      record { share = share; earlier = earlier; moment = ([], refl); is_local = is.is_local; today = is.today; day = is.day; made = made })
+      record { share = share; earlier = earlier; moment = ([], refl); is_local = is.is_local; today = is.today; day = is.day; sites = is.sites; had = is.had; made = made })
       share is.replied
 
   -- what holds of the events under this key, by whether the share was its own
@@ -108,7 +111,7 @@ module _ (rules : Rules) (token : Option (List ℕ)) (key : ℕ) where
       by false is = differs
 
   -- each response to the connection with this key was made in one of its shares
-  pub all_made : (history : List NodeEvent) → AreAllowed rules token history → AreResponses (responses_in rules token key history) (events_of key history)
+  pub all_made : (history : List (NodeEvent V)) → AreAllowed rules token history → AreResponses (responses_in rules token key history) (events_of key history)
   all_made [] allowed = tt
   all_made (Accepted other ∷ earlier) allowed =
       by_key other (AreResponses (responses_in rules token key (Accepted other ∷ earlier))) [] (events_of key earlier) (λ same. tt)
@@ -129,13 +132,16 @@ module _ (rules : Rules) (token : Option (List ℕ)) (key : ℕ) where
   all_made (TookPart name first size bytes answer ∷ earlier) allowed =
       more_in (TookPart name first size bytes answer) earlier (events_of key earlier) (all_made earlier allowed.1)
   all_made (Exchanged event ∷ earlier) allowed = more_in (Exchanged event) earlier (events_of key earlier) (all_made earlier allowed.1)
+  all_made (AskedSites other bytes asked ∷ earlier) allowed = more_in (AskedSites other bytes asked) earlier (events_of key earlier) (all_made earlier allowed.2)
+  all_made (SitesBegan begun ∷ earlier) allowed = more_in (SitesBegan begun) earlier (events_of key earlier) (all_made earlier allowed.1)
+  all_made (SitesKept ∷ earlier) allowed = more_in SitesKept earlier (events_of key earlier) (all_made earlier allowed.1)
   all_made (Reopened ∷ earlier) allowed = tt
 
-  nothing_served : (history : List NodeEvent) → IsServed (responses_in rules token key history) [] []
+  nothing_served : (history : List (NodeEvent V)) → IsServed (responses_in rules token key history) [] []
   nothing_served history = record { exchanges = []; rest = []; pending = []; unsent = []; in_order = refl; replied = tt; expected = inl refl; front = refl }
 
   -- the bytes sent on the connection are the beginning of the responses to the requests in the bytes received
-  pub all_served_in : (history : List NodeEvent) → AreAllowed rules token history
+  pub all_served_in : (history : List (NodeEvent V)) → AreAllowed rules token history
       → IsServed (responses_in rules token key history) (received_bytes (events_of key history)) (sent_bytes (events_of key history))
   all_served_in [] allowed = nothing_served []
   all_served_in (Accepted other ∷ earlier) allowed =
@@ -164,4 +170,7 @@ module _ (rules : Rules) (token : Option (List ℕ)) (key : ℕ) where
   all_served_in (TookPart name first size bytes answer ∷ earlier) allowed =
       served_in (TookPart name first size bytes answer) earlier _ _ (all_served_in earlier allowed.1)
   all_served_in (Exchanged event ∷ earlier) allowed = served_in (Exchanged event) earlier _ _ (all_served_in earlier allowed.1)
+  all_served_in (AskedSites other bytes asked ∷ earlier) allowed = served_in (AskedSites other bytes asked) earlier _ _ (all_served_in earlier allowed.2)
+  all_served_in (SitesBegan begun ∷ earlier) allowed = served_in (SitesBegan begun) earlier _ _ (all_served_in earlier allowed.1)
+  all_served_in (SitesKept ∷ earlier) allowed = served_in SitesKept earlier _ _ (all_served_in earlier allowed.1)
   all_served_in (Reopened ∷ earlier) allowed = nothing_served (Reopened ∷ earlier)

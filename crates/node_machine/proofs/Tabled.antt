@@ -24,12 +24,13 @@ with_table node table = record {
   fetching = node.fetching;
   requested = node.requested;
   today = node.today;
+  reload = node.reload;
 }
 
-module _ {T K S : Type 0} {k : Ghosts K} (wanted : S → RequestHead → ℕ)
-    (replies : S → Terms → History → List ℕ → List ℕ → Bool → List ℕ → Type 0) (node : NodeMachine T K S k) (table : Table T) where
-  at_tabled : (history : List NodeEvent) → AreAt table history → HasHistory wanted replies node history
-      → HasHistory wanted replies (with_table node table) history
+module _ {T K S V : Type 0} {k : Ghosts K} (wanted : S → RequestHead → ℕ)
+    (replies : S → Terms V → History → List ℕ → List ℕ → Bool → List ℕ → Type 0) (sites : S → V) (node : NodeMachine T K S k) (table : Table T) where
+  at_tabled : (history : List (NodeEvent V)) → AreAt table history → HasHistory wanted replies sites node history
+      → HasHistory wanted replies sites (with_table node table) history
   at_tabled history at has = record {
     connections = at;
     feed = has.feed;
@@ -37,17 +38,19 @@ module _ {T K S : Type 0} {k : Ghosts K} (wanted : S → RequestHead → ℕ)
     idle = has.idle;
     requested = has.requested;
     today = has.today;
+    sites_had = has.sites_had;
+    reload = has.reload;
     allowed = has.allowed;
     given = has.given;
   }
 
   -- the connections that remain are as they were
-  pub tabled : KeepsConnections node.table table → KeepsHistory wanted replies node (with_table node table)
+  pub tabled : KeepsConnections node.table table → KeepsHistory wanted replies sites node (with_table node table)
   tabled keeps history has = at_tabled history (at_kept node.table table history keeps has.connections) has
 
   -- the connection with this key had one more share, if it is there
-  pub moved : (key : ℕ) (history : List NodeEvent) → MovesBy (rules_of wanted replies node) (option_copied node.token) key table history
-      → HasHistory wanted replies node history → HasServed wanted replies key (with_table node table) history
+  pub moved : (key : ℕ) (history : List (NodeEvent V)) → MovesBy (rules_of wanted replies sites node) (option_copied node.token) key table history
+      → HasHistory wanted replies sites node history → HasServed wanted replies sites key (with_table node table) history
   moved key history (inl at) has = inl (at_tabled history at has)
   moved key history (inr (share, at, is)) has = inr (
     share,
@@ -58,6 +61,8 @@ module _ {T K S : Type 0} {k : Ghosts K} (wanted : S → RequestHead → ℕ)
       idle = has.idle;
       requested = has.requested;
       today = has.today;
+      sites_had = has.sites_had;
+      reload = has.reload;
       allowed = (is, has.allowed);
       given = has.given;
     },

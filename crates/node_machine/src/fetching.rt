@@ -233,9 +233,9 @@ impl<'a, T: Stream, K: Keep, S: FeedRespond + Drop> NodeMachine<'a, T, K, S> {
     pub fn begin_fetch(&mut self, piece: u64) -> Option<Result<(), NameFault>>
         requires least { 1 ≤ piece }
         requires most { piece ≤ piece_limit }
-        ensures begun { HasBegun S.wanted S.responses self.old self.new }
+        ensures begun { HasBegun S.wanted S.responses S.sites self.old self.new }
         ensures kept { self.old.requested ≡ None → self.new ≡ self.old }
-        ensures later { IsLater S.wanted S.responses self.old self.new }
+        ensures later { IsLater S.wanted S.responses S.sites self.old self.new }
     {
         match self.requested.take()? {
             Ok(name) => {
@@ -254,9 +254,9 @@ impl<'a, T: Stream, K: Keep, S: FeedRespond + Drop> NodeMachine<'a, T, K, S> {
     /// Ends the fetch that is under way. Returns the release.
     pub fn end_fetch(&mut self) -> Option<ReleaseName>
         ensures ended { result ≡ release_of self.old.fetching }
-        ensures finished { HasFinished S.wanted S.responses self.old self.new }
+        ensures finished { HasFinished S.wanted S.responses S.sites self.old self.new }
         ensures kept { self.old.fetching ≡ None → self.new ≡ self.old }
-        ensures later { IsLater S.wanted S.responses self.old self.new }
+        ensures later { IsLater S.wanted S.responses S.sites self.old self.new }
     {
         let fetching = self.fetching.take()?;
         Some(fetching.name)
@@ -276,7 +276,7 @@ impl<'a, T: Stream, K: Keep, S: FeedRespond + Drop> NodeMachine<'a, T, K, S> {
     ) -> Result<Option<NextRequest>, AllocError>
         requires { IsTrue (is_host host.now) }
         ensures requested { IfOk result (λ next. IfSome next (λ sent.
-            HasRequested S.wanted S.responses front sent.request self.old self.new)) }
+            HasRequested S.wanted S.responses S.sites front sent.request self.old self.new)) }
         ensures text { IfOk result (λ next. IfSome next (λ sent. (fetching : Fetching)
             → self.old.fetching ≡ Some fetching
             → sent.text.items ≡ request_text host.now (text_of fetching.name) sent.request)) }
@@ -284,7 +284,7 @@ impl<'a, T: Stream, K: Keep, S: FeedRespond + Drop> NodeMachine<'a, T, K, S> {
             → (h : History) → IsContent (recorded self.old.feed) h
             → IsNextStep fetching.name fetching.fetch.piece fetching.fetch.phase h Next.Done }
         ensures kept { IsOkAnd result (λ next. IsSome next) ⊎ (self.new ≡ self.old) }
-        ensures later { IsLater S.wanted S.responses self.old self.new }
+        ensures later { IsLater S.wanted S.responses S.sites self.old self.new }
     {
         let Some(fetching) = &self.fetching else {
             return Ok(None);
@@ -323,9 +323,9 @@ impl<'a, T: Stream, K: Keep, S: FeedRespond + Drop> NodeMachine<'a, T, K, S> {
     /// Takes bytes that the connection to the knowledge base gave, if a response is arriving.
     pub fn receive(&mut self, bytes: &[u8])
         ensures received { is_arriving (exchange_of self.old.fetching) ≡ true
-            → HasExchanged S.wanted S.responses (Received bytes.now) self.old self.new }
+            → HasExchanged S.wanted S.responses S.sites (Received bytes.now) self.old self.new }
         ensures kept { is_arriving (exchange_of self.old.fetching) ≡ false → self.new ≡ self.old }
-        ensures later { IsLater S.wanted S.responses self.old self.new }
+        ensures later { IsLater S.wanted S.responses S.sites self.old self.new }
     {
         if let Some(fetching) = self.fetching.take() {
             self.fetching = Some(fetching.receive(bytes));
@@ -335,9 +335,9 @@ impl<'a, T: Stream, K: Keep, S: FeedRespond + Drop> NodeMachine<'a, T, K, S> {
     /// Takes the end of the connection to the knowledge base, if a response is arriving.
     pub fn end_connection(&mut self, end: StreamEnd)
         ensures ended { is_arriving (exchange_of self.old.fetching) ≡ true
-            → HasExchanged S.wanted S.responses (Ended end) self.old self.new }
+            → HasExchanged S.wanted S.responses S.sites (Ended end) self.old self.new }
         ensures kept { is_arriving (exchange_of self.old.fetching) ≡ false → self.new ≡ self.old }
-        ensures later { IsLater S.wanted S.responses self.old self.new }
+        ensures later { IsLater S.wanted S.responses S.sites self.old self.new }
     {
         if let Some(fetching) = self.fetching.take() {
             self.fetching = Some(fetching.end(end));
@@ -351,9 +351,9 @@ impl<'a, T: Stream, K: Keep, S: FeedRespond + Drop> NodeMachine<'a, T, K, S> {
         is_read_again: bool,
         out: &mut O,
     ) -> Result<(), Stop>
-        ensures taken { (history : List NodeEvent) → HasHistory S.wanted S.responses self.old history
-            → HasTaken S.wanted S.responses self.old self.new history }
-        ensures later { IsLater S.wanted S.responses self.old self.new }
+        ensures taken { (history : List (NodeEvent S.Sites)) → HasHistory S.wanted S.responses S.sites self.old history
+            → HasTaken S.wanted S.responses S.sites self.old self.new history }
+        ensures later { IsLater S.wanted S.responses S.sites self.old self.new }
         ensures idle { ended_response (exchange_of self.old.fetching) ≡ None → self.new ≡ self.old }
     {
         let Some(fetching) = self.fetching.take() else {
@@ -395,9 +395,9 @@ impl<'a, T: Stream, K: Keep, S: FeedRespond + Drop> NodeMachine<'a, T, K, S> {
     /// Takes the part of a whole file that has arrived, before the rest of it. Returns whether it had new bytes, or why
     /// the fetch stops.
     pub fn take_part<O: Observe>(&mut self, out: &mut O) -> Result<bool, Stop>
-        ensures taken { (history : List NodeEvent) → HasHistory S.wanted S.responses self.old history
-            → HasTakenPart S.wanted S.responses self.old self.new history }
-        ensures later { IsLater S.wanted S.responses self.old self.new }
+        ensures taken { (history : List (NodeEvent S.Sites)) → HasHistory S.wanted S.responses S.sites self.old history
+            → HasTakenPart S.wanted S.responses S.sites self.old self.new history }
+        ensures later { IsLater S.wanted S.responses S.sites self.old self.new }
         ensures idle { part_of (exchange_of self.old.fetching) ≡ None → self.new ≡ self.old }
     {
         let Some(fetching) = self.fetching.take() else {
@@ -438,8 +438,8 @@ impl<'a, T: Stream, K: Keep, S: FeedRespond + Drop> NodeMachine<'a, T, K, S> {
     /// Has the feed do some of the work that no answer waits for: it frees a portion of the releases that the last
     /// switch removed, or reads ahead at most 131,072 bytes. Returns whether there is more to do.
     pub fn catch_up(&mut self) -> bool
-        ensures history { KeepsHistory S.wanted S.responses self.old self.new }
-        ensures later { IsLater S.wanted S.responses self.old self.new }
+        ensures history { KeepsHistory S.wanted S.responses S.sites self.old self.new }
+        ensures later { IsLater S.wanted S.responses S.sites self.old self.new }
     {
         self.feed.catch_up()
     }
@@ -459,7 +459,8 @@ impl<'a, T: Stream, K: Keep, S: FeedRespond + Drop> NodeMachine<'a, T, K, S> {
 
     /// Closes all connections, and returns the keeper. A node that is opened over it has the same history.
     pub fn into_keeper(self) -> K
-        ensures { (history : List NodeEvent) → HasHistory S.wanted S.responses self.entry history → K.clean result
+        ensures { (history : List (NodeEvent S.Sites))
+            → HasHistory S.wanted S.responses S.sites self.entry history → K.clean result
             → IsContent (K.content result) (feed_history history) × AreGiven history }
     {
         let NodeMachine {
@@ -471,6 +472,7 @@ impl<'a, T: Stream, K: Keep, S: FeedRespond + Drop> NodeMachine<'a, T, K, S> {
             fetching: _,
             requested: _,
             today: _,
+            reload: _,
         } = self;
         feed.restart()
     }

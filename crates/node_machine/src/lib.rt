@@ -7,6 +7,7 @@ mod fetching;
 mod laws;
 mod machine;
 mod occasion;
+mod reloading;
 mod stepping;
 
 pub use exchange::{Arrival, Exchange};

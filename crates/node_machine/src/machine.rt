@@ -8,7 +8,7 @@ ghost use Rattle.feed_releases.specs.Feeds.{recorded};
 ghost use Rattle.node_table.specs.Peers.{held_limit};
 ghost use Rattle.node_table.specs.Tables.{peer_at, size_of, bytes_held, HasClosed, IsExpired, IsFirstToClose};
 ghost use Rattle.node_table.specs.Tables.{IsRemoved};
-ghost use Rattle.node_machine.specs.NodeEvents.{NodeEvent, Accepted, Passed, DayBegan, Reopened};
+ghost use Rattle.node_machine.specs.NodeEvents.{NodeEvent, Accepted, Passed, DayBegan, SitesBegan, Reopened};
 ghost use Rattle.node_machine.specs.NodeEvents.{accepted_in, feed_history};
 ghost use Rattle.node_machine.specs.Rules.{AreGiven};
 ghost use Rattle.node_machine.specs.Nodes.{table_of, HasHistory, IsLater, KeepsHistory};
@@ -20,6 +20,7 @@ use feed_keep::Keep;
 use feed_names::{NameFault, ReleaseName};
 use feed_releases::Feed;
 use node_connection::Shortage;
+use node_request::SitesRequest;
 use node_table::{CloseCause, Log, NewConnection, Stream, Table, TurnRest};
 use std::alloc::Global;
 
@@ -38,6 +39,8 @@ pub struct NodeMachine<'a, T, K: Keep, S> {
     pub(crate) requested: Option<Result<ReleaseName, NameFault>>,
     /// The day, in UTC.
     pub(crate) today: Today,
+    /// The request of a client about the folder of site files, while the folder is read for it.
+    pub(crate) reload: Option<SitesRequest>,
 }
 
 impl<'a, T: Stream, K: Keep, S: FeedRespond + Drop> NodeMachine<'a, T, K, S> {
@@ -51,8 +54,9 @@ impl<'a, T: Stream, K: Keep, S: FeedRespond + Drop> NodeMachine<'a, T, K, S> {
         today: Today,
     ) -> NodeMachine<'a, T, K, S>
         requires { size_of table ≡ 0 }
-        ensures history { (history : List NodeEvent) → IsContent (recorded feed) (feed_history history)
-            → AreGiven history → HasHistory S.wanted S.responses result (DayBegan today ∷ Reopened ∷ history) }
+        ensures history { (history : List (NodeEvent S.Sites)) → IsContent (recorded feed) (feed_history history)
+            → AreGiven history → HasHistory S.wanted S.responses S.sites result
+            (SitesBegan (S.sites responder) ∷ DayBegan today ∷ Reopened ∷ history) }
         ensures token { option_copied result.token ≡ option_copied token.entry }
     {
         NodeMachine {
@@ -64,14 +68,16 @@ impl<'a, T: Stream, K: Keep, S: FeedRespond + Drop> NodeMachine<'a, T, K, S> {
             fetching: None,
             requested: None,
             today,
+            reload: None,
         }
     }
 
     /// Begins a day.
     pub fn begin_day(&mut self, today: Today)
-        ensures history { (history : List NodeEvent) → HasHistory S.wanted S.responses self.old history
-            → HasHistory S.wanted S.responses self.new (DayBegan today ∷ history) }
-        ensures later { IsLater S.wanted S.responses self.old self.new }
+        ensures history { (history : List (NodeEvent S.Sites))
+            → HasHistory S.wanted S.responses S.sites self.old history
+            → HasHistory S.wanted S.responses S.sites self.new (DayBegan today ∷ history) }
+        ensures later { IsLater S.wanted S.responses S.sites self.old self.new }
     {
         self.today = today;
     }
@@ -85,8 +91,8 @@ impl<'a, T: Stream, K: Keep, S: FeedRespond + Drop> NodeMachine<'a, T, K, S> {
 
     /// Closes the connection that is closed for a place, if there is any.
     pub fn make_room<L: Log>(&mut self, now: u64, log: &mut L)
-        ensures history { KeepsHistory S.wanted S.responses self.old self.new }
-        ensures later { IsLater S.wanted S.responses self.old self.new }
+        ensures history { KeepsHistory S.wanted S.responses S.sites self.old self.new }
+        ensures later { IsLater S.wanted S.responses S.sites self.old self.new }
         ensures removed { 0 < size_of (table_of self.old) → (key : ℕ)
             × IsFirstToClose Shortage.Places (table_of self.old) key
             × IsRemoved L.records key CloseCause.Evicted now (table_of self.old) (table_of self.new) log.old log.new }
@@ -97,8 +103,8 @@ impl<'a, T: Stream, K: Keep, S: FeedRespond + Drop> NodeMachine<'a, T, K, S> {
     /// Closes the connection whose response takes the most memory, if the responses take more than 33,554,432 bytes.
     /// Afterwards they take less.
     pub fn free_memory<L: Log>(&mut self, now: u64, log: &mut L)
-        ensures history { KeepsHistory S.wanted S.responses self.old self.new }
-        ensures later { IsLater S.wanted S.responses self.old self.new }
+        ensures history { KeepsHistory S.wanted S.responses S.sites self.old self.new }
+        ensures later { IsLater S.wanted S.responses S.sites self.old self.new }
         ensures within { bytes_held (table_of self.new) ≤ held_limit }
         ensures removed { held_limit < bytes_held (table_of self.old) → (key : ℕ)
             × IsFirstToClose Shortage.Memory (table_of self.old) key
@@ -109,7 +115,7 @@ impl<'a, T: Stream, K: Keep, S: FeedRespond + Drop> NodeMachine<'a, T, K, S> {
     }
 
     fn make_room_if_full<L: Log>(&mut self, now: u64, log: &mut L)
-        ensures { KeepsHistory S.wanted S.responses self.old self.new }
+        ensures { KeepsHistory S.wanted S.responses S.sites self.old self.new }
     {
         if self.table.is_full() {
             self.make_room(now, log);
@@ -119,9 +125,10 @@ impl<'a, T: Stream, K: Keep, S: FeedRespond + Drop> NodeMachine<'a, T, K, S> {
     /// Adds a connection that was accepted now, and returns its key. If there are as many connections as there may be,
     /// closes another one for it. Returns none if there may be none.
     pub fn accept<L: Log>(&mut self, accepted: NewConnection<T>, log: &mut L) -> Option<usize>
-        ensures history { (history : List NodeEvent) → HasHistory S.wanted S.responses self.old history
-            → HasHistory S.wanted S.responses self.new (accepted_in result history) }
-        ensures later { IsLater S.wanted S.responses self.old self.new }
+        ensures history { (history : List (NodeEvent S.Sites))
+            → HasHistory S.wanted S.responses S.sites self.old history
+            → HasHistory S.wanted S.responses S.sites self.new (accepted_in result history) }
+        ensures later { IsLater S.wanted S.responses S.sites self.old self.new }
     {
         self.make_room_if_full(accepted.now, log);
         if self.table.is_full() {
@@ -133,16 +140,16 @@ impl<'a, T: Stream, K: Keep, S: FeedRespond + Drop> NodeMachine<'a, T, K, S> {
 
     /// Registers the stream of a connection for events under its key. Returns whether that succeeded.
     pub fn register(&mut self, key: usize, registry: &T::Registry) -> bool
-        ensures history { KeepsHistory S.wanted S.responses self.old self.new }
-        ensures later { IsLater S.wanted S.responses self.old self.new }
+        ensures history { KeepsHistory S.wanted S.responses S.sites self.old self.new }
+        ensures later { IsLater S.wanted S.responses S.sites self.old self.new }
     {
         self.table.register(key, registry)
     }
 
     /// Takes the key of the connection that a turn serves next, as `Table::next_ready` does.
     pub fn next_ready(&mut self, rest: &mut TurnRest, is_over: bool) -> Option<usize>
-        ensures history { KeepsHistory S.wanted S.responses self.old self.new }
-        ensures later { IsLater S.wanted S.responses self.old self.new }
+        ensures history { KeepsHistory S.wanted S.responses S.sites self.old self.new }
+        ensures later { IsLater S.wanted S.responses S.sites self.old self.new }
         ensures taken { IsTaken result (table_of self.old).ready (table_of self.new).ready }
         ensures first { MayServe is_over rest.old.fresh (fresh_keys (table_of self.old).ready)
             → IsSomeAnd result (λ key. IsFromFresh key (table_of self.old).ready (table_of self.new).ready) }
@@ -157,8 +164,8 @@ impl<'a, T: Stream, K: Keep, S: FeedRespond + Drop> NodeMachine<'a, T, K, S> {
 
     /// Marks a connection as ready, so that a turn serves it.
     pub fn mark_ready(&mut self, key: usize)
-        ensures history { KeepsHistory S.wanted S.responses self.old self.new }
-        ensures later { IsLater S.wanted S.responses self.old self.new }
+        ensures history { KeepsHistory S.wanted S.responses S.sites self.old self.new }
+        ensures later { IsLater S.wanted S.responses S.sites self.old self.new }
     {
         self.table.mark_ready(key);
     }
@@ -171,8 +178,8 @@ impl<'a, T: Stream, K: Keep, S: FeedRespond + Drop> NodeMachine<'a, T, K, S> {
         now: u64,
         log: &mut L,
     ) -> Option<T>
-        ensures history { KeepsHistory S.wanted S.responses self.old self.new }
-        ensures later { IsLater S.wanted S.responses self.old self.new }
+        ensures history { KeepsHistory S.wanted S.responses S.sites self.old self.new }
+        ensures later { IsLater S.wanted S.responses S.sites self.old self.new }
         ensures removed { IsSome (peer_at (table_of self.old) key)
             → IsRemoved L.records key cause now (table_of self.old) (table_of self.new) log.old log.new }
     {
@@ -181,9 +188,10 @@ impl<'a, T: Stream, K: Keep, S: FeedRespond + Drop> NodeMachine<'a, T, K, S> {
 
     /// Advances the clocks of all connections, and removes those that are out of time.
     pub fn advance_clock<L: Log>(&mut self, now: u64, log: &mut L)
-        ensures history { (history : List NodeEvent) → HasHistory S.wanted S.responses self.old history
-            → (millis : ℕ → ℕ) × HasHistory S.wanted S.responses self.new (Passed millis ∷ history) }
-        ensures later { IsLater S.wanted S.responses self.old self.new }
+        ensures history { (history : List (NodeEvent S.Sites))
+            → HasHistory S.wanted S.responses S.sites self.old history
+            → (millis : ℕ → ℕ) × HasHistory S.wanted S.responses S.sites self.new (Passed millis ∷ history) }
+        ensures later { IsLater S.wanted S.responses S.sites self.old self.new }
         ensures expired { IsExpired now (table_of self.old) (table_of self.new) }
         ensures closed { HasClosed L.records CloseCause.TimedOut (table_of self.old) (table_of self.new)
             log.old log.new }

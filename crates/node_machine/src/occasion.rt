@@ -28,14 +28,20 @@ pub trait FeedRespond {
     ghost use Rattle.feed_model.specs.History.{History};
     ghost use Rattle.node_connection.specs.Requests.{IsPersistent};
     ghost use Rattle.node_machine.specs.Rules.{Terms};
-    ghost use Rattle.node_machine.specs.Occasions.{IsResponseOn};
+    ghost use Rattle.node_machine.specs.Occasions.{AreResponsesOf, IsResponseOn};
 
     /// The length of the body that the responder wants after this head, or 0.
     ghost wanted: { Self → RequestHead → ℕ };
 
+    /// The sites of hosts.
+    type Sites: Drop;
+
+    /// The sites that it responds with.
+    ghost sites: { Self → Self.Sites };
+
     /// In these circumstances and for a feed with this history, a head of a request, or bytes that are not one, and
     /// this body have this response if the connection persists after it, or does not.
-    ghost responses: { Self → Terms → History → List ℕ → List ℕ → Bool → List ℕ → Type 0 };
+    ghost responses: { Self → Terms Self.Sites → History → List ℕ → List ℕ → Bool → List ℕ → Type 0 };
 
     /// Returns how many bytes of a body are received after the head of a request: at most 8,192, and 0 for none.
     fn body_len(&self, parsed: &ParsedRequest<'_>) -> usize
@@ -52,7 +58,7 @@ pub trait FeedRespond {
     ) -> Result<LoggedResponse, RespondFault>
         requires allowed { request.now.persists ≡ true
             → IsPersistent (wanted self.now) request.now.received.bytes.now request.now.body.now }
-        ensures reply { IfOk result (λ reply. IsResponseOn (responses self.now) occasion.now
+        ensures reply { IfOk result (λ reply. IsResponseOn (responses self.now) (sites self.now) occasion.now
             request.now.received.bytes.now request.now.body.now request.now.persists (Some reply.bytes.items)) }
         ensures says { IfOk result (λ reply. SaysWhetherItKeeps request.now.persists reply.bytes.items) };
 
@@ -69,6 +75,13 @@ pub trait FeedRespond {
         feed: &Feed<K>,
     ) -> Result<bool, AllocError>
         ensures { self.new ≡ self.old };
+
+    /// Responds with these sites from now on, and otherwise as before. Returns the sites that it had.
+    fn replace_sites(&mut self, begun: Self::Sites) -> Self::Sites
+        ensures sites { sites self.new ≡ begun }
+        ensures old { result ≡ sites self.old }
+        ensures wanted { wanted self.new ≡ wanted self.old }
+        ensures responses { AreResponsesOf (responses self.old) (responses self.new) };
 }
 
 /// A responder with the feed of one moment.
@@ -111,7 +124,8 @@ impl<'s, 'f, 't, K: Keep, S: FeedRespond> Respond for MomentResponder<'s, 'f, 't
 
     ghost wanted = { λ moment head. S.wanted moment.responder.now head };
 
-    ghost responses = { λ moment. IsResponseOn (S.responses moment.responder.now) moment.occasion };
+    ghost responses = { λ moment. IsResponseOn (S.responses moment.responder.now) (S.sites moment.responder.now)
+        moment.occasion };
 
     fn body_len(&self, parsed: &ParsedRequest<'_>) -> usize {
         self.responder.body_len(parsed)

@@ -10,18 +10,20 @@ use crate::machine::NodeMachine;
 use crate::occasion::{FeedRespond, MomentResponder};
 use feed_keep::Keep;
 use node_connection::{Progress, Share};
-use node_request::{FetchPolicy, fetch_to_begin};
+use node_request::{FetchPolicy, fetch_to_begin, sites_to_read};
 use node_table::{Log, Outcome, Stream, Turn};
 
 impl<'a, T: Stream, K: Keep, S: FeedRespond + Drop> NodeMachine<'a, T, K, S> {
-    // Returns who may make the node fetch now: a fetch that was requested excludes another one, too.
+    // Returns who may make the node fetch or read its folder now. A fetch that was requested excludes another one, too.
     fn policy(&self) -> FetchPolicy<'a>
         ensures token { result.token ≡ option_copied self.now.token }
         ensures busy { result.is_busy ≡ (is_some self.now.fetching || is_some self.now.requested) }
+        ensures reloading { result.is_reloading ≡ is_some self.now.reload }
     {
         FetchPolicy {
             token: self.token,
             is_busy: self.fetching.is_some() || self.requested.is_some(),
+            is_reloading: self.reload.is_some(),
         }
     }
 
@@ -34,10 +36,12 @@ impl<'a, T: Stream, K: Keep, S: FeedRespond + Drop> NodeMachine<'a, T, K, S> {
         share: &mut Share,
     ) -> Progress
         requires { bytes_held (table_of self.old) ≤ held_limit }
-        ensures history { (history : List NodeEvent) → HasHistory S.wanted S.responses self.old history
-            → HasServed S.wanted S.responses turn.key self.new history }
+        ensures history { (history : List (NodeEvent S.Sites))
+            → HasHistory S.wanted S.responses S.sites self.old history
+            → HasServed S.wanted S.responses S.sites turn.key self.new history }
         ensures rest { KeepsRest turn.key self.old self.new }
         ensures requested { self.new.requested ≡ self.old.requested }
+        ensures reload { self.new.reload ≡ self.old.reload }
     {
         let policy = self.policy();
         let moment = MomentResponder::new(
@@ -51,25 +55,31 @@ impl<'a, T: Stream, K: Keep, S: FeedRespond + Drop> NodeMachine<'a, T, K, S> {
             .serve_peer(turn, self.alloc, &moment, buffer, share)
     }
 
-    // Notes the release that the request of a connection makes the node fetch, if its response is streamed.
+    // Notes what the request of a connection makes the node do, if its response is streamed: to fetch a release, or to
+    // read its folder.
     fn note_request(&mut self, key: usize)
-        ensures history { (history : List NodeEvent) → HasHistory S.wanted S.responses self.old history
-            → HasAsked S.wanted S.responses key self.new history }
+        ensures history { (history : List (NodeEvent S.Sites))
+            → HasHistory S.wanted S.responses S.sites self.old history
+            → HasAsked S.wanted S.responses S.sites key self.new history }
         ensures noted { HasNoted key self.old self.new }
         ensures rest { KeepsRest key self.old self.new }
     {
         let Some(received) = self.table.streamed_request(key) else {
             return;
         };
-        if let Some(asked) = fetch_to_begin(self.alloc, &received, &self.policy()) {
+        let policy = self.policy();
+        if let Some(asked) = fetch_to_begin(self.alloc, &received, &policy) {
             self.requested = Some(asked);
+        } else if let Some(asked) = sites_to_read(&received, &policy) {
+            self.reload = Some(asked);
         }
     }
 
     /// Gives a connection a share of the turn: it receives, responds and sends until its stream would block, a response
     /// was sent, or the share is used. The responses are those to the feed as it is. A request that has the token may
-    /// ask for a release, which is to be fetched next. `free_memory` was called before, so that the response is the
-    /// only one past the limit. `is_local` is whether the client is on the same machine.
+    /// ask for a release, which is to be fetched next, or that the folder of site files be read. `free_memory` was
+    /// called before, so that the response is the only one past the limit. `is_local` is whether the client is on the
+    /// same machine.
     pub fn serve_share(
         &mut self,
         turn: Turn,
@@ -78,10 +88,11 @@ impl<'a, T: Stream, K: Keep, S: FeedRespond + Drop> NodeMachine<'a, T, K, S> {
         share: &mut Share,
     ) -> Progress
         requires { bytes_held (table_of self.old) ≤ held_limit }
-        ensures history { (history : List NodeEvent) → HasHistory S.wanted S.responses self.old history
-            → HasAdvanced S.wanted S.responses turn.key self.new history }
+        ensures history { (history : List (NodeEvent S.Sites))
+            → HasHistory S.wanted S.responses S.sites self.old history
+            → HasAdvanced S.wanted S.responses S.sites turn.key self.new history }
         ensures noted { share.new.responses < share.old.responses → HasNoted turn.key self.old self.new }
-        ensures later { IsLater S.wanted S.responses self.old self.new }
+        ensures later { IsLater S.wanted S.responses S.sites self.old self.new }
         ensures rest { KeepsRest turn.key self.old self.new }
     {
         let replies = share.responses;
@@ -101,9 +112,10 @@ impl<'a, T: Stream, K: Keep, S: FeedRespond + Drop> NodeMachine<'a, T, K, S> {
         now: u64,
         log: &mut L,
     ) -> Outcome
-        ensures history { (history : List NodeEvent) → HasHistory S.wanted S.responses self.old history
-            → HasServed S.wanted S.responses key self.new history }
-        ensures later { IsLater S.wanted S.responses self.old self.new }
+        ensures history { (history : List (NodeEvent S.Sites))
+            → HasHistory S.wanted S.responses S.sites self.old history
+            → HasServed S.wanted S.responses S.sites key self.new history }
+        ensures later { IsLater S.wanted S.responses S.sites self.old self.new }
         ensures rest { KeepsRest key self.old self.new }
         ensures settled { IsSettled L.records key progress now result (table_of self.old) (table_of self.new)
             log.old log.new }

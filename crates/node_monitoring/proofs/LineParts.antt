@@ -158,7 +158,8 @@ line_parts e is = parted (before_request e) (escaped e.line ∷ response_part e 
             (
               dash_unquoted e.user_agent is.user_agent,
               (
-                joined_unquoted (codes " " ∷ decimal e.millis ∷ codes "\n" ∷ []) ((refl, tt), (number_unquoted e.millis is.millis, ((refl, tt), tt))),
+                joined_unquoted (codes " " ∷ decimal e.millis ∷ codes " " ∷ or_dash e.site ∷ codes "\n" ∷ [])
+                    ((refl, tt), (number_unquoted e.millis is.millis, ((refl, tt), (dash_unquoted e.site is.site, ((refl, tt), tt))))),
                 tt,
               ),
             ),
@@ -168,13 +169,24 @@ line_parts e is = parted (before_request e) (escaped e.line ∷ response_part e 
     )
 
 -- the fragments of a line make the line
-pub fragments_line : (client : List ℕ) (seconds : ℕ) (method gap target version : List ℕ) (status sent : ℕ) (referrer agent : List ℕ) (millis n : ℕ) → n ≡ status
+pub fragments_line : (client : List ℕ) (seconds : ℕ) (method gap target version : List ℕ) (status sent : ℕ) (referrer agent : List ℕ) (millis : ℕ) (site : List ℕ) (n : ℕ) → n ≡ status
     → joined (escaped client ∷ codes " - - [" ∷ time_text seconds ∷ codes " +0000] \"" ∷ escaped method ∷ escaped gap ∷ escaped target ∷ escaped gap ∷ escaped version
-    ∷ codes "\" " ∷ decimal n ∷ codes " " ∷ decimal sent ∷ codes " \"" ∷ or_dash referrer ∷ codes "\" \"" ∷ or_dash agent ∷ codes "\" " ∷ decimal millis ∷ codes "\n" ∷ [])
+    ∷ codes "\" " ∷ decimal n ∷ codes " " ∷ decimal sent ∷ codes " \"" ∷ or_dash referrer ∷ codes "\" \"" ∷ or_dash agent ∷ codes "\" " ∷ decimal millis ∷ codes " " ∷ or_dash site
+    ∷ codes "\n" ∷ [])
     ≡ line_text
-    (record { client = client; seconds = seconds; line = method ++ (gap ++ (target ++ (gap ++ version))); status = status; sent = sent; referrer = referrer; user_agent = agent; millis = millis })
+    (record {
+      client = client;
+      seconds = seconds;
+      line = method ++ (gap ++ (target ++ (gap ++ version)));
+      status = status;
+      sent = sent;
+      referrer = referrer;
+      user_agent = agent;
+      millis = millis;
+      site = site;
+    })
 unfolding line_text
-fragments_line client seconds method gap target version status sent referrer agent millis n same =
+fragments_line client seconds method gap target version status sent referrer agent millis site n same =
     rw (
       same,
       flat_map-append escape_byte method (gap ++ (target ++ (gap ++ version))),

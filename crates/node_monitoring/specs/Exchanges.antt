@@ -19,6 +19,7 @@ use Rattle.node_monitoring.specs.declared.log_line.LoggedExchange.{LoggedExchang
 use Rattle.node_monitoring.specs.declared.log_line.LogPolicy.{LogPolicy}
 use Rattle.node_monitoring.specs.Reports.{gets_report}
 use Rattle.node_monitoring.specs.ShownLines.{shown_line}
+use Rattle.node_monitoring.specs.SiteNames.{site_added}
 use Rattle.node_monitoring.specs.Targets.{target_of}
 
 -- ---- counters
@@ -46,12 +47,15 @@ abbrev pub IsTargetIn : List ℕ → Target → Type 0
 IsTargetIn bytes named =
     (HasNoHead bytes × (named ≡ target.Other)) ⊎ ((head : RequestHead) × BeginsWith bytes head × (named ≡ target_of head))
 
--- the request was counted once, under its target and the class of its status, and its time was observed once
+-- the request was counted once, under its target and the class of its status, and under the site that responded if it has a
+-- name, and its time was observed once
 pub record HasCountedRequest (e : LoggedExchange) (old new : MetricsValue) : Type 0 where
   pub named : Target
   pub is : IsTargetIn e.received.bytes.now named
   pub requests : (history : List Added) → HasCounted old.requests history → HasCounted new.requests (request_added named e ∷ history)
   pub times : (observed : List ℕ) → HasObserved old.times observed → HasObserved new.times (e.micros ∷ observed)
+  pub names : new.site_names ≡ old.site_names
+  pub sites : (history : List Added) → HasCounted old.sites history → HasCounted new.sites (site_added old.site_names e.site ++ history)
 
 -- ---- the log
 
@@ -80,9 +84,9 @@ sole_or_empty name fields = unwrap_or (only (values_named name fields)) []
 abbrev pub shown_referrer : Bool → List ℕ → List ℕ
 shown_referrer has_queries url = if has_queries then url else page_of url
 
--- the entry of a request with these fields
-abbrev pub entry_of : LogPolicy → LoggedExchange → List Field → EntryValue
-entry_of policy e fields = record {
+-- the entry of a request with these fields, to which the site of this file responded
+abbrev pub entry_of : LogPolicy → LoggedExchange → List ℕ → List Field → EntryValue
+entry_of policy e site fields = record {
   client = client_of policy.is_proxy fields e.peer.now;
   seconds = e.seconds;
   line = shown_line policy.has_queries e.received.bytes.now;
@@ -91,24 +95,25 @@ entry_of policy e fields = record {
   referrer = shown_referrer policy.has_queries (sole_or_empty (codes "referer") fields);
   user_agent = sole_or_empty (codes "user-agent") fields;
   millis = e.micros / 1000;
+  site = site;
 }
 
--- the line was appended; bytes that are not a head have no fields
+-- the line was appended, without a site; bytes that are not a head have no fields
 abbrev pub IsLogged : LogPolicy → LoggedExchange → List ℕ → List ℕ → Type 0
 IsLogged policy e old new =
-    (HasNoHead e.received.bytes.now × (new ≡ old ++ line_text (entry_of policy e [])))
-    ⊎ ((head : RequestHead) × BeginsWith e.received.bytes.now head × (new ≡ old ++ line_text (entry_of policy e head.fields)))
+    (HasNoHead e.received.bytes.now × (new ≡ old ++ line_text (entry_of policy e [] [])))
+    ⊎ ((head : RequestHead) × BeginsWith e.received.bytes.now head × (new ≡ old ++ line_text (entry_of policy e [] head.fields)))
 
 -- the log hides the request: it gets a report
 abbrev pub is_hidden : LogPolicy → RequestHead → Bool
 is_hidden policy head = gets_report policy.is_local policy.has_open_reports head
 
 -- the line of a request with this head: none for one that the log hides
-abbrev pub line_of : LogPolicy → LoggedExchange → RequestHead → List ℕ
-line_of policy e head = if is_hidden policy head then [] else line_text (entry_of policy e head.fields)
+abbrev pub line_of : LogPolicy → LoggedExchange → List ℕ → RequestHead → List ℕ
+line_of policy e site head = if is_hidden policy head then [] else line_text (entry_of policy e site head.fields)
 
--- the same, but a report that the log hides has no line
-abbrev pub IsRecorded : LogPolicy → LoggedExchange → List ℕ → List ℕ → Type 0
-IsRecorded policy e old new =
-    (HasNoHead e.received.bytes.now × (new ≡ old ++ line_text (entry_of policy e [])))
-    ⊎ ((head : RequestHead) × BeginsWith e.received.bytes.now head × (new ≡ old ++ line_of policy e head))
+-- the same with the site, but a report that the log hides has no line
+abbrev pub IsRecorded : LogPolicy → LoggedExchange → List ℕ → List ℕ → List ℕ → Type 0
+IsRecorded policy e site old new =
+    (HasNoHead e.received.bytes.now × (new ≡ old ++ line_text (entry_of policy e site [])))
+    ⊎ ((head : RequestHead) × BeginsWith e.received.bytes.now head × (new ≡ old ++ line_of policy e site head))

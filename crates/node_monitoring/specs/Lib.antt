@@ -1,5 +1,6 @@
 pub mod Counts
 pub mod Histograms
+pub mod SiteNames
 pub mod Labels
 pub mod MetricsFragments
 pub mod MetricsTexts

@@ -3,7 +3,7 @@ use Rattle.std.specs.Prelude.{ℕ, List, [], ◌∷◌, codes}
 use Rattle.std.specs.List.{flat_map}
 use Rattle.std.specs.Fmt.{decimal}
 use Rattle.node_monitoring.specs.declared.log_fragment.LogFragment.{LogFragment}
-use Rattle.node_monitoring.specs.declared.log_fragment.LogFragment.TheVariants.{Plain, Escaped, OrDash, Number, Time}
+use Rattle.node_monitoring.specs.declared.log_fragment.LogFragment.TheVariants.{Plain, Escaped, OrDash, Site, Number, Time}
 use Rattle.node_monitoring.specs.LogEscapes.{escaped}
 use Rattle.node_monitoring.specs.LogTimes.{time_text}
 
@@ -17,6 +17,7 @@ abbrev pub fragment_text : LogFragment → List ℕ
 fragment_text (Plain text) = text.now
 fragment_text (Escaped text) = escaped text.now
 fragment_text (OrDash text) = or_dash text.now
+fragment_text (Site name) = or_dash name.now
 fragment_text (Number n) = decimal n
 fragment_text (Time seconds) = time_text seconds
 

@@ -7,7 +7,8 @@ use Rattle.node_monitoring.specs.LogTimes.{time_text}
 use Rattle.node_monitoring.specs.LogFragments.{or_dash}
 
 -- a request and its response: the address of the client, the time, the request line, the status, the bytes of the body
--- that were sent, the referrer, the user agent and the milliseconds
+-- that were sent, the referrer, the user agent, the milliseconds, and the name of the file of the site that responded, or
+-- nothing
 pub record EntryValue : Type 0 where
   pub client : List ℕ
   pub seconds : ℕ
@@ -17,6 +18,7 @@ pub record EntryValue : Type 0 where
   pub referrer : List ℕ
   pub user_agent : List ℕ
   pub millis : ℕ
+  pub site : List ℕ
 
 -- the concatenation of texts
 abbrev pub joined : List (List ℕ) → List ℕ
@@ -30,9 +32,9 @@ before_request e = joined (escaped e.client ∷ codes " - - [" ∷ time_text e.s
 abbrev pub response_part : EntryValue → List ℕ
 response_part e = joined (codes " " ∷ decimal e.status ∷ codes " " ∷ decimal e.sent ∷ codes " " ∷ [])
 
--- the part after the last quote: the milliseconds
+-- the part after the last quote: the milliseconds and the site
 abbrev pub after_agent : EntryValue → List ℕ
-after_agent e = joined (codes " " ∷ decimal e.millis ∷ codes "\n" ∷ [])
+after_agent e = joined (codes " " ∷ decimal e.millis ∷ codes " " ∷ or_dash e.site ∷ codes "\n" ∷ [])
 
 -- the parts of a line, between its quotes
 abbrev pub parts_of : EntryValue → List (List ℕ)
@@ -62,3 +64,4 @@ pub record IsEntry (e : EntryValue) : Type 0 where
   pub line : All IsByte e.line
   pub referrer : All IsByte e.referrer
   pub user_agent : All IsByte e.user_agent
+  pub site : All IsByte e.site

@@ -1,5 +1,5 @@
 -- The text of the metrics, in the Prometheus exposition format, version 0.0.4.
-use Rattle.std.specs.Prelude.{ℕ, zero, suc, List, [], ◌∷◌, ◌++◌, codes, slice_index, Option, Some, None}
+use Rattle.std.specs.Prelude.{◌≡◌, ℕ, zero, suc, List, [], ◌∷◌, ◌++◌, codes, length, nat_lt, if◌then◌else◌, slice_index, Option, Some, None}
 use Rattle.std.specs.List.{flat_map}
 use Rattle.std.specs.Fmt.{decimal}
 use Rattle.node_monitoring.specs.declared.counter.Counter.{Counter}
@@ -11,19 +11,26 @@ use Rattle.node_monitoring.specs.declared.request_kind.Target.TheVariants as tar
 use Rattle.node_monitoring.specs.declared.request_kind.StatusClass.{StatusClass}
 use Rattle.node_monitoring.specs.declared.request_kind.StatusClass.TheVariants as class
 use Rattle.node_monitoring.specs.declared.request_kind.TheConstants.{TARGETS, CLASSES}
-use Rattle.node_monitoring.specs.declared.metrics_text.TheConstants.{INFO, OPEN, HELD, REQUESTS, REQUEST, TIMES, BUCKET, LAST_BUCKET, SUM, COUNT, RELEASES, RELEASE, SWITCH}
+use Rattle.node_monitoring.specs.declared.metrics_text.TheConstants.{INFO, OPEN, HELD, REQUESTS, REQUEST, SITES, SITE, TIMES, BUCKET, LAST_BUCKET, SUM, COUNT, RELEASES, RELEASE, SWITCH}
 use Rattle.node_monitoring.specs.declared.metrics_text.Gauges.{Gauges}
 use Rattle.node_monitoring.specs.declared.metrics_text.ReleaseTime.{ReleaseTime}
 use Rattle.node_monitoring.specs.Counts.{place_of, request_place}
 use Rattle.node_monitoring.specs.Histograms.{HistogramValue}
+use Rattle.node_monitoring.specs.SiteNames.{name_at}
 use Rattle.node_monitoring.specs.Labels.{label_text}
 use Rattle.node_monitoring.specs.MetricsFragments.{joined, seconds_text}
 
--- the counts of the counters and of the requests, and the times of the requests
+-- the counts of the counters, of the requests and of the sites with these names, and the times of the requests
 pub record MetricsValue : Type 0 where
   pub counters : List ℕ
   pub requests : List ℕ
+  pub site_names : List (List ℕ)
+  pub sites : List ℕ
   pub times : HistogramValue
+
+-- no request was counted by its site
+abbrev pub KeepsSites : MetricsValue → MetricsValue → Type 0
+KeepsSites old new = (new.site_names ≡ old.site_names) × (new.sites ≡ old.sites)
 
 -- the text in front of the value of a counter
 abbrev pub counter_front : Counter → List ℕ
@@ -92,6 +99,23 @@ target_lines m = flat_map (class_lines m) TARGETS
 abbrev pub requests_text : MetricsValue → List ℕ
 requests_text m = REQUESTS.now ++ target_lines m
 
+-- the line of the site at a place
+unfoldable pub site_line : MetricsValue → ℕ → List ℕ
+site_line m k = joined (SITE.now ∷ label_text (name_at m.site_names k) ∷ codes "\"} " ∷ decimal (slice_index m.sites k) ∷ codes "\n" ∷ [])
+
+-- the lines of the first sites
+unfoldable pub site_lines : MetricsValue → ℕ → List ℕ
+site_lines m zero = []
+site_lines m (suc k) = site_lines m k ++ site_line m k
+
+-- the requests by site
+abbrev pub named_sites_text : MetricsValue → List ℕ
+named_sites_text m = SITES.now ++ site_lines m (length m.site_names)
+
+-- the same if the sites have names, or else nothing
+abbrev pub sites_text : MetricsValue → List ℕ
+sites_text m = if nat_lt 0 (length m.site_names) then named_sites_text m else []
+
 -- the line of a bucket
 unfoldable pub bucket_line : ℕ → ℕ → List ℕ
 bucket_line bound count = joined (BUCKET.now ∷ seconds_text bound ∷ codes "\"} " ∷ decimal count ∷ codes "\n" ∷ [])
@@ -117,7 +141,7 @@ times_text m = TIMES.now ++ (buckets_text m 12 ++ totals_text m)
 
 -- what a node has counted
 abbrev pub counted_text : MetricsValue → List ℕ
-counted_text m = counters_text m ++ (requests_text m ++ times_text m)
+counted_text m = counters_text m ++ (requests_text m ++ (sites_text m ++ times_text m))
 
 -- the version, the open connections and the bytes held
 abbrev pub gauges_text : Gauges → List ℕ

@@ -20,6 +20,7 @@ target_in route.Metrics = target.Metrics
 target_in route.Health = target.Health
 target_in route.Ready = target.Health
 target_in route.Live = target.Health
+target_in route.Sites = target.Other
 target_in route.Unknown = target.Other
 
 -- the same for the target of a request

@@ -6,6 +6,7 @@ ghost use Rattle.node_monitoring.specs.Counts.{Added, HasCounted};
 ghost use Rattle.node_monitoring.specs.Histograms.{HasObserved};
 ghost use Rattle.node_monitoring.specs.Exchanges.{added_by, request_added, HasCountedRequest};
 ghost use Rattle.node_monitoring.specs.Exchanges.{is_hidden, line_of, IsLogged, IsRecorded};
+ghost use Rattle.node_monitoring.specs.SiteNames.{site_added, site_name};
 ghost use Rattle.node_monitoring.specs.Targets.{target_of, target_in};
 
 use crate::counter::Counter;
@@ -23,7 +24,8 @@ const NO_FIELDS: Fields<'static> = Fields {
     headers: &[],
 };
 
-// Counts a request that was responded to, and the bytes of both. A response of status 401 refuses a token.
+// Counts a request that was responded to, by the site that responded too, and the bytes of both. A response of status
+// 401 refuses a token.
 fn count_exchange(metrics: &mut Metrics, target: Target, exchange: &LoggedExchange<'_>)
     ensures requests { (history : List Added) → HasCounted metrics.old.requests history
         → HasCounted metrics.new.requests (request_added target exchange.now ∷ history) }
@@ -31,7 +33,11 @@ fn count_exchange(metrics: &mut Metrics, target: Target, exchange: &LoggedExchan
         → HasObserved metrics.new.times (exchange.now.micros ∷ observed) }
     ensures counters { (history : List Added) → HasCounted metrics.old.counters history
         → HasCounted metrics.new.counters (added_by exchange.now ++ history) }
+    ensures names { metrics.new.site_names ≡ metrics.old.site_names }
+    ensures sites { (history : List Added) → HasCounted metrics.old.sites history
+        → HasCounted metrics.new.sites (site_added metrics.old.site_names exchange.now.site ++ history) }
 {
+    metrics.count_site(exchange.site);
     metrics.count_request(target, StatusClass::of(exchange.status), exchange.micros);
     metrics.add(Counter::RequestBytes, exchange.received.bytes.len() as u64);
     metrics.add(Counter::ReplyBytes, exchange.sent);
@@ -40,7 +46,7 @@ fn count_exchange(metrics: &mut Metrics, target: Target, exchange: &LoggedExchan
     }
 }
 
-/// Appends the line of a request, without counting it.
+/// Appends the line of a request to which no site responded, without counting it.
 ///
 /// # Errors
 ///
@@ -53,8 +59,8 @@ pub fn put_exchange(
     ensures { OnOk result (IsLogged policy exchange.now out.old.items out.new.items) }
 {
     match exchange.received.parsed() {
-        Some(parsed) => put_entry(out, policy, exchange, &parsed.request.fields()),
-        None => put_entry(out, policy, exchange, &NO_FIELDS),
+        Some(parsed) => put_entry(out, policy, exchange, b"", &parsed.request.fields()),
+        None => put_entry(out, policy, exchange, b"", &NO_FIELDS),
     }
 }
 
@@ -68,15 +74,16 @@ fn put_shown(
     out: &mut Vec<u8>,
     policy: LogPolicy,
     exchange: &LoggedExchange<'_>,
+    site: &[u8],
     parsed: &ParsedRequest<'_>,
 ) -> Result<(), AllocError>
     ensures { OnOk result ((head : RequestHead) → HasHead parsed.now.request head
-        → out.new.items ≡ out.old.items ++ line_of policy exchange.now head) }
+        → out.new.items ≡ out.old.items ++ line_of policy exchange.now site.now head) }
 {
     if is_hidden(policy, parsed) {
         return Ok(());
     }
-    put_entry(out, policy, exchange, &parsed.request.fields())
+    put_entry(out, policy, exchange, site, &parsed.request.fields())
 }
 
 fn record_request(
@@ -93,14 +100,24 @@ fn record_request(
         → HasObserved metrics.new.times (exchange.now.micros ∷ observed) }
     ensures counters { (history : List Added) → HasCounted metrics.old.counters history
         → HasCounted metrics.new.counters (added_by exchange.now ++ history) }
-    ensures line { OnOk result ((head : RequestHead) → HasHead parsed.now.request head
-        → out.new.items ≡ out.old.items ++ line_of policy exchange.now head) }
+    ensures names { metrics.new.site_names ≡ metrics.old.site_names }
+    ensures sites { (history : List Added) → HasCounted metrics.old.sites history
+        → HasCounted metrics.new.sites (site_added metrics.old.site_names exchange.now.site ++ history) }
+    ensures line { OnOk result ((head : RequestHead) → HasHead parsed.now.request head → out.new.items
+        ≡ out.old.items ++ line_of policy exchange.now (site_name metrics.old.site_names exchange.now.site) head) }
 {
     count_exchange(metrics, target_in(parsed.route), exchange);
-    put_shown(out, policy, exchange, parsed)
+    put_shown(
+        out,
+        policy,
+        exchange,
+        metrics.site_name(exchange.site),
+        parsed,
+    )
 }
 
-/// Counts a request that was responded to, and appends its line. A request that gets a report has no line.
+/// Counts a request that was responded to, and appends its line, with the name of the site. A request that gets a
+/// report has no line.
 ///
 /// # Errors
 ///
@@ -114,13 +131,20 @@ pub fn record_exchange(
     ensures counted { HasCountedRequest exchange.now metrics.old metrics.new }
     ensures counters { (history : List Added) → HasCounted metrics.old.counters history
         → HasCounted metrics.new.counters (added_by exchange.now ++ history) }
-    ensures line { OnOk result (IsRecorded policy exchange.now out.old.items out.new.items) }
+    ensures line { OnOk result (IsRecorded policy exchange.now
+        (site_name metrics.old.site_names exchange.now.site) out.old.items out.new.items) }
 {
     match exchange.received.parsed() {
         Some(parsed) => record_request(out, metrics, policy, exchange, &parsed),
         None => {
             count_exchange(metrics, Target::Other, exchange);
-            put_entry(out, policy, exchange, &NO_FIELDS)
+            put_entry(
+                out,
+                policy,
+                exchange,
+                metrics.site_name(exchange.site),
+                &NO_FIELDS,
+            )
         }
     }
 }
@@ -138,6 +162,6 @@ pub(crate) fn target_in(route: Route) -> Target
         Route::Feed | Route::Fetch => Target::Feed,
         Route::Metrics => Target::Metrics,
         Route::Health | Route::Ready | Route::Live => Target::Health,
-        Route::Unknown => Target::Other,
+        Route::Sites | Route::Unknown => Target::Other,
     }
 }

@@ -38,7 +38,7 @@ pub use laws::{
 pub use line_log::{DroppedLines, LineLog};
 pub use log_entry::{LogEntry, put_line};
 pub use log_line::{LogPolicy, LoggedExchange};
-pub use metrics::Metrics;
+pub use metrics::{Metrics, SiteName};
 pub use metrics_text::{Gauges, ReleaseTime, put_metrics};
 pub use report::{Report, ReportRequest, gets_report};
 pub use report_response::respond_about_node;

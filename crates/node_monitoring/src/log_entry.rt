@@ -10,7 +10,7 @@ use std::marker::Model;
 
 /// A request and its response. A text of the client may have any bytes.
 #[derive(Drop)]
-pub struct LogEntry<'a> {
+pub struct LogEntry<'a, 's> {
     /// The address of the client.
     pub client: &'a [u8],
     /// The seconds since 1970-01-01.
@@ -24,9 +24,11 @@ pub struct LogEntry<'a> {
     /// The value of User-Agent, or nothing.
     pub user_agent: &'a [u8],
     pub millis: u64,
+    /// The name of the file of the site that responded, or nothing.
+    pub site: &'s [u8],
 }
 
-impl<'a> Model for LogEntry<'a> {
+impl<'a, 's> Model for LogEntry<'a, 's> {
     ghost use Rattle.node_monitoring.specs.LogLines.{EntryValue};
     ghost use Rattle.node_monitoring.specs.Queries.{shown_text};
 
@@ -41,16 +43,17 @@ impl<'a> Model for LogEntry<'a> {
       referrer = e.referrer.now;
       user_agent = e.user_agent.now;
       millis = e.millis;
+      site = e.site.now;
     } };
 }
 
 /// Writes the line of a request: the address, the time, the request line, the status, the bytes sent, the referrer, the
-/// user agent and the milliseconds.
+/// user agent, the milliseconds, and the name of the site's file.
 ///
 /// # Errors
 ///
 /// Running out of memory. A part of the line may be written then.
-pub fn put_line(out: &mut Vec<u8>, entry: &LogEntry<'_>) -> Result<(), AllocError>
+pub fn put_line(out: &mut Vec<u8>, entry: &LogEntry<'_, '_>) -> Result<(), AllocError>
     ensures { OnOk result (out.new.items ≡ out.old.items ++ line_text entry.now) }
 {
     put_all(
@@ -75,6 +78,8 @@ pub fn put_line(out: &mut Vec<u8>, entry: &LogEntry<'_>) -> Result<(), AllocErro
             LogFragment::OrDash(entry.user_agent),
             LogFragment::Plain(b"\" "),
             LogFragment::Number(entry.millis),
+            LogFragment::Plain(b" "),
+            LogFragment::Site(entry.site),
             LogFragment::Plain(b"\n"),
         ],
     )

@@ -9,13 +9,15 @@ use std::alloc::AllocError;
 
 /// A fragment of a line.
 #[derive(Clone, Copy)]
-pub(crate) enum LogFragment<'a> {
+pub(crate) enum LogFragment<'a, 's> {
     /// These bytes.
     Plain(&'a [u8]),
     /// A text of a client, escaped.
     Escaped(&'a [u8]),
     /// A text of a client, escaped, or a dash if it is empty.
     OrDash(&'a [u8]),
+    /// The name of a site's file, escaped, or a dash if it is empty.
+    Site(&'s [u8]),
     /// A number in decimal digits.
     Number(u64),
     /// A time in seconds since 1970-01-01, in UTC.
@@ -32,7 +34,7 @@ fn put_or_dash(out: &mut Vec<u8>, text: &[u8]) -> Result<(), AllocError>
     }
 }
 
-impl PutFragment for LogFragment<'_> {
+impl PutFragment for LogFragment<'_, '_> {
     ghost use Rattle.node_monitoring.specs.LogFragments.{fragment_text};
 
     ghost text = { fragment_text };
@@ -42,6 +44,7 @@ impl PutFragment for LogFragment<'_> {
             LogFragment::Plain(text) => put(out, text),
             LogFragment::Escaped(text) => put_escaped(out, text),
             LogFragment::OrDash(text) => put_or_dash(out, text),
+            LogFragment::Site(name) => put_or_dash(out, name),
             LogFragment::Number(number) => put_number(out, *number),
             LogFragment::Time(seconds) => put_time(out, *seconds),
         }

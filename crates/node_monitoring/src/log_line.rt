@@ -43,6 +43,8 @@ pub struct LoggedExchange<'a> {
     pub body_sent: u64,
     /// The microseconds from the last byte of the head of the request to the last byte of the response.
     pub micros: u64,
+    /// The place of the site that responded among those of the node, or none.
+    pub site: Option<usize>,
 }
 
 fn sole_or_empty<'b>(fields: &Fields<'b>, name: &[u8]) -> &'b [u8]
@@ -65,16 +67,17 @@ fn shown_referrer(has_queries: bool, url: &[u8]) -> &[u8]
     }
 }
 
-/// Appends the line of a request with these fields.
+/// Appends the line of a request with these fields, to which the site of this file responded.
 pub(crate) fn put_entry(
     out: &mut Vec<u8>,
     policy: LogPolicy,
     exchange: &LoggedExchange<'_>,
+    site: &[u8],
     fields: &Fields<'_>,
 ) -> Result<(), AllocError>
     requires { AreWithin fields.now }
     ensures { OnOk result ((list : List Field) → AreFieldsOf fields.now list
-        → out.new.items ≡ out.old.items ++ line_text (entry_of policy exchange.now list)) }
+        → out.new.items ≡ out.old.items ++ line_text (entry_of policy exchange.now site.now list)) }
 {
     let entry = LogEntry {
         client: client_of(policy.is_proxy, fields, exchange.peer),
@@ -85,6 +88,7 @@ pub(crate) fn put_entry(
         referrer: shown_referrer(policy.has_queries, sole_or_empty(fields, b"referer")),
         user_agent: sole_or_empty(fields, b"user-agent"),
         millis: exchange.micros / 1_000,
+        site,
     };
     put_line(out, &entry)
 }

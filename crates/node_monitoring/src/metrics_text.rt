@@ -5,6 +5,7 @@ ghost use Rattle.node_monitoring.specs.MetricsTexts.{bucket_at, bucket_line, buc
 ghost use Rattle.node_monitoring.specs.MetricsTexts.{class_lines, gauges_text, metrics_text, release_line};
 ghost use Rattle.node_monitoring.specs.MetricsTexts.{releases_text};
 ghost use Rattle.node_monitoring.specs.MetricsTexts.{counted_text, release_lines, requests_text, state_text};
+ghost use Rattle.node_monitoring.specs.MetricsTexts.{named_sites_text, site_line, site_lines, sites_text};
 ghost use Rattle.node_monitoring.specs.MetricsTexts.{switch_text};
 ghost use Rattle.node_monitoring.specs.MetricsTexts.{times_text, totals_text};
 
@@ -56,6 +57,12 @@ pub(crate) const REQUESTS: &[u8] =
     # TYPE kbfeed_requests_total counter\n";
 
 pub(crate) const REQUEST: &[u8] = b"kbfeed_requests_total{target=\"";
+
+pub(crate) const SITES: &[u8] =
+    b"# HELP kbfeed_requests_by_site_total Requests that a site replied to, by the name of its file.\n\
+    # TYPE kbfeed_requests_by_site_total counter\n";
+
+pub(crate) const SITE: &[u8] = b"kbfeed_requests_by_site_total{site=\"";
 
 pub(crate) const TIMES: &[u8] =
     b"# HELP kbfeed_request_duration_seconds Time from the head of a request to the end of its reply.\n\
@@ -164,6 +171,48 @@ fn put_targets(out: &mut Vec<u8>, metrics: &Metrics, targets: &[Target]) -> Resu
         put_classes(out, metrics, *target)?;
     }
     Ok(())
+}
+
+#[tactic(auto, unfolding(crate::specs::MetricsTexts::site_line))]
+fn put_site(out: &mut Vec<u8>, metrics: &Metrics, place: usize) -> Result<(), AllocError>
+    ensures { OnOk result (out.new.items ≡ out.old.items ++ site_line metrics.now place) }
+{
+    put_all(
+        out,
+        &[
+            MetricsFragment::Plain(SITE),
+            MetricsFragment::Label(metrics.name_at(place)),
+            MetricsFragment::Plain(b"\"} "),
+            MetricsFragment::Number(metrics.sites.get(place)),
+            MetricsFragment::Plain(b"\n"),
+        ],
+    )
+}
+
+fn put_site_lines(out: &mut Vec<u8>, metrics: &Metrics, count: usize) -> Result<(), AllocError>
+    ensures { OnOk result (out.new.items ≡ out.old.items ++ site_lines metrics.now count) }
+{
+    for place in 0..count {
+        put_site(out, metrics, place)?;
+    }
+    Ok(())
+}
+
+fn put_named_sites(out: &mut Vec<u8>, metrics: &Metrics) -> Result<(), AllocError>
+    ensures { OnOk result (out.new.items ≡ out.old.items ++ named_sites_text metrics.now) }
+{
+    put(out, SITES)?;
+    put_site_lines(out, metrics, metrics.site_count())
+}
+
+fn put_sites(out: &mut Vec<u8>, metrics: &Metrics) -> Result<(), AllocError>
+    ensures { OnOk result (out.new.items ≡ out.old.items ++ sites_text metrics.now) }
+{
+    if 0 < metrics.site_count() {
+        put_named_sites(out, metrics)
+    } else {
+        Ok(())
+    }
 }
 
 #[tactic(auto, unfolding(crate::specs::MetricsTexts::bucket_line))]
@@ -284,6 +333,7 @@ fn put_counted(out: &mut Vec<u8>, metrics: &Metrics) -> Result<(), AllocError>
 {
     put_counters(out, metrics, &COUNTERS)?;
     put_requests(out, metrics)?;
+    put_sites(out, metrics)?;
     put_times(out, metrics)
 }
 

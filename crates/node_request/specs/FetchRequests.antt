@@ -15,10 +15,12 @@ use Rattle.node_request.specs.declared.route.Route.{Route}
 use Rattle.node_request.specs.declared.route.Route.TheVariants.{Fetch}
 use Rattle.node_request.specs.FoundRequests.{BeginsWith, HasNoHead}
 
--- who may make a node fetch: the token that authorizes a client, if one is configured, and whether a fetch is under way
+-- who may make a node fetch, or read its folder of site files: the token that authorizes a client, if one is configured,
+-- and whether a fetch is under way, or the folder is being read
 pub record FetchPolicyValue : Type 0 where
   pub token : Option (List ℕ)
   pub is_busy : Bool
+  pub is_reloading : Bool
 
 -- the path after `/feed/`
 abbrev pub name_after_feed : List ℕ → Option (List ℕ)

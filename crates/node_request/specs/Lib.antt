@@ -2,6 +2,7 @@ pub mod Representations
 pub mod Routes
 pub mod FoundRequests
 pub mod FetchRequests
+pub mod SitesRequests
 pub mod Forms
 pub mod Conditions
 pub mod Hosts

@@ -7,7 +7,7 @@ use Rattle.httparse.specs.Grammar.{RequestHead}
 use Rattle.feed_http_heads.specs.Targets.{origin_form}
 use Rattle.node_request.specs.declared.route.Route.{Route}
 use Rattle.node_request.specs.declared.route.Route.TheVariants.{Home, Status, Resolve, Package, Go, Titles, Feed, Fetch}
-use Rattle.node_request.specs.declared.route.Route.TheVariants.{Metrics, Health, Ready, Live, Unknown}
+use Rattle.node_request.specs.declared.route.Route.TheVariants.{Metrics, Health, Ready, Live, Sites, Unknown}
 
 -- the path of a target that begins with it, up to its first question mark
 abbrev pub path_in : List ℕ → List ℕ
@@ -44,7 +44,8 @@ route_at path =
     else (if bytes_eq path (codes "/health") then Health
     else (if bytes_eq path (codes "/health/ready") then Ready
     else (if bytes_eq path (codes "/health/live") then Live
-    else Unknown)))))))))))
+    else (if bytes_eq path (codes "/sites") then Sites
+    else Unknown))))))))))))
 
 -- the route that the target of a request names
 abbrev pub route_of : RequestHead → Route

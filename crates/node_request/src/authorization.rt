@@ -1,4 +1,4 @@
-//! Checks the bearer token of a fetch request (RFC 6750, section 2.1). The case of `Bearer` does not count, that of the
+//! Checks the bearer token of a request (RFC 6750, section 2.1). The case of `Bearer` does not count, that of the
 //! token does (RFC 9110, section 11.1).
 ghost use Rattle.std.specs.Prelude.{◌≡◌};
 ghost use Rattle.httparse.specs.Grammar.{RequestHead};
@@ -11,13 +11,15 @@ use feed_http_heads::Request;
 use sha2::{Digest, Sha256};
 use std::marker::Model;
 
-/// Whether a client may make a node fetch a release now.
+/// Whether a client may make a node fetch a release, or read its folder of site files, now.
 #[derive(Drop)]
 pub struct FetchPolicy<'t> {
-    /// The token that authorizes a client. Without one, no client may make the node fetch.
+    /// The token that authorizes a client. Without one, no client may make the node do either.
     pub token: Option<&'t [u8]>,
     /// Whether a fetch is under way, which excludes another one.
     pub is_busy: bool,
+    /// Whether the folder is being read, which excludes another time.
+    pub is_reloading: bool,
 }
 
 impl<'t> Model for FetchPolicy<'t> {
@@ -26,7 +28,11 @@ impl<'t> Model for FetchPolicy<'t> {
 
     ghost Value = { FetchPolicyValue };
 
-    ghost view = { λ policy. record { token = option_copied policy.token; is_busy = policy.is_busy } };
+    ghost view = { λ policy. record {
+      token = option_copied policy.token;
+      is_busy = policy.is_busy;
+      is_reloading = policy.is_reloading;
+    } };
 }
 
 fn has_token(token: &[u8], value: &[u8]) -> bool

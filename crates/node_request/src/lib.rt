@@ -1,5 +1,5 @@
 //! What a request asks of a node: the host and the route that its target names, the representation that it prefers, and
-//! whether it may make the node fetch a release.
+//! whether it may make the node fetch a release or read its folder of site files again.
 #![tactic(auto)]
 
 mod authorization;
@@ -10,6 +10,7 @@ mod host;
 mod received;
 mod representation;
 mod route;
+mod sites_target;
 
 pub use authorization::{FetchPolicy, is_authorized};
 pub use condition::has_tag;
@@ -19,3 +20,4 @@ pub use host::{host_of, other_fields_do_not_count, whole_target_decides};
 pub use received::{ParsedRequest, ReceivedRequest};
 pub use representation::{Representation, accepted_representation, representation_of};
 pub use route::{Route, is_unsupported_method, package_in, path_in, query_in, route_at};
+pub use sites_target::{SitesRequest, sites_query, sites_request, sites_to_read};

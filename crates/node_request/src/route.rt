@@ -35,6 +35,8 @@ pub enum Route {
     Ready,
     /// `/health/live`: that the node responds.
     Live,
+    /// `/sites`: the folder of site files, which a client may have the node read again.
+    Sites,
     /// No target of a node.
     Unknown,
 }
@@ -107,6 +109,8 @@ pub fn route_at(path: &[u8]) -> Route
         Route::Ready
     } else if path == b"/health/live".as_slice() {
         Route::Live
+    } else if path == b"/sites".as_slice() {
+        Route::Sites
     } else {
         Route::Unknown
     }

@@ -1,14 +1,17 @@
 -- The answers that are written are those of the definition.
-use Rattle.std.proofs.Common.{◌≡◌, ℕ, Option, Some, None, List, option_map, [], ◌∷◌, ◌++◌, refl, sym, ap, ◌∙◌}
+use Rattle.std.proofs.Common.{◌≡◌, ℕ, Option, Some, None, Result, Ok, List, option_map, [], ◌∷◌, ◌++◌, refl, sym, ap, ◌∙◌}
 use Rattle.std.proofs.lemmas.List.Sums.{fold-append}
 use Rattle.feed_answer.specs.Today.{TodayValue}
+use Rattle.feed_openurl.specs.declared.fault.OpenUrlFault.{OpenUrlFault}
 use Rattle.node_site.specs.Site as site_file
+use Rattle.node_hits.specs.Lookups.{asked_of}
 use Rattle.node_hits.specs.Searches.{SearchValue}
 use Rattle.feed_releases.specs.Actives.{ActiveValue}
 use Rattle.node_request.specs.declared.representation.Representation.{Representation}
 use Rattle.node_request.specs.declared.representation.Representation.TheVariants.{Text, Json, Html}
 use Rattle.std.specs.Option.{option_map_or}
 use Rattle.node_response.specs.Responses.{ResponseValue, redirect_to}
+use Rattle.node_response.specs.declared.status.Status.{Status}
 use Rattle.node_hits.specs.Hits.{ReleaseHitValue}
 use Rattle.node_hits.specs.HitsText.{release_text}
 use Rattle.node_hits.specs.AnswerJson.{answer_json}
@@ -18,6 +21,7 @@ use Rattle.node_hits.specs.Tallying.{RunningValue, with_look, with_looks, no_hit
 use Rattle.node_hits.proofs.Tallies.{tally_is}
 use Rattle.node_resolver.specs.Answers.{Sited, also_among, also_beside, release_looks, looks_among, others_among, others_beside, tally_among, texts_behind, answers_body}
 use Rattle.node_resolver.specs.AnswerTexts.{texts_from}
+use Rattle.node_resolver.specs.Responses.{query_response, target_in, target_of}
 use Rattle.node_pages.specs.HitsPage.{hits_page}
 
 abbrev after : List (Option ReleaseHitValue) → RunningValue
@@ -87,10 +91,13 @@ page_answered representation text ask search actives old new chosen read is =
     is ∙ ap (λ (a : QueryFactsValue). old ++ hits_page actives.library text a (tally_among search actives) (also_among search actives) (others_among search actives)) read
     ∙ ap (λ (r : Representation). old ++ answers_body r text search actives) (sym chosen)
 
--- the link that a tally chooses
-pub best_made : (search : SearchValue) (actives : Sited) (running : RunningValue) → running ≡ with_looks no_hits (looks_among search actives)
-    → (tally_from running).best ≡ (tally_of (looks_among search actives)).best
-best_made search actives running made = ap (λ (r : RunningValue). (tally_from r).best) made ∙ ap (λ (t : TallyValue). t.best) (tally_is (looks_among search actives))
+-- the address that follows from a tally, by the site of its search
+pub target_made : (site : site_file.SiteValue) (search : SearchValue) (actives : Sited) (running : RunningValue) → site ≡ actives.library
+    → running ≡ with_looks no_hits (looks_among search actives) → target_in site search (tally_from running) ≡ target_of search actives
+target_made site search actives running of made =
+    ap (λ (s : site_file.SiteValue). target_in s search (tally_from running)) of
+    ∙ ap (λ (r : RunningValue). target_in actives.library search (tally_from r)) made
+    ∙ ap (λ (t : TallyValue). target_in actives.library search t) (tally_is (looks_among search actives))
 
 pub sole_made : (search : SearchValue) (actives : Sited) (running : RunningValue) → running ≡ with_looks no_hits (looks_among search actives)
     → sole_link (tally_from running) ≡ sole_link (tally_of (looks_among search actives))
@@ -109,3 +116,11 @@ linked text link found one other is some = ap (λ o. option_map_or redirect_to o
 pub unlinked : {A : Type 0} (text : A → List ℕ) (link : Option A) (found : Option (List ℕ)) (other : ResponseValue) → option_map text link ≡ found → link ≡ None
     → other ≡ option_map_or redirect_to found other
 unlinked text link found other is none = ap (λ o. option_map_or redirect_to o other) (sym (ap (option_map text) none) ∙ is)
+
+-- the response to what a query asks for is that to the query's text
+pub looked_up : (reply : Representation → List ℕ → SearchValue → ResponseValue) (actives : Sited) (code : Status) (mine representation : Representation)
+    (own text : List ℕ) (found : Result SearchValue OpenUrlFault) (search : SearchValue) → mine ≡ representation → own ≡ text → found ≡ asked_of own → found ≡ Ok search
+    → reply mine own search ≡ query_response actives code representation text (reply representation text) (asked_of text)
+looked_up reply actives code mine representation own text found search same_kind same_text asked is =
+    (λ i. reply (same_kind i) (same_text i) search)
+    ∙ ap (query_response actives code representation text (reply representation text)) (sym (sym (asked ∙ ap asked_of same_text) ∙ is))

@@ -7,7 +7,7 @@ use Rattle.std.proofs.lemmas.Bool.{false≢true}
 use Rattle.std.proofs.lemmas.Option.{get_or_from_slice_get, slice_get_within}
 use Rattle.feed_answer.specs.Answers.{answer_of}
 use Rattle.node_hits.specs.Searches.{SearchValue, compared}
-use Rattle.node_hits.specs.Hits.{ReleaseHitValue, best_link, held_hits, is_found, link_text, release_hit}
+use Rattle.node_hits.specs.Hits.{ReleaseHitValue, best_link, held_hits, is_found, is_open, link_text, release_hit}
 use Rattle.node_hits.specs.Looks.{counted, found_in, row_limit}
 use Rattle.node_hits.specs.Ranks.{IsBestLink}
 use Rattle.node_hits.proofs.BestLinks.{best_is}
@@ -156,13 +156,19 @@ place_has {X} xs place x at =
 counted_has : (looks : List (Option ReleaseHitValue)) (found : ReleaseHitValue) → Contains (counted looks) found → Contains (found_in looks) found
 counted_has looks found has = found_gives looks found (take_has row_limit looks (Some found) (found_has (take row_limit looks) found has))
 
-link_from : (search : SearchValue) (actives : Sited) (url : List ℕ) (best : Option (List ℕ)) → best ≡ Some url → IsBestLink (counted (looks_among search actives)) best
+link_from : (search : SearchValue) (actives : Sited) (url : List ℕ) (hits : List ReleaseHitValue) (best : Option (List ℕ))
+    → ((found : ReleaseHitValue) → Contains hits found → Contains (counted (looks_among search actives)) found) → best ≡ Some url → IsBestLink hits best
     → (found : ReleaseHitValue) × IsHeldHit search actives found × (url ≡ link_text found)
-link_from search actives url None at is = absurd (cc)
-link_from search actives url (Some text) at is =
+link_from search actives url hits None within at is = absurd (cc)
+link_from search actives url hits (Some text) within at is =
     let same : text ≡ url = cc in
     let looks = looks_among search actives in
-    (is.1, held_from search actives is.1 (counted_has looks is.1 (place_has (counted looks) is.0 is.1 is.2.at)), sym same ∙ is.3)
+    (is.1, held_from search actives is.1 (counted_has looks is.1 (within is.1 (place_has hits is.0 is.1 is.2.at))), sym same ∙ is.3)
 
 pub links_are : LinksAreHeld
-links_are search actives url at = link_from search actives url (best_link (counted (looks_among search actives))) at (best_is (counted (looks_among search actives)))
+links_are search actives url (inl at) =
+    let hits = counted (looks_among search actives) in
+    link_from search actives url hits (best_link hits) (λ found has. has) at (best_is hits)
+links_are search actives url (inr at) =
+    let hits = counted (looks_among search actives) in
+    link_from search actives url (filter is_open hits) (best_link (filter is_open hits)) (λ found has. (filter_has is_open hits found has).0) at (best_is (filter is_open hits))

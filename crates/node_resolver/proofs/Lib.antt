@@ -11,3 +11,4 @@ pub mod Conditions
 pub mod SameTags
 pub mod Held
 pub mod Hosted
+pub mod SitesTaken

@@ -1,14 +1,14 @@
 -- The location of a response can be stated in its head.
-use Rattle.std.proofs.Common.{◌≡◌, ℕ, zero, List, [], Bool, true, false, Option, Some, None, Result, Ok, Err, refl, arith}
-use Rattle.std.specs.Prelude.{if◌then◌else◌, is_some, ◌&&◌, ◌||◌, not, position, codes, nat_le, length}
+use Rattle.std.proofs.Common.{◌≡◌, ◌∙◌, ℕ, zero, List, [], ◌∷◌, Bool, true, false, Option, Some, None, Result, Ok, Err, ap, sym, refl, arith}
+use Rattle.std.specs.Prelude.{if◌then◌else◌, is_some, ◌&&◌, ◌||◌, filter, not, position, codes, nat_le, length}
 use Rattle.std.specs.List.{list_all}
-use Rattle.std.specs.Option.{option_map_or}
+use Rattle.std.specs.Option.{option_map_or, option_or}
 use Rattle.std.proofs.lemmas.Bool.Decides.{nat_tests}
 use Rattle.std.proofs.lemmas.List.Elements.{All-nil, All-weaker}
 use Rattle.std.proofs.lemmas.List.Sums.{AllPass-from_list_all}
 use Rattle.httparse.specs.Grammar.{RequestHead, is_uri_byte}
 use Rattle.feed_http_heads.specs.Requests.{lacks_host, is_get, is_head}
-use Rattle.node_hits.specs.Searches.{SearchValue}
+use Rattle.node_hits.specs.Searches.{SearchValue, with_title_id}
 use Rattle.feed_openurl.specs.declared.fault.OpenUrlFault.{OpenUrlFault}
 use Rattle.node_request.specs.Representations.{accepted_representation, representation_of}
 use Rattle.node_request.specs.Routes.{package_in, route_of, is_unsupported_method}
@@ -25,7 +25,11 @@ use Rattle.node_response.specs.declared.status.Status.{Status}
 use Rattle.node_response.specs.declared.status.Status.TheVariants as status
 use Rattle.node_hits.specs.Lookups.{asked_of}
 use Rattle.node_hits.specs.QueryFacts.{QueryFactsValue, ask_of, names_work}
+use Rattle.node_site.proofs.LinksMade.{requests_are_links}
+use Rattle.node_site.specs.LibraryLinks.{LibraryLinkValue, library_links}
+use Rattle.node_site.specs.RequestLaws.{is_safe}
 use Rattle.node_site.specs.Site as site_file
+use Rattle.node_site.specs.declared.occasion.LinkUse.TheVariants.{Followed}
 use Rattle.node_hits.proofs.SoleHits.{sole_is}
 use Rattle.node_hits.specs.Laws.{IsSoleHit}
 use Rattle.node_site.specs.declared.text_table.Text.TheVariants as advice
@@ -39,12 +43,12 @@ use Rattle.node_titles.specs.declared.title_search.TitleFault.TheVariants.{BadSt
 use Rattle.feed_releases.specs.Actives.{ActiveValue}
 use Rattle.node_site.specs.Hosts.{host_of, is_link}
 use Rattle.node_site.specs.Urls.{url_limit, is_visible}
-use Rattle.node_hits.specs.Hits.{best_link}
+use Rattle.node_hits.specs.Hits.{is_open}
 use Rattle.node_hits.specs.Looks.{counted}
-use Rattle.node_hits.specs.Tallies.{sole_link}
+use Rattle.node_hits.specs.Tallies.{outcome_of, sole_link}
 use Rattle.node_hits.proofs.Redirects.{best_is}
 use Rattle.node_resolver.specs.Answers.{Sited, is_of, looks_among, tally_among}
-use Rattle.node_resolver.specs.Responses.{found_response, sole_redirect, status_without}
+use Rattle.node_resolver.specs.Responses.{first_address, found_response, library_target, sole_redirect, status_without, target_of}
 use Rattle.node_resolver.specs.Responses.{query_response, hits_response, resolve_response, resolve_response_at, redirect_response, go_response, route_response, path_of, target_query, target_response}
 use Rattle.node_resolver.specs.Responses.{has_coded_body}
 use Rattle.node_resolver.specs.Responses.{method_refusal, plain_response, form_refusal, response_by_form, untagged_response}
@@ -126,10 +130,35 @@ package_located : (representation : Representation) (text : List ℕ) (actives :
 package_located representation text actives other None located = located
 package_located representation text actives other (Some place) located = resolve_located representation text _
 
+-- the address of the first link of a library is safe, and so is the better of two such addresses
+first_is_link : (links : List LibraryLinkValue) (url : List ℕ) → list_all is_safe links ≡ true → first_address links ≡ Some url → is_link url ≡ true
+first_is_link [] url safe is = absurd (cc)
+first_is_link (link ∷ links) url safe is =
+    let same : link.address ≡ url = cc in
+    ap is_link (sym same) ∙ first (is_link link.address) (list_all is_safe links) safe
+
+either_is_link : (one other : Option (List ℕ)) (url : List ℕ) → ((text : List ℕ) → one ≡ Some text → is_link text ≡ true)
+    → ((text : List ℕ) → other ≡ Some text → is_link text ≡ true) → option_or one other ≡ Some url → is_link url ≡ true
+either_is_link None other url first_safe second_safe is = second_safe url is
+either_is_link (Some text) other url first_safe second_safe is = first_safe url is
+
+pub target_is_link : (search : SearchValue) (actives : Sited) (url : List ℕ) → target_of search actives ≡ Some url → is_link url ≡ true
+target_is_link search actives url is =
+    let hits = counted (looks_among search actives) in
+    let tally = tally_among search actives in
+    let library = library_target actives.library (outcome_of tally) search in
+    let cited = with_title_id [] search.cited in
+    either_is_link tally.best_open (option_or library tally.best) url (best_is (filter is_open hits))
+    (λ text. either_is_link library tally.best text
+    (λ address. first_is_link (library_links actives.library Followed (outcome_of tally) cited) address
+    (requests_are_links actives.library Followed (outcome_of tally) cited))
+    (best_is hits))
+    is
+
 best_located : (representation : Representation) (text : List ℕ) (actives : Sited) (query : SearchValue) → IsLocated (redirect_response representation text actives query)
 best_located representation text actives query =
-    redirect_located (best_link (counted (looks_among query actives))) (hits_response (status_without (tally_among query actives).is_whole) representation text actives query)
-    (best_is (counted (looks_among query actives))) plain
+    redirect_located (target_of query actives) (hits_response (status_without (tally_among query actives).is_whole) representation text actives query)
+    (target_is_link query actives) plain
 
 go_located : (representation : Representation) (text : List ℕ) (actives : Sited) → IsLocated (go_response representation text actives)
 go_located representation text actives =

@@ -1,7 +1,7 @@
 -- The responses to requests of certain forms.
 use Rattle.std.proofs.Common.{◌≡◌, ◌<◌, ◌^◌, ◌⊎◌, ℕ, List, [], ◌∷◌, Bool, true, false, Option, Some, None, Result, Ok, Err}
 use Rattle.std.proofs.Common.{refl, sym, ap, ◌∙◌, inl, inr, subst, length, codes, lit<}
-use Rattle.std.specs.Prelude.{if◌then◌else◌, ◌||◌, ◌&&◌, ◌==◌, is_none, not, position}
+use Rattle.std.specs.Prelude.{if◌then◌else◌, ◌||◌, ◌&&◌, ◌==◌, filter, is_none, not, position}
 use Rattle.std.specs.Option.{option_map_or, is_some}
 use Rattle.std.specs.Str.{bytes_eq}
 use Rattle.std.specs.Cmp.Lexicographic.{bytes_decides}
@@ -32,25 +32,24 @@ use Rattle.node_response.specs.Responses.{ResponseValue, ResponseTextValue, resp
 use Rattle.node_response.specs.Messages.{IsMessage, IsMessageFor, BeginsStream, IsSentAs}
 use Rattle.node_response.specs.declared.status.Status.TheVariants as status
 use Rattle.node_response.proofs.HeadsRead.{head_of, sent_as}
-use Rattle.node_hits.specs.Hits.{ReleaseHitValue, best_link}
+use Rattle.node_hits.specs.Hits.{best_link, is_open}
 use Rattle.node_hits.specs.Lookups.{asked_of}
 use Rattle.node_hits.specs.Laws.{IsSoleHit}
-use Rattle.node_hits.specs.Ranks.{IsBestLink}
 use Rattle.node_site.specs.Hosts.{is_link}
 use Rattle.node_hits.specs.Looks.{counted}
-use Rattle.node_hits.specs.Tallies.{sole_link}
+use Rattle.node_hits.specs.Tallies.{outcome_of, sole_link}
 use Rattle.node_site.specs.declared.text_table.Text.TheVariants as advice
 use Rattle.node_pages.specs.ErrorPages.{error_response}
 use Rattle.node_hits.proofs.BestLinks as links
 use Rattle.node_response.specs.Tags.{SiteValue}
 use Rattle.node_resolver.specs.Answers.{Dated, Sited, sited, is_of, looks_among, tally_among}
-use Rattle.node_resolver.specs.Responses.{found_response, sole_redirect, status_without}
+use Rattle.node_resolver.specs.Responses.{found_response, library_target, sole_redirect, status_without, target_of}
 use Rattle.node_resolver.specs.Responses.{route_response, resolve_response, package_response, redirect_response, go_response, hits_response, query_response, target_response, target_query, path_of}
 use Rattle.node_resolver.specs.Responses.{method_refusal, has_coded_body, resolve_response_at, response_by_form, untagged_response, site_response, tagged_response, response_to, IsResponse}
 use Rattle.node_resolver.specs.Answered.{IsGoodIn, IsAnswered, IsAnsweredTo}
 use Rattle.node_resolver.specs.Validators.{is_tagged, has_validator}
-use Rattle.node_resolver.specs.Messages.{as_get, HeadIsHeadOfGet, AsksToGo, GoesTo, GoesToBest, FormIsGet, RedirectsSoleHit}
-use Rattle.node_resolver.proofs.Locations.{link_location, response_located, sole_hit}
+use Rattle.node_resolver.specs.Messages.{as_get, HeadIsHeadOfGet, AsksToGo, GoesTo, GoesToBest, FormIsGet, IsFollowed, RedirectsSoleHit}
+use Rattle.node_resolver.proofs.Locations.{link_location, response_located, sole_hit, target_is_link}
 use Rattle.node_resolver.proofs.Tagged.{final_by, tag_asked, tagged_cases, no_preflight, tagged_statable, tagged_young}
 use Rattle.node_resolver.proofs.SameBytes.{one_response}
 
@@ -249,11 +248,11 @@ redirected : (keeps alone : Bool) (url : List ℕ) → is_link url ≡ true
 redirected keeps true url link = let sent = redirect_sent keeps url link in (head_of keeps (redirect_to url), sent.alone, sent.states.location)
 redirected keeps false url link = let sent = redirect_sent keeps url link in (head_of keeps (redirect_to url), sent.whole, sent.states.location)
 
-goes : (keeps alone whole : Bool) (hits : List ReleaseHitValue) (o : Option (List ℕ)) (other : ResponseValue) → IsBestLink hits o → other.status ≡ status_without whole
-    → GoesTo o whole (response_of keeps alone (option_map_or redirect_to o other))
-goes keeps alone true hits None other best is = ap status_code is
-goes keeps alone false hits None other best is = ap status_code is
-goes keeps alone whole hits (Some url) other best is = (refl, redirected keeps alone url (ap is_link best.3 ∙ best.2.link))
+goes : (keeps alone whole : Bool) (o : Option (List ℕ)) (other : ResponseValue) → ((url : List ℕ) → o ≡ Some url → is_link url ≡ true)
+    → other.status ≡ status_without whole → GoesTo o whole (response_of keeps alone (option_map_or redirect_to o other))
+goes keeps alone true None other safe is = ap status_code is
+goes keeps alone false None other safe is = ap status_code is
+goes keeps alone whole (Some url) other safe is = (refl, redirected keeps alone url (safe url refl))
 
 -- a site sends a redirect as it is
 sited_redirect : (redirects : Bool) (o : Option (List ℕ)) (other : ResponseValue)
@@ -266,14 +265,25 @@ goes_to_best site keeps actives bytes body head query response begins asks is =
     let hits = counted (looks_among query (sited site actives)) in
     let whole : Bool = (tally_among query (sited site actives)).is_whole in
     let other : ResponseValue = hits_response (status_without whole) (accepted_representation head) (target_query head) (sited site actives) query in
-    let best : IsBestLink hits (best_link hits) = links.best_is hits in
+    let target : Option (List ℕ) = target_of query (sited site actives) in
     let redirects : Bool = site.library.redirects_sole_hit in
-    let same : response ≡ response_of keeps (is_head head) (option_map_or redirect_to (best_link hits) (of_site redirects other)) =
+    let same : response ≡ response_of keeps (is_head head) (option_map_or redirect_to target (of_site redirects other)) =
     response_at site keeps bytes body actives head response begins is
     ∙ ap (λ (t : ResponseValue). response_of keeps (is_head head) (of_site redirects t)) (read_tagged site head body actives asks.method ∙ untagged_go site head body actives asks.route
     ∙ go_replied head body query (sited site actives) asks)
-    ∙ ap (response_of keeps (is_head head)) (sited_redirect redirects (best_link hits) other) in
-    (best_link hits, best, subst (λ (v : ResponseTextValue). GoesTo (best_link hits) whole v) (sym same) (goes keeps (is_head head) whole hits (best_link hits) (of_site redirects other) best refl))
+    ∙ ap (response_of keeps (is_head head)) (sited_redirect redirects target other) in
+    let followed : IsFollowed hits (library_target site.library (outcome_of (tally_among query (sited site actives))) query) target = record {
+      of_open = best_link (filter is_open hits);
+      of_all = best_link hits;
+      is_best_open = links.best_is (filter is_open hits);
+      is_best = links.best_is hits;
+      follows = refl;
+    } in (
+      target,
+      followed,
+      subst (λ (v : ResponseTextValue). GoesTo target whole v) (sym same)
+          (goes keeps (is_head head) whole target (of_site redirects other) (target_is_link query (sited site actives)) refl),
+    )
 
 -- ---- a sole hit
 

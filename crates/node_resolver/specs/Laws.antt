@@ -1,5 +1,5 @@
 -- The laws of responses.
-use Rattle.std.specs.Prelude.{◌≡◌, ◌↔◌, ℕ, Bool, true, All, List, Some, map}
+use Rattle.std.specs.Prelude.{◌≡◌, ◌↔◌, ◌⊎◌, ℕ, Bool, true, All, List, Some, map}
 use Rattle.std.specs.List.{Contains, flat_map}
 use Rattle.json.specs.Json.{document, array}
 use Rattle.json.specs.Value.{items_of}
@@ -66,9 +66,10 @@ abbrev pub HitsAreHeld : Type 0
 HitsAreHeld = (search : SearchValue) (actives : Sited) (found : ReleaseHitValue)
     → Contains (hits_among search actives) found ↔ IsHeldHit search actives found
 
--- a link is that of such a hit
+-- the best link, of all hits or of the open ones, is that of such a hit
 abbrev pub LinksAreHeld : Type 0
-LinksAreHeld = (search : SearchValue) (actives : Sited) (url : List ℕ) → (tally_among search actives).best ≡ Some url
+LinksAreHeld = (search : SearchValue) (actives : Sited) (url : List ℕ)
+    → ((tally_among search actives).best ≡ Some url) ⊎ ((tally_among search actives).best_open ≡ Some url)
     → (found : ReleaseHitValue) × IsHeldHit search actives found × (url ≡ link_text found)
 
 -- the answer of a release, as `Answer::write` prints it, without the hits that the library does not have

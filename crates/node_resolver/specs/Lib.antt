@@ -1,5 +1,8 @@
 pub mod Answers
 pub mod NodeSites
+pub mod SitePlaces
+pub mod SitesReadings
+pub mod SitesSteps
 pub mod AnswerTexts
 pub mod Status
 pub mod Validators
@@ -8,6 +11,7 @@ pub mod Answered
 pub mod Messages
 pub mod NodeResponses
 pub mod FeedResponses
+pub mod SitesResponses
 pub mod Laws
 pub mod SiteLaws
 pub mod TagLaws

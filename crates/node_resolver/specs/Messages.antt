@@ -1,5 +1,6 @@
 -- The bytes of responses, as a client parses them.
-use Rattle.std.specs.Prelude.{◌≡◌, ◌<◌, ◌^◌, ◌⊎◌, ◌||◌, ℕ, Bool, true, false, List, [], ◌∷◌, codes, Option, Some, None, Ok}
+use Rattle.std.specs.Prelude.{◌≡◌, ◌<◌, ◌^◌, ◌⊎◌, ◌||◌, ℕ, Bool, true, false, List, [], ◌∷◌, codes, filter, Option, Some, None, Ok}
+use Rattle.std.specs.Option.{option_or}
 use Rattle.httparse.specs.Grammar.{RequestHead, ResponseHead}
 use Rattle.feed_http_heads.specs.Fields.{values_named}
 use Rattle.feed_http_heads.specs.Requests.{lacks_host, is_get, is_head}
@@ -14,14 +15,16 @@ use Rattle.node_response.specs.Responses.{ResponseTextValue, is_page, of_site, r
 use Rattle.node_response.specs.Messages.{IsMessage, IsMessageFor}
 use Rattle.node_response.specs.declared.status.Status.TheVariants as status
 use Rattle.node_hits.specs.Lookups.{asked_of}
+use Rattle.node_hits.specs.Hits.{ReleaseHitValue, is_open}
 use Rattle.node_hits.specs.Laws.{IsSoleHit}
 use Rattle.node_hits.specs.Ranks.{IsBestLink}
 use Rattle.node_hits.specs.Looks.{counted}
+use Rattle.node_hits.specs.Tallies.{outcome_of}
 use Rattle.std.specs.Str.{IsUtf8}
 use Rattle.node_response.specs.Tags.{SiteValue}
 use Rattle.node_resolver.specs.Answers.{Dated, Sited, looks_among, sited, tally_among}
 use Rattle.node_request.specs.Forms.{form_of}
-use Rattle.node_resolver.specs.Responses.{IsResponse, untagged_response, has_coded_body, path_of, resolve_response, site_response, target_query}
+use Rattle.node_resolver.specs.Responses.{IsResponse, library_target, untagged_response, has_coded_body, path_of, resolve_response, site_response, target_query}
 
 -- the response to these bytes is one head and a body whose length the head states, or the head alone if the bytes begin
 -- with a HEAD; the head announces that the connection is closed exactly if it is not kept
@@ -70,13 +73,24 @@ GoesTo None false response = response.status ≡ 200
 GoesTo (Some url) is_whole response =
     (response.status ≡ 302) × ((head : ResponseHead) × IsMessage response head [] × (values_named (codes "location") head.fields ≡ url ∷ []))
 
--- `/go` redirects to a counted hit that may be linked to, and no other such hit ranks above it
+-- a reader is sent to the best of the hits that are open, or else to the link of the library, or else to the best hit of all:
+-- no other such hit ranks above it
+pub record IsFollowed (hits : List ReleaseHitValue) (library target : Option (List ℕ)) : Type 0 where
+  pub of_open : Option (List ℕ)
+  pub of_all : Option (List ℕ)
+  pub is_best_open : IsBestLink (filter is_open hits) of_open
+  pub is_best : IsBestLink hits of_all
+  pub follows : target ≡ option_or of_open (option_or library of_all)
+
+-- `/go` redirects to such a link, by the counted hits and the links of the library
 abbrev pub GoesToBest : Type 0
 GoesToBest =
     (site : SiteValue) (keeps : Bool) (actives : Dated) (bytes body : List ℕ) (head : RequestHead) (search : SearchValue) (response : ResponseTextValue)
     → BeginsWith bytes head → AsksToGo head search → IsResponse site bytes body keeps actives response
-    → (best : Option (List ℕ)) × IsBestLink (counted (looks_among search (sited site actives))) best
-    × GoesTo best (tally_among search (sited site actives)).is_whole response
+    → (target : Option (List ℕ))
+    × IsFollowed (counted (looks_among search (sited site actives)))
+    (library_target site.library (outcome_of (tally_among search (sited site actives))) search) target
+    × GoesTo target (tally_among search (sited site actives)).is_whole response
 
 -- `/resolve` redirects only a browser, only if the library wants it, and to the link of the only hit: one that is available,
 -- covers the whole of what is asked for, in full text, and the library has all those days

@@ -8,9 +8,13 @@ use Rattle.node_response.specs.Tags.{SiteValue}
 use Rattle.node_resolver.specs.declared.node_sites.NamedSite.{NamedSite}
 use Rattle.node_resolver.specs.declared.node_sites.NodeSites.{NodeSites}
 
--- the site of the requests for a host, or of those without one, with the name of its file
+-- the place in the list of the site of a host, or of requests that name no host
+abbrev pub place_for : Option (List ℕ) → NodeSites → Option ℕ
+place_for host sites = kept.site_of host sites.places
+
+-- that site, with the name of its file
 abbrev pub named_for : Option (List ℕ) → NodeSites → Option NamedSite
-named_for host sites = option_and_then (slice_get sites.list) (kept.site_of host sites.places)
+named_for host sites = option_and_then (slice_get sites.list) (place_for host sites)
 
 -- the site alone
 abbrev pub site_for : Option (List ℕ) → NodeSites → Option SiteValue

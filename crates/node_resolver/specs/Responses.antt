@@ -1,11 +1,11 @@
 -- The response to a request, as a function of its head, of the active releases and of the day.
-use Rattle.std.specs.Prelude.{◌≡◌, ◌⊎◌, ℕ, ◌||◌, not, Bool, if◌then◌else◌, List, codes, Option, Some, None, Result, Ok, Err, position}
-use Rattle.std.specs.Option.{option_map_or}
+use Rattle.std.specs.Prelude.{◌≡◌, ◌⊎◌, ℕ, ◌||◌, not, Bool, if◌then◌else◌, List, [], ◌∷◌, codes, Option, Some, None, Result, Ok, Err, position}
+use Rattle.std.specs.Option.{option_map_or, option_or}
 use Rattle.httparse.specs.Grammar.{RequestHead}
 use Rattle.feed_http_heads.specs.Fields.{values_named, has_any}
 use Rattle.feed_http_heads.specs.Targets.{origin_form}
 use Rattle.feed_http_heads.specs.Requests.{lacks_host, is_get, is_head}
-use Rattle.node_hits.specs.Searches.{SearchValue}
+use Rattle.node_hits.specs.Searches.{SearchValue, with_title_id}
 use Rattle.feed_openurl.specs.declared.fault.OpenUrlFault.{OpenUrlFault}
 use Rattle.feed_answer.specs.Today.{TodayValue}
 use Rattle.feed_model.specs.History.{History}
@@ -25,7 +25,11 @@ use Rattle.node_response.specs.declared.status.Status.{Status}
 use Rattle.node_response.specs.declared.status.Status.TheVariants as status
 use Rattle.node_hits.specs.Lookups.{asked_of}
 use Rattle.node_hits.specs.QueryFacts.{ask_of}
-use Rattle.node_hits.specs.Tallies.{sole_link}
+use Rattle.node_hits.specs.Tallies.{TallyValue, followed_link, outcome_of, sole_link}
+use Rattle.node_site.specs.LibraryLinks.{LibraryLinkValue, library_links}
+use Rattle.node_site.specs.Site as site_file
+use Rattle.node_site.specs.declared.occasion.LinkUse.TheVariants.{Followed}
+use Rattle.node_site.specs.declared.occasion.SearchOutcome.{SearchOutcome}
 use Rattle.node_site.specs.declared.text_table.Text.TheVariants as advice
 use Rattle.node_pages.specs.ErrorPages.{error_response}
 use Rattle.node_pages.specs.QueryRefusals.{unasked_response}
@@ -77,10 +81,30 @@ package_response representation package_name text actives = option_map_or (resol
 abbrev pub status_without : Bool → Status
 status_without is_whole = if is_whole then status.NotFound else status.Good
 
--- a redirect to the best of the counted hits, or the answer if none has a link
+-- the address of the first of some links
+abbrev pub first_address : List LibraryLinkValue → Option (List ℕ)
+first_address [] = None
+first_address (link ∷ links) = Some link.address
+
+-- the library's link to which a reader is sent who finds no open hit, by the outcome of the search
+abbrev pub library_target : site_file.SiteValue → SearchOutcome → SearchValue → Option (List ℕ)
+library_target site outcome search = first_address (library_links site Followed outcome (with_title_id [] search.cited))
+
+-- the address to which it redirects if no open hit may be linked to
+abbrev pub closed_target : site_file.SiteValue → SearchValue → TallyValue → Option (List ℕ)
+closed_target site search tally = option_or (library_target site (outcome_of tally) search) tally.best
+
+-- the address to which `/go` redirects: by the hits that are counted, and the links of the library
+abbrev pub target_in : site_file.SiteValue → SearchValue → TallyValue → Option (List ℕ)
+target_in site search tally = followed_link (library_target site (outcome_of tally) search) tally
+
+abbrev pub target_of : SearchValue → Sited → Option (List ℕ)
+target_of search actives = target_in actives.library search (tally_among search actives)
+
+-- a redirect to that address, or the answer if there is none
 abbrev pub redirect_response : Representation → List ℕ → Sited → SearchValue → ResponseValue
 redirect_response representation text actives search = option_map_or redirect_to
-    (tally_among search actives).best
+    (target_of search actives)
     (hits_response (status_without (tally_among search actives).is_whole) representation text actives search)
 
 -- the same for what a text asks

@@ -24,7 +24,8 @@ pub fn head_is_head_of_get()
     ensures { HeadIsHeadOfGet }
 {}
 
-/// `/go` redirects to a hit in the rows that are looked at, and no hit in them that may be linked to ranks above it.
+/// `/go` redirects to a hit that is open to readers, or else to a link of the library, or else to a hit. No such hit in
+/// the rows that are looked at, that may be linked to, ranks above it.
 pub fn goes_to_best()
     ensures { GoesToBest }
 {}

@@ -1,7 +1,7 @@
 //! The sites of a node by the hosts whose requests they respond to, each with the name of its file.
 ghost use Rattle.std.specs.Prelude.{◌≡◌, ◌-◌, ◌∷◌, ◌++◌, List, ℕ, [], IfErr, IfOk, None, OnErr, OnOk, Option, Some};
 ghost use Rattle.std.specs.Prelude.{length, option_copied, slice_get, take};
-ghost use Rattle.node_site.specs.Sites.{own_site};
+ghost use Rattle.node_site.specs.Sites.{other_site, own_site};
 
 use feed_answer::Today;
 use node_response::{Digested, Site};
@@ -13,7 +13,7 @@ use std::marker::Model;
 #[derive(Drop)]
 pub struct NamedSite {
     pub site: Site,
-    /// The name that the log and the metrics show.
+    /// The name of its file, such as `library.example.toml`, or none without a folder.
     pub name: Vec<u8>,
 }
 
@@ -89,6 +89,12 @@ impl SiteList {
         self.sites.pop();
     }
 
+    fn into_sites(self) -> Vec<NamedSite>
+        ensures { result.items ≡ self }
+    {
+        self.sites
+    }
+
     fn get(&self, place: usize) -> Option<&NamedSite>
         ensures { option_copied result ≡ slice_get self.now place }
     {
@@ -111,11 +117,12 @@ impl SiteList {
 
 impl NodeSites {
     ghost use Rattle.node_resolver.specs.NodeSites.{AddsNamed, AreSameNamed, IsAddFault, SetsOtherNamed};
-    ghost use Rattle.node_resolver.specs.NodeSites.{named_for, site_for};
+    ghost use Rattle.node_resolver.specs.NodeSites.{named_for, place_for, site_for};
 
     /// Returns no sites.
     pub fn new(alloc: Global) -> NodeSites
         ensures places { (host : List ℕ) → own_site host result.places ≡ None }
+        ensures others { other_site result.places ≡ None }
         ensures list { result.list ≡ [] }
     {
         NodeSites {
@@ -183,12 +190,29 @@ impl NodeSites {
         &self.list.sites
     }
 
+    /// Returns the sites alone, such as to free them.
+    pub fn into_list(self) -> Vec<NamedSite>
+        ensures { result.items ≡ self.list }
+    {
+        self.list.into_sites()
+    }
+
+    /// Returns the place in the list of the site of the requests for a host.
+    pub fn place(&self, host: Option<&[u8]>) -> Option<usize>
+        ensures { result ≡ place_for (option_copied host.entry) self.now }
+    {
+        match self.places.site_of(host) {
+            Some(place) => Some(*place),
+            None => None,
+        }
+    }
+
     /// Returns the site of the requests for a host, with the name of its file.
     pub fn named(&self, host: Option<&[u8]>) -> Option<&NamedSite>
         ensures { option_copied result ≡ named_for (option_copied host.entry) self.now }
     {
-        match self.places.site_of(host) {
-            Some(place) => self.list.get(*place),
+        match self.place(host) {
+            Some(place) => self.list.get(place),
             None => None,
         }
     }

@@ -1,5 +1,5 @@
 //! Computes the response to the head of a request and to its body, which only a form has.
-ghost use Rattle.std.specs.Prelude.{◌≡◌, IfOk, option_copied, option_map, position};
+ghost use Rattle.std.specs.Prelude.{◌≡◌, IfOk, position};
 ghost use Rattle.std.specs.Option.{option_map_or};
 ghost use Rattle.httparse.specs.Grammar.{AllPass, RequestHead, is_uri_byte};
 ghost use Rattle.feed_http_heads.specs.Options.{SaysWhetherItKeeps};
@@ -30,6 +30,7 @@ use crate::answers::{put_answer, put_counted, tally_among};
 use crate::context::Context;
 use crate::request::ReaderRequest;
 use crate::status::put_status;
+use crate::targets::{copied, target_in};
 use crate::validators::{preflight_status, tag_to, validated_response};
 use feed_answer::Today;
 use feed_http_heads::Request;
@@ -76,15 +77,6 @@ fn counted_response<'a>(
     let mut body = Vec::new(alloc);
     put_counted(alloc, &mut body, query, context, lookup, hits)?;
     Ok(Response::new(status, query.representation, body))
-}
-
-fn copied(alloc: Global, link: Option<&[u8]>) -> Result<Option<Vec<u8>>, AllocError>
-    ensures { IfOk result (λ copy. option_map (λ text. text.items) copy ≡ option_copied link.entry) }
-{
-    match link {
-        Some(link) => Ok(Some(Vec::from_slice(alloc, link)?)),
-        None => Ok(None),
-    }
 }
 
 // Returns a redirect to the sole hit, or the hits. They are counted once.
@@ -177,7 +169,7 @@ fn status_without(is_whole: bool) -> Status
     }
 }
 
-// Returns a redirect to the best hit, or the hits. They are counted once.
+// Returns a redirect to the address that follows from the hits, or the hits. They are counted once.
 fn redirect_response(
     alloc: Global,
     query: &ReceivedOpenUrl<'_>,
@@ -189,7 +181,7 @@ fn redirect_response(
 {
     let hits = tally_among(alloc, context, lookup)?;
     let status = status_without(hits.is_whole());
-    match copied(alloc, hits.best_link())? {
+    match target_in(alloc, context.library(), lookup, &hits)? {
         Some(link) => Ok(Response::redirect(alloc, link)),
         None => counted_response(alloc, status, query, context, lookup, hits),
     }

@@ -13,3 +13,4 @@ pub use node_table::{CloseCause, Log};
 pub use outgoing::OutgoingRequest;
 pub use server::{ServedNode, Server, Settings};
 pub use socket::{Socket, is_local};
+pub use streamed_response::StreamKind;

@@ -5,13 +5,14 @@ ghost use Rattle.node_machine.specs.Promise.{IsRightAfter};
 use crate::descriptors::available_clients;
 use crate::outgoing::OutgoingRequest;
 use crate::socket::{Socket, is_local};
-use crate::streamed_response::StreamedResponse;
+use crate::streamed_response::{StreamKind, StreamedResponse};
 use feed_keep::Keep;
 use mio::event::Event;
 use mio::net::TcpListener;
 use mio::{Events, Interest, Poll, Token};
 use node_connection::{Share, TURN_SHARE, TimeLimits};
 use node_machine::{FeedRespond, NodeMachine, node_is_right};
+use node_request::{ReceivedRequest, Route};
 use node_table::{CloseCause, Log, Outcome, Turn};
 use std::alloc::Global;
 use std::io;
@@ -160,18 +161,18 @@ impl Server {
         self.has_more_work = true;
     }
 
-    /// Appends a text to the bodies of the streamed responses.
-    pub fn send_to_streams(&mut self, text: &[u8]) {
+    /// Appends a text to the bodies of the streamed responses about a fetch, or about the folder of site files.
+    pub fn send_to_streams(&mut self, kind: StreamKind, text: &[u8]) {
         for stream in self.streams.iter_mut() {
-            stream.append(text);
+            stream.append(kind, text);
         }
         self.send_streams();
     }
 
-    /// Completes the streamed responses.
-    pub fn finish_streams(&mut self) {
+    /// Completes the streamed responses about a fetch, or about the folder of site files.
+    pub fn finish_streams(&mut self, kind: StreamKind) {
         for stream in self.streams.iter_mut() {
-            stream.finish();
+            stream.finish(kind);
         }
         self.send_streams();
     }
@@ -203,8 +204,8 @@ impl Server {
         events: &mut Events,
         log: &mut L,
     ) -> io::Result<()>
-        ensures later { IsLater S.wanted S.responses node.old node.new }
-        ensures right { IsRightAfter S.wanted S.responses node.old node.new }
+        ensures later { IsLater S.wanted S.responses S.sites node.old node.new }
+        ensures right { IsRightAfter S.wanted S.responses S.sites node.old node.new }
     {
         let outcome = self.run_turn(rt, node, events, log);
         node_is_right(node);
@@ -220,7 +221,7 @@ impl Server {
         events: &mut Events,
         log: &mut L,
     ) -> io::Result<()>
-        ensures { IsLater S.wanted S.responses node.old node.new }
+        ensures { IsLater S.wanted S.responses S.sites node.old node.new }
     {
         self.set_accepting(false);
         let outcome = self.run_last_turns(rt, node, events, log);
@@ -243,7 +244,7 @@ impl Server {
         events: &mut Events,
         log: &mut L,
     ) -> io::Result<()>
-        ensures { IsLater S.wanted S.responses node.old node.new }
+        ensures { IsLater S.wanted S.responses S.sites node.old node.new }
     {
         let end = self.now.saturating_add(DRAIN_MICROS);
         for _ in 0..u64::MAX {
@@ -261,7 +262,7 @@ impl Server {
         node: &mut ServedNode<'_, K, S>,
         log: &mut L,
     )
-        ensures { IsLater S.wanted S.responses node.old node.new }
+        ensures { IsLater S.wanted S.responses S.sites node.old node.new }
     {
         for _ in 0..node.table().len() {
             node.make_room(self.now, log);
@@ -275,7 +276,7 @@ impl Server {
         events: &mut Events,
         log: &mut L,
     ) -> io::Result<()>
-        ensures { IsLater S.wanted S.responses node.old node.new }
+        ensures { IsLater S.wanted S.responses S.sites node.old node.new }
     {
         self.wait(rt, node.table().has_ready(), events)?;
         for event in events.iter() {
@@ -305,7 +306,7 @@ impl Server {
         node: &mut ServedNode<'_, K, S>,
         log: &mut L,
     )
-        ensures { IsLater S.wanted S.responses node.old node.new }
+        ensures { IsLater S.wanted S.responses S.sites node.old node.new }
     {
         self.has_more_work = self.run_outgoing() || has_more_work;
         self.send_streams();
@@ -319,7 +320,7 @@ impl Server {
         event: &Event,
         log: &mut L,
     )
-        ensures { IsLater S.wanted S.responses node.old node.new }
+        ensures { IsLater S.wanted S.responses S.sites node.old node.new }
     {
         let token = event.token();
         if token == LISTENER {
@@ -340,7 +341,7 @@ impl Server {
         end: u64,
         log: &mut L,
     ) -> io::Result<()>
-        ensures { IsLater S.wanted S.responses node.old node.new }
+        ensures { IsLater S.wanted S.responses S.sites node.old node.new }
     {
         let mut rest = node.table().begin_turn();
         for _ in 0..u64::MAX {
@@ -360,7 +361,7 @@ impl Server {
         key: usize,
         log: &mut L,
     ) -> io::Result<()>
-        ensures { IsLater S.wanted S.responses node.old node.new }
+        ensures { IsLater S.wanted S.responses S.sites node.old node.new }
     {
         let mut share = TURN_SHARE;
         if self.next_response(key, &mut share, rt, node, log)? == Outcome::Resumed {
@@ -379,7 +380,7 @@ impl Server {
         node: &mut ServedNode<'_, K, S>,
         log: &mut L,
     ) -> io::Result<Outcome>
-        ensures { IsLater S.wanted S.responses node.old node.new }
+        ensures { IsLater S.wanted S.responses S.sites node.old node.new }
     {
         node.free_memory(self.now, log);
         let is_local = node.table().addr(key).is_some_and(is_local);
@@ -408,8 +409,9 @@ impl Server {
         key: usize,
         log: &mut L,
     )
-        ensures { IsLater S.wanted S.responses node.old node.new }
+        ensures { IsLater S.wanted S.responses S.sites node.old node.new }
     {
+        let kind = stream_kind(node.table().streamed_request(key));
         let Some(socket) = node.remove(key, CloseCause::Streamed, self.now, log) else {
             return;
         };
@@ -420,7 +422,7 @@ impl Server {
         if known.is_err() && registry.register(&mut stream, STREAM, both).is_err() {
             return;
         }
-        let stream = StreamedResponse::new(self.alloc, stream, self.limits.step);
+        let stream = StreamedResponse::new(self.alloc, kind, stream, self.limits.step);
         let _ = self.streams.push(stream);
     }
 
@@ -431,7 +433,7 @@ impl Server {
         key: usize,
         log: &mut L,
     )
-        ensures { IsLater S.wanted S.responses node.old node.new }
+        ensures { IsLater S.wanted S.responses S.sites node.old node.new }
     {
         if !node.register(key, self.poll.registry()) {
             let _ = node.remove(key, CloseCause::PeerClosed, self.now, log);
@@ -444,7 +446,7 @@ impl Server {
         node: &mut ServedNode<'_, K, S>,
         log: &mut L,
     )
-        ensures { IsLater S.wanted S.responses node.old node.new }
+        ensures { IsLater S.wanted S.responses S.sites node.old node.new }
     {
         let millis = self.now.saturating_sub(self.last_tick) / 1_000;
         if millis < TICK {
@@ -459,6 +461,14 @@ impl Server {
         }
         self.send_streams();
         node.advance_clock(self.now, log);
+    }
+}
+
+// Returns what the streamed response to a request is about.
+fn stream_kind(received: Option<ReceivedRequest<'_>>) -> StreamKind {
+    match received.and_then(|received| received.parsed()) {
+        Some(parsed) if parsed.route == Route::Sites => StreamKind::Sites,
+        _ => StreamKind::Fetch,
     }
 }
 

@@ -1,4 +1,5 @@
-//! A response whose head was sent, and whose body is sent line by line as a fetch proceeds.
+//! A response whose head was sent, and whose body is sent line by line as a fetch, or the reading of the folder of site
+//! files, proceeds.
 ghost use Rattle.std.specs.Prelude.{◌≤◌, vec_len};
 
 use mio::net::TcpStream;
@@ -12,9 +13,19 @@ const PENDING_LIMIT: usize = 65_536;
 // The most reads of one turn.
 const READS: usize = 16;
 
+/// The work of a node that the body of a streamed response reports.
+#[derive(Clone, Copy, Debug, PartialEq, Eq)]
+pub enum StreamKind {
+    /// The fetch of a release.
+    Fetch,
+    /// The reading of the folder of site files.
+    Sites,
+}
+
 /// A client that receives such a response, until the response is complete or the client is dropped.
 #[derive(Drop)]
 pub(crate) struct StreamedResponse {
+    kind: StreamKind,
     stream: TcpStream,
     pending: Vec<u8>,
     sent: usize,
@@ -34,8 +45,14 @@ pub(crate) struct StreamedResponse {
 }
 
 impl StreamedResponse {
-    pub(crate) fn new(alloc: Global, stream: TcpStream, limit: u64) -> StreamedResponse {
+    pub(crate) fn new(
+        alloc: Global,
+        kind: StreamKind,
+        stream: TcpStream,
+        limit: u64,
+    ) -> StreamedResponse {
         StreamedResponse {
+            kind,
             stream,
             pending: Vec::new(alloc),
             sent: 0,
@@ -48,9 +65,9 @@ impl StreamedResponse {
         }
     }
 
-    /// Appends a text to the body, unless it is complete.
-    pub(crate) fn append(&mut self, text: &[u8]) {
-        if self.is_finished || self.is_dropped {
+    /// Appends a text to the body if it is about this, and not complete.
+    pub(crate) fn append(&mut self, kind: StreamKind, text: &[u8]) {
+        if self.kind != kind || self.is_finished || self.is_dropped {
             return;
         }
         let has_room = self.pending.len() <= PENDING_LIMIT
@@ -60,9 +77,11 @@ impl StreamedResponse {
         }
     }
 
-    /// Completes the body.
-    pub(crate) fn finish(&mut self) {
-        self.is_finished = true;
+    /// Completes the body if it is about this.
+    pub(crate) fn finish(&mut self, kind: StreamKind) {
+        if self.kind == kind {
+            self.is_finished = true;
+        }
     }
 
     /// Adds milliseconds to the time in which the client accepted nothing, and drops it past the limit.

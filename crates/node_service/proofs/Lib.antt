@@ -3,3 +3,4 @@ pub mod Reported
 pub mod Agreement
 pub mod Fetches
 pub mod WantedPackages
+pub mod SameResponses

@@ -7,29 +7,38 @@ use Rattle.httparse.specs.Grammar.{RequestHead}
 use Rattle.httparse.proofs.GrammarLemmas.{request_unique}
 use Rattle.feed_http_heads.specs.Options.{lacks_close, SaysWhetherItKeeps}
 use Rattle.node_connection.specs.Requests.{IsPersistent, is_post, persists, states_len}
-use Rattle.feed_answer.specs.Today.{TodayValue}
 use Rattle.feed_model.specs.History.{History}
 use Rattle.feed_http_heads.specs.Fields.{values_named, has_any}
 use Rattle.feed_http_heads.specs.Requests.{lacks_host}
 use Rattle.feed_http_heads.specs.Targets.{origin_form}
 use Rattle.node_request.specs.Routes.{path_in, route_of}
 use Rattle.node_request.specs.FetchRequests.{FetchPolicyValue, name_to_fetch, name_at}
+use Rattle.node_request.specs.FoundRequests.{BeginsWith}
 use Rattle.node_request.specs.Forms.{form_limit, takes_form, is_form_post, has_form_type, stated_length, form_by, form_in, length_of_form, form_length}
 use Rattle.node_request.specs.declared.route.Route.{Route}
-use Rattle.node_request.specs.declared.route.Route.TheVariants.{Resolve, Package, Go}
+use Rattle.node_request.specs.declared.route.Route.TheVariants.{Resolve, Package, Go, Sites}
 use Rattle.node_request.specs.declared.form.FormFault.{FormFault}
 use Rattle.node_request.specs.declared.form.FormFault.TheVariants.{Coding}
 use Rattle.node_response.specs.Responses.{ResponseTextValue}
 use Rattle.node_resolver.specs.NodeResponses.{AsksForFetch, AsksForNoFetch, IsNodeResponseAt, SaysOfConnection}
 use Rattle.node_resolver.specs.FeedResponses.{IsFeedResponse}
-use Rattle.node_service.specs.Responders.{IsResponseBy}
+use Rattle.node_resolver.specs.SitesResponses.{IsSitesResponse, is_sites_route, is_for_sites}
+use Rattle.node_resolver.specs.declared.node_sites.NodeSites.{NodeSites}
+use Rattle.node_machine.specs.Rules.{Terms}
+use Rattle.node_service.specs.Responders.{IsOperatorResponse, IsResponseBy, SaysOfTurn}
 use Rattle.node_service.specs.Wanted.{IsAnswerable, IsUnanswerable, LacksOne}
 use Rattle.node_service.specs.declared.responder.FeedResponder.{FeedResponder}
 
-pub as_node : (responder : FeedResponder) (policy : FetchPolicyValue) (today : TodayValue) (bytes body : List ℕ) (keeps : Bool) (h : History) (response : ResponseTextValue)
-    → IsFeedResponse policy bytes keeps None → IsAnswerable responder.wanted.now h bytes
-    → IsNodeResponseAt responder.sites policy today h bytes body keeps response → IsResponseBy responder policy today h bytes body keeps response
-as_node responder policy today bytes body keeps h response other free is = inr (other, free, is)
+pub as_node : (responder : FeedResponder) (terms : Terms NodeSites) (bytes body : List ℕ) (keeps : Bool) (h : History) (response : ResponseTextValue)
+    → IsOperatorResponse responder.has_folder terms.policy bytes keeps None → IsAnswerable responder.wanted.now h bytes
+    → IsNodeResponseAt terms.sites terms.policy terms.today h bytes body keeps response → IsResponseBy responder terms h bytes body keeps response
+as_node responder terms bytes body keeps h response other free is = inr (other, free, is)
+
+-- a response about the folder is one to an operator, if there is none about the feed
+pub as_operator : (has_folder : Bool) (policy : FetchPolicyValue) (bytes : List ℕ) (keeps : Bool) (found : Option ResponseTextValue)
+    → IsFeedResponse policy bytes keeps None → IsSitesResponse has_folder policy bytes keeps found → IsOperatorResponse has_folder policy bytes keeps found
+as_operator has_folder policy bytes keeps None other is = (other, is)
+as_operator has_folder policy bytes keeps (Some response) other is = inr (other, is)
 
 -- a request is answered by the second of two tests, or by neither
 pub answered_by : (wanted : List (List ℕ)) (h : History) (bytes : List ℕ) (asks : Bool) → LacksOne h wanted
@@ -115,20 +124,45 @@ none_wanted true n zero = zero
 none_wanted false n zero = refl
 
 -- only a POST asks the node to fetch
-asks_by_post : (post : Bool) (name : Option (List ℕ)) → is_some (if post then name else None) ≡ true → post ≡ false → ⊥
-asks_by_post true name named none = false≢true (sym none)
-asks_by_post false name named none = false≢true named
+asks_by_post : (post : Bool) (name : Option (List ℕ)) → is_some (if post then name else None) ≡ true → post ≡ true
+asks_by_post true name named = refl
+asks_by_post false name named = absurd (false≢true named)
 
-fetch_is_post : (head : RequestHead) → is_some (name_to_fetch head) ≡ true → is_post head ≡ false → ⊥
-fetch_is_post head named none = asks_by_post (is_post head) (name_at (route_of head) (path_in (origin_form head.target))) named none
+fetch_posts : (head : RequestHead) → is_some (name_to_fetch head) ≡ true → is_post head ≡ true
+fetch_posts head named = asks_by_post (is_post head) (name_at (route_of head) (path_in (origin_form head.target))) named
+
+-- what is for `/sites` takes no form
+sites_takes_none : (route : Route) → is_sites_route route ≡ true → takes_form route ≡ false
+sites_takes_none Sites is = refl
+sites_takes_none Resolve is = absurd (cc)
+sites_takes_none Package is = absurd (cc)
+sites_takes_none Go is = absurd (cc)
+sites_takes_none route is = refl
+
+sites_has_no_form : (head : RequestHead) → is_for_sites head ≡ true → form_length head ≡ 0
+sites_has_no_form head asks =
+    no_form_post (bytes_eq head.method (codes "POST")) (not (lacks_host head)) (takes_form (route_of head)) (form_in head)
+    (sites_takes_none (route_of head) (and_last (not (lacks_host head)) (is_sites_route (route_of head)) asks))
+
+-- a connection does not persist after a POST that takes no form
+no_form_ends : (bytes body : List ℕ) (head : RequestHead) → BeginsWith bytes head → IsPersistent form_length bytes body → form_length head ≡ 0 → is_post head ≡ true → ⊥
+no_form_ends bytes body head begins is no_form post =
+    let one = request_unique bytes is.head head is.begins.rest begins.rest is.begins.reads begins.reads in
+    let none : length body ≡ 0 = is.size ∙ none_wanted (states_len is.head (form_length is.head)) (form_length is.head)
+    (ap form_length one.0 ∙ no_form) in
+    false≢true (sym (persists_not_post is.head (ap (λ n. persists is.head n) (sym none) ∙ is.keeps)) ∙ ap is_post one.0 ∙ post)
+
+says_of_connection : (bytes body : List ℕ) (keeps : Bool) (response : ResponseTextValue) → (keeps ≡ true → IsPersistent form_length bytes body)
+    → SaysOfConnection bytes keeps response → SaysWhetherItKeeps keeps response.bytes
+says_of_connection bytes body keeps response allowed (inl says) = says
+says_of_connection bytes body false response allowed (inr (asks, says)) = says
+says_of_connection bytes body true response allowed (inr ((head, begins, fetch), says)) =
+    absurd (no_form_ends bytes body head begins (allowed refl) (fetch_has_no_form head fetch.1) (fetch_posts head fetch.1))
 
 pub says_in_turn : (bytes body : List ℕ) (keeps : Bool) (response : ResponseTextValue) → (keeps ≡ true → IsPersistent form_length bytes body)
-    → SaysOfConnection bytes keeps response → SaysWhetherItKeeps keeps response.bytes
-says_in_turn bytes body keeps response allowed (inl says) = says
-says_in_turn bytes body false response allowed (inr (asks, says)) = says
-says_in_turn bytes body true response allowed (inr ((head, begins, fetch), says)) =
-    let is = allowed refl in
-    let one = request_unique bytes is.head head is.begins.rest begins.rest is.begins.reads begins.reads in
-    let asks : is_some (name_to_fetch is.head) ≡ true = subst (λ (h : RequestHead). is_some (name_to_fetch h) ≡ true) (sym one.0) fetch.1 in
-    let none : length body ≡ 0 = is.size ∙ none_wanted (states_len is.head (form_length is.head)) (form_length is.head) (fetch_has_no_form is.head asks) in
-    absurd (fetch_is_post is.head asks (persists_not_post is.head (ap (λ n. persists is.head n) (sym none) ∙ is.keeps)))
+    → SaysOfTurn bytes keeps response → SaysWhetherItKeeps keeps response.bytes
+says_in_turn bytes body keeps response allowed (inr says) = says_of_connection bytes body keeps response allowed says
+says_in_turn bytes body keeps response allowed (inl (inl says)) = says
+says_in_turn bytes body false response allowed (inl (inr (asks, says))) = says
+says_in_turn bytes body true response allowed (inl (inr ((head, begins, asks, post), says))) =
+    absurd (no_form_ends bytes body head begins (allowed refl) (sites_has_no_form head asks) post)

@@ -13,6 +13,7 @@ use Rattle.node_resolver.specs.Answers.{dated}
 use Rattle.node_resolver.specs.FeedResponses.{feed_target}
 use Rattle.node_resolver.specs.declared.node_sites.NodeSites.{NodeSites}
 use Rattle.node_resolver.specs.NodeResponses.{AsksForNoFetch, HaveSameSite, IsNodeResponse}
+use Rattle.node_resolver.specs.SitesResponses.{AsksForNoSites}
 use Rattle.node_monitoring.specs.Reports.{AsksForNoReport}
 use Rattle.node_machine.specs.NodeEvents.{NodeEvent, feed_history}
 use Rattle.node_machine.specs.Rules.{Terms, AreGiven}
@@ -24,25 +25,27 @@ use Rattle.node_service.specs.Responders.{IsTurnText}
 abbrev pub AsksForNoFeed : List ℕ → Type 0
 AsksForNoFeed bytes = HasNoHead bytes ⊎ ((head : RequestHead) × BeginsWith bytes head × (feed_target head ≡ None))
 
--- the bytes are what a reader sends: they ask neither for a fetch or its end, nor for the recorded releases, nor for a report
+-- the bytes are what a reader sends: they ask neither for a fetch or its end, nor for the recorded releases, nor for the folder
+-- of site files, nor for a report
 pub record IsOfReader (bytes : List ℕ) : Type 0 where
   pub no_fetch : AsksForNoFetch bytes
   pub no_feed : AsksForNoFeed bytes
+  pub no_sites : AsksForNoSites bytes
   pub no_report : AsksForNoReport bytes
 
 -- the knowledge base of a node with this history served slices of the files, and nothing else changed the feed
-pub record IsFromFiles (file : Name → List ℕ) (history : List NodeEvent) : Type 0 where
+pub record IsFromFiles (file : Name → List ℕ) (history : List (NodeEvent NodeSites)) : Type 0 where
   pub given : AreGiven history
   pub of_files : AreOfFiles file history
 
--- two nodes of the same version and settings, whose knowledge bases serve slices of the same published files, and that have
--- the same site for the host of a request of a reader: two responses to it, each made on the same day as its node reported
--- the same releases, are the same bytes. Whatever else the nodes did, and whatever their other sites and their tokens are
+-- two nodes of the same version and settings, whose knowledge bases serve slices of the same published files: two responses to
+-- a request of a reader, each made on the same day as its node reported the same releases and had the same site for the host of
+-- the request, are the same bytes. Whatever else the nodes did, and whatever their other sites and their tokens are
 abbrev pub NodesAgree : Type 0
 NodesAgree =
-    (file : Name → List ℕ) (one other : FeedResponder) (here there : Terms) (moment another : List NodeEvent)
+    (file : Name → List ℕ) (one other : FeedResponder) (here there : Terms NodeSites) (moment another : List (NodeEvent NodeSites))
     (bytes body : List ℕ) (keeps : Bool) (text reply : List ℕ)
-    → HaveSameSite bytes one.sites other.sites → here.today ≡ there.today → IsFromFiles file moment → IsFromFiles file another
+    → HaveSameSite bytes here.sites there.sites → here.today ≡ there.today → IsFromFiles file moment → IsFromFiles file another
     → ReportAlike (feed_history moment) (feed_history another) → IsOfReader bytes
     → IsTurnText one here (feed_history moment) bytes body keeps text → IsTurnText other there (feed_history another) bytes body keeps reply
     → text ≡ reply
@@ -59,7 +62,7 @@ pub record IsOfPublished (file : Name → List ℕ) (sites : NodeSites) (policy 
 -- each response of a node to a reader is such a response
 abbrev pub HitsArePublished : Type 0
 HitsArePublished =
-    (file : Name → List ℕ) (responder : FeedResponder) (terms : Terms) (moment : List NodeEvent) (bytes body : List ℕ) (keeps : Bool) (text : List ℕ)
+    (file : Name → List ℕ) (responder : FeedResponder) (terms : Terms NodeSites) (moment : List (NodeEvent NodeSites)) (bytes body : List ℕ) (keeps : Bool) (text : List ℕ)
     → IsFromFiles file moment → IsOfReader bytes → IsTurnText responder terms (feed_history moment) bytes body keeps text
     → (response : ResponseTextValue) × (text ≡ response.bytes)
-    × IsOfPublished file responder.sites terms.policy terms.today (feed_history moment) bytes body keeps response
+    × IsOfPublished file terms.sites terms.policy terms.today (feed_history moment) bytes body keeps response

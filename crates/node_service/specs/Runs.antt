@@ -11,16 +11,17 @@ use Rattle.node_machine.specs.NodeEvents.{NodeEvent, feed_history}
 use Rattle.node_machine.specs.Rules.{AreGiven}
 use Rattle.node_machine.specs.Nodes.{IsLater}
 use Rattle.node_service.specs.declared.responder.FeedResponder.{FeedResponder}
+use Rattle.node_resolver.specs.declared.node_sites.NodeSites.{NodeSites}
 use Rattle.node_service.specs.declared.node_loop.End.{End}
 use Rattle.node_service.specs.Responders.{IsTurnText}
 
 -- each history that the node had continues with some events to one that it has
 abbrev pub IsLaterNode : {K : Type 0} {k : Ghosts K} → NodeMachine Socket K FeedResponder k → NodeMachine Socket K FeedResponder k → Type 0
-IsLaterNode old new = IsLater (λ responder head. form_length head) IsTurnText old new
+IsLaterNode old new = IsLater (λ responder head. form_length head) IsTurnText (λ (responder : FeedResponder). responder.sites) old new
 
 -- a run over the feed ended so, with this keeper: if a stop loses nothing of it, its content is that of a history which the
 -- one of the feed continues to, only by events that responses of the knowledge base gave
 abbrev pub HasGoneOn : {K : Type 0} {k : Ghosts K} → Feed K k → End × K → Type 0
 HasGoneOn {K} {k} feed result =
-    (history : List NodeEvent) → IsContent (recorded {K = K} {k = k} feed) (feed_history history) → AreGiven history → k.clean result.1
-    → (later : List NodeEvent) × IsContent (k.content result.1) (feed_history (later ++ history)) × AreGiven (later ++ history)
+    (history : List (NodeEvent NodeSites)) → IsContent (recorded {K = K} {k = k} feed) (feed_history history) → AreGiven history → k.clean result.1
+    → (later : List (NodeEvent NodeSites)) × IsContent (k.content result.1) (feed_history (later ++ history)) × AreGiven (later ++ history)

@@ -23,13 +23,13 @@ IsSomeStartingResponse is_local is_open bytes keeps found = (metrics : MetricsVa
 
 -- the responses of a node that starts: those about itself. To any other request its responder makes none, so the
 -- response is `unavailable`
-abbrev pub IsStartingText : StartingResponder → Terms → History → List ℕ → List ℕ → Bool → List ℕ → Type 0
+abbrev pub IsStartingText : StartingResponder → Terms (Unit {0}) → History → List ℕ → List ℕ → Bool → List ℕ → Type 0
 IsStartingText responder terms h bytes body keeps text =
     (reply : ReportResponse) × IsSomeStartingResponse terms.is_local responder.has_open_reports bytes keeps (Some reply) × (text ≡ reply.bytes.items)
 
 -- each history that the node had continues with some events to one that it has
 abbrev pub IsLaterStart : {K : Type 0} {k : Ghosts K} → NodeMachine Socket K StartingResponder k → NodeMachine Socket K StartingResponder k → Type 0
-IsLaterStart old new = IsLater (λ responder head. 0) IsStartingText old new
+IsLaterStart old new = IsLater (λ responder head. 0) IsStartingText (λ responder. tt) old new
 
 -- a node may end so while this feed is opened: as damaged only if no feed has the content of its keeper
 abbrev pub IsStartFault : {K : Type 0} {k : Ghosts K} → Opening K k → StartFault → Type 0

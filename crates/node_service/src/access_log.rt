@@ -91,6 +91,7 @@ impl<'o, W: Write, F: Write> AccessLog<'o, W, F> {
             sent: connection.sent_len() as u64,
             body_sent: summary.body_len.saturating_sub(unsent) as u64,
             micros,
+            site: self.state.site_since(self.rt, summary.site, micros),
         };
         if self
             .state
@@ -115,6 +116,7 @@ impl<'o, W: Write, F: Write> AccessLog<'o, W, F> {
             sent: 0,
             body_sent: 0,
             micros: 0,
+            site: None,
         };
         if put_exchange(&mut self.lines, policy, &exchange).is_err() {
             self.drop_line(start);

@@ -2,6 +2,7 @@
 ghost use Rattle.std.specs.Prelude.{◌≡◌, ◌∷◌, IfOk, List, []};
 ghost use Rattle.node_monitoring.specs.Counts.{Added, HasCounted};
 ghost use Rattle.node_monitoring.specs.Histograms.{HasObserved};
+ghost use Rattle.node_monitoring.specs.MetricsTexts.{KeepsSites};
 ghost use Rattle.node_monitoring.specs.declared.counter.Counter.TheVariants as counter;
 ghost use Rattle.node_service.specs.FetchOutcomes.{fetch_counter};
 ghost use Rattle.node_service.specs.NodeCounts.{cause_counter, many_of, one_of};
@@ -49,6 +50,7 @@ impl NodeCounts {
         ensures counted { (history : List Added) → HasCounted self.old.metrics.counters history
             → HasCounted self.new.metrics.counters (one_of counter.Opened ∷ history) }
         ensures requests { self.new.metrics.requests ≡ self.old.metrics.requests }
+        ensures sites { KeepsSites self.old.metrics self.new.metrics }
         ensures times { self.new.metrics.times ≡ self.old.metrics.times }
     {
         self.metrics.add(Counter::Opened, 1);
@@ -60,6 +62,7 @@ impl NodeCounts {
         ensures counted { (history : List Added) → HasCounted self.old.metrics.counters history
             → HasCounted self.new.metrics.counters (one_of (cause_counter cause) ∷ history) }
         ensures requests { self.new.metrics.requests ≡ self.old.metrics.requests }
+        ensures sites { KeepsSites self.old.metrics self.new.metrics }
         ensures times { self.new.metrics.times ≡ self.old.metrics.times }
     {
         self.metrics.add(cause_counter(cause), 1);
@@ -71,6 +74,7 @@ impl NodeCounts {
         ensures counted { (history : List Added) → HasCounted self.old.metrics.counters history
             → HasCounted self.new.metrics.counters (one_of (fetch_counter outcome) ∷ history) }
         ensures requests { self.new.metrics.requests ≡ self.old.metrics.requests }
+        ensures sites { KeepsSites self.old.metrics self.new.metrics }
         ensures times { self.new.metrics.times ≡ self.old.metrics.times }
     {
         self.metrics.add(outcome.counter(), 1);
@@ -81,6 +85,7 @@ impl NodeCounts {
         ensures counted { (history : List Added) → HasCounted self.old.metrics.counters history
             → HasCounted self.new.metrics.counters (many_of counter.DroppedLine lines ∷ history) }
         ensures requests { self.new.metrics.requests ≡ self.old.metrics.requests }
+        ensures sites { KeepsSites self.old.metrics self.new.metrics }
         ensures times { self.new.metrics.times ≡ self.old.metrics.times }
     {
         self.metrics.add(Counter::DroppedLine, lines);

@@ -3,13 +3,39 @@ ghost use Rattle.std.specs.Prelude.{◌≡◌};
 ghost use Rattle.node_service.specs.Runs.{IsLaterNode};
 
 use crate::exchange::{FetchStep, RunningExchange};
-use crate::fetcher::{EventLines, FeedNode, is_done};
-use feed_fetch::{FetchEnd, Printer, is_reported};
+use crate::fetcher::{FeedNode, is_done};
+use feed_fetch::{FetchEnd, FetchEvent, Observe, Printer, Unprinted, is_reported};
 use feed_keep::Keep;
+use feed_model::Reply;
 use node_file_checks::{FileCheck, ListCounts, Mismatch, active_counts, rows_before};
 use node_machine::Exchange;
 use std::alloc::Global;
 use std::io::Write;
+
+// The lines of the events of a fetch, up to the one by which the feed switches to the release.
+#[derive(Drop)]
+pub(crate) struct EventLines {
+    pub(crate) lines: Printer<Vec<u8>>,
+    pub(crate) has_switched: bool,
+}
+
+impl Observe for EventLines {
+    ghost use Rattle.feed_fetch.specs.Printing.{has_failed};
+
+    ghost has_failed = { λ events. has_failed events.lines };
+
+    fn observe(&mut self, event: FetchEvent) -> Result<(), Unprinted> {
+        if let FetchEvent::Accepted(Reply::Activated) = event {
+            self.has_switched = true;
+            return Ok(());
+        }
+        self.lines.print(event)
+    }
+
+    fn finish(&mut self) -> Result<(), Unprinted> {
+        self.lines.finish()
+    }
+}
 
 // Takes the response, or why there is none. A file that is not the expected one is not submitted.
 pub(crate) fn take_response<K: Keep>(

@@ -7,7 +7,8 @@ use crate::exchange::{FetchStep, RunningExchange};
 use crate::fetch_outcome::FetchOutcome;
 use crate::fetch_report::{FetchReport, reason_of};
 use crate::fetched::{
-    counts_of_active, is_answered, print_counts, rows_of_active, take_part, take_response,
+    EventLines, counts_of_active, is_answered, print_counts, rows_of_active, take_part,
+    take_response,
 };
 use crate::node_state::NodeState;
 use crate::responder::FeedResponder;
@@ -16,16 +17,16 @@ use crate::today::unix_seconds;
 use crate::watched_file::WatchedFile;
 use feed_dial::DialFault;
 use feed_fetch::{
-    FetchEnd, FetchEvent, Next, Observe, Printer, RequestFault, Stop, Unprinted, print_end,
-    print_name_fault,
+    FetchEnd, FetchEvent, Next, Printer, RequestFault, Stop, print_end, print_name_fault,
 };
 use feed_http::is_host;
 use feed_keep::Keep;
 use feed_limits::PIECE_LIMIT;
 use feed_model::Reply;
+use feed_names::NameFault;
 use feed_options::{NodeOptions, Source};
 use node_file_checks::{FileCheck, HeldList, Mismatch, gate_by};
-use node_server::{OutgoingRequest, ServedNode, Server};
+use node_server::{OutgoingRequest, ServedNode, Server, StreamKind};
 use std::io;
 use std::io::{ErrorKind, Write};
 use std::time::Instant;
@@ -54,31 +55,6 @@ pub struct Fetcher<'a> {
     pub notes: Vec<u8>,
 }
 
-// The lines of the events of a fetch, up to the one by which the feed switches to the release.
-#[derive(Drop)]
-pub(crate) struct EventLines {
-    lines: Printer<Vec<u8>>,
-    has_switched: bool,
-}
-
-impl Observe for EventLines {
-    ghost use Rattle.feed_fetch.specs.Printing.{has_failed};
-
-    ghost has_failed = { λ events. has_failed events.lines };
-
-    fn observe(&mut self, event: FetchEvent) -> Result<(), Unprinted> {
-        if let FetchEvent::Accepted(Reply::Activated) = event {
-            self.has_switched = true;
-            return Ok(());
-        }
-        self.lines.print(event)
-    }
-
-    fn finish(&mut self) -> Result<(), Unprinted> {
-        self.lines.finish()
-    }
-}
-
 impl<'a> Fetcher<'a> {
     pub fn new(
         rt: &'a HostRuntime,
@@ -100,13 +76,14 @@ impl<'a> Fetcher<'a> {
         }
     }
 
-    /// Begins to fetch the release that a client asked for, if one did. The client receives a line for each event.
+    /// Begins to fetch the release that a client asked for, if one did. The client receives a line for each event, or
+    /// for the fault if the node has no server to fetch from.
     #[tactic(auto, using(node_machine::proofs::Later::later_after))]
     pub fn begin<K: Keep>(&mut self, server: &mut Server, node: &mut FeedNode<'_, K>)
         ensures { IsLaterNode node.old node.new }
     {
         let Some(source) = self.source else {
-            return;
+            return self.end_without_source(server, node);
         };
         match node.begin_fetch(piece_of(source)) {
             None => {}
@@ -128,16 +105,39 @@ impl<'a> Fetcher<'a> {
                 self.send_next(server, node, running);
             }
             Some(Err(fault)) => {
-                let mut lines = self.lines();
-                let _ = print_name_fault(fault, &mut lines);
                 self.report = FetchReport::new(self.rt, source.addr, false, 0);
-                let mut reason = Vec::new(self.rt.alloc());
-                let _ = write!(&mut reason, " {fault}");
-                self.note(b"-", FetchOutcome::Refused, &reason);
-                self.state.count_fetch(FetchOutcome::Refused);
-                finish(server, lines);
+                self.refuse_name(server, fault);
             }
         }
+    }
+
+    // Ends a fetch that a client asked for, since the node has no server to fetch from.
+    #[tactic(auto, using(node_machine::proofs::Later::later_after))]
+    fn end_without_source<K: Keep>(&mut self, server: &mut Server, node: &mut FeedNode<'_, K>)
+        ensures { IsLaterNode node.old node.new }
+    {
+        match node.begin_fetch(COUNTED_PIECE) {
+            None => {}
+            Some(Ok(())) => {
+                self.report = FetchReport::new(self.rt, "", false, 0);
+                self.end_by(server, node, "NoSource", 2);
+            }
+            Some(Err(fault)) => {
+                self.report = FetchReport::new(self.rt, "", false, 0);
+                self.refuse_name(server, fault);
+            }
+        }
+    }
+
+    // Reports a name that is not one of a release.
+    fn refuse_name(&mut self, server: &mut Server, fault: NameFault) {
+        let mut lines = self.lines();
+        let _ = print_name_fault(fault, &mut lines);
+        let mut reason = Vec::new(self.rt.alloc());
+        let _ = write!(&mut reason, " {fault}");
+        self.note(b"-", FetchOutcome::Refused, &reason);
+        self.state.count_fetch(FetchOutcome::Refused);
+        finish(server, lines);
     }
 
     /// Ends the fetch that is under way, or that was asked for in this turn. What it stored is kept, so another fetch
@@ -348,7 +348,7 @@ impl<'a> Fetcher<'a> {
         if !lines.is_empty() && !self.file.is_there() {
             return false;
         }
-        server.send_to_streams(&lines);
+        server.send_to_streams(StreamKind::Fetch, &lines);
         let step = self.in_time(step);
         self.follow(server, node, running, step);
         true
@@ -472,6 +472,6 @@ pub(crate) fn is_done<K: Keep>(node: &FeedNode<'_, K>) -> bool {
 
 // Sends the last lines to the client of a fetch, and completes the response to it.
 fn finish(server: &mut Server, lines: Printer<Vec<u8>>) {
-    server.send_to_streams(&lines.into_writer());
-    server.finish_streams();
+    server.send_to_streams(StreamKind::Fetch, &lines.into_writer());
+    server.finish_streams(StreamKind::Fetch);
 }

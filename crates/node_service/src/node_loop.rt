@@ -7,13 +7,14 @@ use crate::access_log::AccessLog;
 use crate::fetcher::{FeedNode, Fetcher};
 use crate::node_log::NodeLog;
 use crate::node_state::{NodeState, TurnFacts};
+use crate::reloader::Reloader;
 use crate::responder::FeedResponder;
 use crate::source_addrs::SourceAddrs;
 use crate::today::{day_number, today, unix_seconds};
 use crate::wanted::WantedPackage;
 use crate::watched_file::WatchedFile;
 use feed_keep::Keep;
-use feed_options::NodeOptions;
+use feed_options::{NodeOptions, SitePath};
 use feed_releases::Feed;
 use mio::Events;
 use node_machine::NodeMachine;
@@ -69,6 +70,14 @@ pub fn run<K: Keep, W: Write, F: Write>(
     run_over(rt, feed, server, setup, out, table)
 }
 
+// Returns whether a node with these options has a folder of site files.
+fn has_folder(options: NodeOptions<'_>) -> bool {
+    match options.site {
+        SitePath::Folder(_) => true,
+        SitePath::File(_) | SitePath::None => false,
+    }
+}
+
 // Runs a node over its table.
 fn run_over<'a, K: Keep, W: Write, F: Write>(
     rt: &'a HostRuntime,
@@ -88,6 +97,7 @@ fn run_over<'a, K: Keep, W: Write, F: Write>(
         version: setup.options.version_number().as_bytes(),
         has_open_reports: setup.options.log.has_open_reports,
         wanted: setup.wanted,
+        has_folder: has_folder(setup.options),
     };
     let day = day_number(rt);
     let mut node = NodeMachine::new(rt.alloc(), table, feed, responder, setup.token, today(day));
@@ -97,6 +107,7 @@ fn run_over<'a, K: Keep, W: Write, F: Write>(
         rt,
         state,
         fetcher: Fetcher::new(rt, setup.options, setup.addrs, setup.file, state),
+        reloader: Reloader::new(rt, setup.options, state),
         log: AccessLog::new(rt, out, state, setup.options.log),
         day,
         switched: None,
@@ -111,6 +122,7 @@ struct RunningNode<'a, W: Write, F: Write> {
     rt: &'a HostRuntime,
     state: &'a NodeState,
     fetcher: Fetcher<'a>,
+    reloader: Reloader<'a>,
     log: AccessLog<'a, W, F>,
     /// The number of the node's day.
     day: i32,
@@ -135,7 +147,8 @@ impl<'a, W: Write, F: Write> RunningNode<'a, W, F> {
         End::Memory
     }
 
-    // Runs a turn: the connections, the log, and a step of the fetch that is under way. Returns why the node ends.
+    // Runs a turn: the connections, the log, and a step of the folder's reading and of the fetch that are under way.
+    // Returns why the node ends.
     #[tactic(auto, using(node_machine::proofs::Later::later_after))]
     fn turn<K: Keep>(
         &mut self,
@@ -151,6 +164,7 @@ impl<'a, W: Write, F: Write> RunningNode<'a, W, F> {
             return Some(End::Sockets(fault));
         }
         self.log.flush();
+        self.reloader.advance(server, node);
         // The fetch waits until the list is read as far as it has arrived. So its last piece leaves little to read.
         if node.catch_up() {
             server.skip_wait();

@@ -14,15 +14,16 @@ use feed_releases::Feed;
 use node_connection::IncomingRequest;
 use node_file_checks::ExpectedFile;
 use node_monitoring::{
-    Gauges, LogPolicy, LoggedExchange, ReleaseTime, ReportRequest, ReportResponse, record_exchange,
-    respond_about_node, respond_at_start,
+    Gauges, LogPolicy, LoggedExchange, ReleaseTime, ReportRequest, ReportResponse, SiteName,
+    record_exchange, respond_about_node, respond_at_start,
 };
 use node_request::{FetchPolicy, ReceivedRequest};
-use node_resolver::{Activity, LastFetch, respond_about_feed};
+use node_resolver::{Activity, LastFetch, NamedSite, respond_about_feed};
 use node_response::ResponseText;
 use node_table::CloseCause;
 use std::alloc::{AllocError, Global};
 use std::cell::{Cell, RefCell};
+use std::time::Instant;
 
 /// The facts of a node at the beginning of a turn.
 #[derive(Clone, Copy)]
@@ -42,6 +43,8 @@ pub struct NodeState {
     is_canceled: Cell<bool>,
     /// When the node began to answer from its feed, in seconds since 1970-01-01.
     started: Cell<u64>,
+    /// When the sites were last read again.
+    renamed: Cell<Option<Instant>>,
     fetches: RefCell<LastFetches>,
     /// The last fetch of each package that activated its release.
     activations: RefCell<LastFetches>,
@@ -59,6 +62,7 @@ impl NodeState {
             }),
             is_canceled: Cell::new(false),
             started: Cell::new(0),
+            renamed: Cell::new(None),
             fetches: RefCell::new(LastFetches::new(alloc)),
             activations: RefCell::new(LastFetches::new(alloc)),
             expected: Cell::new(None),
@@ -93,6 +97,45 @@ impl NodeState {
     /// Keeps what the node is at the beginning of a turn.
     pub fn begin_turn(&self, facts: TurnFacts) {
         self.facts.set(facts);
+    }
+
+    /// Names these sites in the log from now on, and counts the requests of each from 0.
+    ///
+    /// # Errors
+    ///
+    /// Running out of memory.
+    pub fn name_sites(&self, alloc: Global, sites: &[NamedSite]) -> Result<(), AllocError> {
+        let mut names = Vec::with_capacity(alloc, sites.len())?;
+        for site in sites {
+            let name = Vec::from_slice(alloc, &site.name)?;
+            names.push(SiteName::new(name))?;
+        }
+        match self.counts.try_borrow_mut() {
+            Ok(mut counts) => counts.metrics.name_sites(alloc, names),
+            Err(_) => Err(AllocError),
+        }
+    }
+
+    /// Names the sites that were read again. If memory runs out, the sites have no names.
+    pub fn rename_sites(&self, rt: &HostRuntime, sites: &[NamedSite]) {
+        self.renamed.set(Instant::now(rt).ok());
+        if self.name_sites(rt.alloc(), sites).is_err() {
+            let _ = self.name_sites(rt.alloc(), &[]);
+        }
+    }
+
+    /// Returns the place of the site that responded to a request, if the last byte of its head was received this many
+    /// microseconds ago and no sites were read since. Otherwise another site may have the place.
+    pub fn site_since(&self, rt: &HostRuntime, site: Option<usize>, micros: u64) -> Option<usize> {
+        let Some(renamed) = self.renamed.get() else {
+            return site;
+        };
+        let now = Instant::now(rt).ok()?;
+        if now.saturating_duration_since(renamed).as_micros() > micros as u128 {
+            site
+        } else {
+            None
+        }
     }
 
     /// Counts a connection that is accepted.

@@ -1,14 +1,16 @@
 //! The responses of a node to its requests.
-ghost use Rattle.std.specs.Prelude.{◌≡◌, is_some, Err, IfNone, IfOk, IfSome, MatchBool};
+ghost use Rattle.std.specs.Prelude.{◌≡◌, ◌⊎◌, is_some, Err, IfNone, IfOk, IfSome, MatchBool};
 ghost use Rattle.feed_model.specs.History.{History};
 ghost use Rattle.feed_model.specs.Content.{IsContent};
 ghost use Rattle.feed_releases.specs.Feeds.{recorded};
-ghost use Rattle.node_resolver.specs.NodeResponses.{SaysOfConnection};
+ghost use Rattle.node_resolver.specs.SitePlaces.{IsSitePlace};
+ghost use Rattle.node_resolver.specs.SitesResponses.{SaysOfSites};
 ghost use Rattle.feed_http_heads.specs.Options.{SaysWhetherItKeeps};
 ghost use Rattle.node_machine.specs.Occasions.{terms_of};
 ghost use Rattle.node_request.specs.FetchRequests.{IsWhetherToBegin};
 ghost use Rattle.node_service.specs.Reports.{HasReport, HasNoReport, IsReportIn};
-ghost use Rattle.node_service.specs.Responders.{IsHeldBack, IsResponseBy, IsTurnResponse, response_in};
+ghost use Rattle.node_service.specs.Responders.{IsHeldBack, IsOperatorResponse, IsResponseBy, IsTurnResponse};
+ghost use Rattle.node_service.specs.Responders.{IsWhetherToRead, IsWhetherToStream, SaysOfTurn, response_in};
 
 use crate::node_state::NodeState;
 use crate::release_times::release_times;
@@ -20,10 +22,15 @@ use node_connection::{BODY_LIMIT, IncomingRequest, LoggedResponse, RespondFault,
 use node_file_checks::ExpectedFile;
 use node_machine::{FeedRespond, Occasion};
 use node_monitoring::{ReportResponse, gets_report};
-use node_request::{FetchPolicy, ParsedRequest, ReceivedRequest, fetch_to_begin, form_length};
-use node_resolver::{NodeSites, ends_fetch, keep_releases, respond_as_node};
+use node_request::{
+    FetchPolicy, ParsedRequest, ReceivedRequest, fetch_to_begin, form_length, sites_to_read,
+};
+use node_resolver::{
+    NodeSites, ends_fetch, keep_releases, respond_about_sites, respond_as_node, site_place,
+};
 use node_response::ResponseText;
 use std::alloc::{AllocError, Global};
+use std::mem::replace;
 
 /// A responder that responds from the feed of a node.
 #[derive(Drop)]
@@ -37,18 +44,22 @@ pub struct FeedResponder<'a> {
     pub has_open_reports: bool,
     /// The packages that readers wait for.
     pub wanted: &'a [WantedPackage],
+    /// Whether the node has a folder of site files, which an operator may have it read again.
+    pub has_folder: bool,
 }
 
-// Returns the response with this response, which is streamed or not.
-fn into_response(response: ResponseText, is_streamed: bool) -> LoggedResponse
+// Returns the response with this response, which is streamed or not, by the site at this place.
+fn into_response(response: ResponseText, is_streamed: bool, site: Option<usize>) -> LoggedResponse
     ensures response { response_in result ≡ response }
     ensures streamed { result.summary.is_streamed ≡ is_streamed }
+    ensures site { result.summary.site ≡ site }
 {
     let summary = ResponseSummary {
         status: response.status(),
         body_len: response.body_length(),
         is_streamed,
         fault: None,
+        site,
     };
     LoggedResponse {
         bytes: response.into_bytes(),
@@ -71,7 +82,52 @@ fn expected_by(
     }
 }
 
+// Returns whether a node, which has a folder of site files or has none, begins to read it for a request.
+fn reads_folder(has_folder: bool, received: &ReceivedRequest<'_>, policy: &FetchPolicy<'_>) -> bool
+    ensures { IsWhetherToRead has_folder policy.now received.now.bytes.now result }
+{
+    let asked = sites_to_read(received, policy);
+    has_folder && asked.is_some()
+}
+
+// Returns whether the response to a request is streamed, which makes the node begin to fetch, or does not.
+fn is_streamed(
+    begins: bool,
+    has_folder: bool,
+    received: &ReceivedRequest<'_>,
+    policy: &FetchPolicy<'_>,
+) -> bool
+    ensures { IsWhetherToBegin policy.now received.now.bytes.now begins
+        → IsWhetherToStream has_folder policy.now received.now.bytes.now result }
+{
+    let reads = reads_folder(has_folder, received, policy);
+    begins || reads
+}
+
 impl<'a> FeedResponder<'a> {
+    // Returns the response to a request about the recorded releases, or about the folder of site files.
+    fn operator_response<K: Keep>(
+        &self,
+        alloc: Global,
+        occasion: &Occasion<'_, '_, K>,
+        request: &IncomingRequest<'_>,
+    ) -> Result<Option<ResponseText>, AllocError>
+        ensures value { IfOk result (IsOperatorResponse self.now.has_folder occasion.now.policy
+            request.now.received.bytes.now request.now.persists) }
+        ensures says { IfOk result (λ found. IfSome found (λ response.
+            SaysOfSites request.now.received.bytes.now request.now.persists response)) }
+    {
+        let policy = &occasion.policy;
+        let received = &request.received;
+        match self
+            .state
+            .feed_response(alloc, received, request.persists, policy, occasion.feed)?
+        {
+            Some(response) => Ok(Some(response)),
+            None => respond_about_sites(alloc, received, request.persists, policy, self.has_folder),
+        }
+    }
+
     // Returns the response to a request that is not for a report, or none to a reader while a wanted package has no
     // active release.
     fn response<K: Keep>(
@@ -82,21 +138,17 @@ impl<'a> FeedResponder<'a> {
     ) -> Result<Option<ResponseText>, AllocError>
         ensures reply { IfOk result (λ found. IfSome found (λ response.
             (h : History) → IsContent (recorded occasion.now.feed.now) h
-            → IsResponseBy self.now occasion.now.policy occasion.now.today h
+            → IsResponseBy self.now (terms_of self.now.sites occasion.now) h
             request.now.received.bytes.now request.now.body.now request.now.persists response)) }
         ensures says { IfOk result (λ found. IfSome found (λ response.
-            SaysOfConnection request.now.received.bytes.now request.now.persists response)) }
+            SaysOfTurn request.now.received.bytes.now request.now.persists response)) }
         ensures held { IfOk result (λ found. IfNone found (
             (h : History) → IsContent (recorded occasion.now.feed.now) h
             → IsHeldBack self.now occasion.now.policy h request.now.received.bytes.now request.now.persists)) }
     {
-        let policy = &occasion.policy;
         let feed = occasion.feed;
         let received = &request.received;
-        match self
-            .state
-            .feed_response(alloc, received, request.persists, policy, feed)?
-        {
+        match self.operator_response(alloc, occasion, request)? {
             Some(response) => Ok(Some(response)),
             None => {
                 if !is_answerable(feed, self.wanted, received) {
@@ -107,7 +159,7 @@ impl<'a> FeedResponder<'a> {
                     received,
                     request.body,
                     request.persists,
-                    policy,
+                    &occasion.policy,
                     &self.sites,
                     &occasion.today,
                     feed,
@@ -149,7 +201,8 @@ impl<'a> FeedResponder<'a> {
     }
 
     // Returns the response to a reader, or to a client that has the token. It is streamed exactly if the request makes
-    // the node begin to fetch: what this says of the file is noted. So is a request that ends the fetch under way.
+    // the node begin to fetch, or to read its folder: what the first says of the file is noted. So is a request that
+    // ends the fetch under way.
     fn reader_response<K: Keep>(
         &self,
         alloc: Global,
@@ -157,19 +210,28 @@ impl<'a> FeedResponder<'a> {
         request: &IncomingRequest<'_>,
     ) -> Result<LoggedResponse, RespondFault>
         ensures turn { IfOk result (λ reply. (h : History) → IsContent (recorded occasion.now.feed.now) h
-            → IsTurnResponse self.now occasion.now.policy occasion.now.today h
+            → IsTurnResponse self.now (terms_of self.now.sites occasion.now) h
             request.now.received.bytes.now request.now.body.now request.now.persists
             (response_in reply) reply.summary.is_streamed) }
         ensures says { IfOk result (λ reply.
-            SaysOfConnection request.now.received.bytes.now request.now.persists (response_in reply)) }
+            SaysOfTurn request.now.received.bytes.now request.now.persists (response_in reply)) }
+        ensures site { IfOk result (λ reply.
+            IsSitePlace self.now.sites request.now.received.bytes.now reply.summary.site) }
         ensures held { result ≡ Err RespondFault.Busy → (h : History) → IsContent (recorded occasion.now.feed.now) h
             → IsHeldBack self.now occasion.now.policy h request.now.received.bytes.now request.now.persists }
     {
         let expected = expected_by(alloc, &request.received, &occasion.policy);
+        let is_streamed = is_streamed(
+            expected.is_some(),
+            self.has_folder,
+            &request.received,
+            &occasion.policy,
+        );
         match self.response(alloc, occasion, request) {
             Ok(Some(response)) => {
                 self.note(&request.received, &occasion.policy, expected);
-                Ok(into_response(response, expected.is_some()))
+                let site = site_place(&self.sites, &request.received);
+                Ok(into_response(response, is_streamed, site))
             }
             Ok(None) => Err(RespondFault::Busy),
             Err(_) => Err(RespondFault::Memory),
@@ -202,6 +264,10 @@ impl<'a> FeedRespond for FeedResponder<'a> {
     ghost use Rattle.node_request.specs.Forms.{form_length};
     ghost use Rattle.node_service.specs.Responders.{IsTurnText};
 
+    type Sites = NodeSites;
+
+    ghost sites = { λ responder. responder.sites };
+
     ghost wanted = { λ responder head. form_length head };
 
     ghost responses = { IsTurnText };
@@ -229,5 +295,9 @@ impl<'a> FeedRespond for FeedResponder<'a> {
         feed: &Feed<K>,
     ) -> Result<bool, AllocError> {
         keep_releases(alloc, &mut self.sites, today, feed)
+    }
+
+    fn replace_sites(&mut self, begun: NodeSites) -> NodeSites {
+        replace(&mut self.sites, begun)
     }
 }

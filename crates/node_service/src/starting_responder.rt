@@ -23,6 +23,10 @@ pub struct StartingResponder<'a> {
 impl<'a> FeedRespond for StartingResponder<'a> {
     ghost use Rattle.node_service.specs.Starting.{IsStartingText};
 
+    type Sites = ();
+
+    ghost sites = { λ responder. tt };
+
     ghost wanted = { λ responder head. 0 };
 
     ghost responses = { IsStartingText };
@@ -57,5 +61,9 @@ impl<'a> FeedRespond for StartingResponder<'a> {
         _feed: &Feed<K>,
     ) -> Result<bool, AllocError> {
         Ok(false)
+    }
+
+    fn replace_sites(&mut self, begun: ()) {
+        begun
     }
 }

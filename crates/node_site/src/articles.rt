@@ -38,6 +38,9 @@ fn article_template<'a>(site: &'a SiteFile, id: &[u8], url: &[u8]) -> Option<&'a
     if let Some(template) = package_article(site, id) {
         return Some(template);
     }
+    if site.platform_tables().is_none() {
+        return None;
+    }
     match host_of(url) {
         Some(host) => platform_article(site, host),
         None => None,

@@ -9,7 +9,7 @@ ghost use Rattle.node_site.specs.Hosts.{is_link};
 ghost use Rattle.node_site.specs.Proxies.{prefix_for, proxied, room_of, through, written_target};
 
 use crate::hosts::{URL_LIMIT, host_of};
-use crate::prefixes::{Prefix, prefix_for};
+use crate::prefixes::{Prefix, is_encoded_at, may_encode, prefix_for};
 use crate::site_file::SiteFile;
 use crate::urls::is_all_visible;
 use percent_encoding::{NON_ALPHANUMERIC, percent_encode};
@@ -55,8 +55,11 @@ fn joined(alloc: Global, prefix: &Prefix<'_>, target: &[u8]) -> Result<Vec<u8>, 
 fn is_encoded(site: &SiteFile, target: &[u8], is_direct: bool) -> bool
     ensures { result ≡ option_map_or (λ p. p.is_encoded) (prefix_for site.now target.now is_direct) false }
 {
-    match prefix_for(site, target, is_direct) {
-        Some(prefix) => prefix.is_encoded,
+    if is_direct || !may_encode(site) {
+        return false;
+    }
+    match host_of(target) {
+        Some(host) => is_encoded_at(site, host),
         None => false,
     }
 }
@@ -70,10 +73,10 @@ pub fn may_be_link(site: &SiteFile, target: &[u8], is_direct: bool) -> bool
     if target.len() > URL_LIMIT {
         return false;
     }
-    if !host_of(target).is_some() {
+    if !is_all_visible(target) && !is_encoded(site, target, is_direct) {
         return false;
     }
-    is_all_visible(target) || is_encoded(site, target, is_direct)
+    host_of(target).is_some()
 }
 
 /// Returns the link to a target as a page has it: through the proxy of its platform or of the site, unless it is direct

@@ -1,5 +1,7 @@
 //! The prefixes of the links that go through a proxy.
-ghost use Rattle.std.specs.Prelude.{◌≡◌};
+ghost use Rattle.std.specs.Prelude.{◌≡◌, List, ℕ, false};
+ghost use Rattle.std.specs.Bool.{OnFalse};
+ghost use Rattle.std.specs.Option.{option_map_or, option_or};
 ghost use Rattle.toml.specs.View.{table_view};
 ghost use Rattle.node_site.specs.Proxies.{ends_in, is_encoded_behind, platform_prefix, prefix_at, prefix_for};
 ghost use Rattle.node_site.specs.Proxies.{prefix_of, prefix_of_platform, site_prefix};
@@ -89,16 +91,51 @@ fn site_prefix(site: &SiteFile) -> Option<Prefix<'_>>
     }
 }
 
+// Returns the prefix of the links to a host, if the host is not excepted.
+fn plain_prefix<'a>(site: &'a SiteFile, host: &[u8]) -> Option<Prefix<'a>>
+    ensures { result ≡ option_or (platform_prefix site.now host.now) (site_prefix site.now) }
+{
+    match platform_prefix(site, host) {
+        Some(prefix) => Some(prefix),
+        None => site_prefix(site),
+    }
+}
+
 fn prefix_at<'a>(site: &'a SiteFile, host: &[u8]) -> Option<Prefix<'a>>
     ensures { result ≡ prefix_at site.now host.now }
 {
     if site.is_excepted(host) {
         return None;
     }
-    match platform_prefix(site, host) {
-        Some(prefix) => Some(prefix),
-        None => site_prefix(site),
+    plain_prefix(site, host)
+}
+
+// Returns whether the address is percent-encoded behind a prefix, if there is one.
+fn encodes(prefix: Option<Prefix<'_>>) -> bool
+    ensures { result ≡ option_map_or (λ p. p.is_encoded) prefix.entry false }
+{
+    match prefix {
+        Some(prefix) => prefix.is_encoded,
+        None => false,
     }
+}
+
+/// Returns false only if the address is percent-encoded in no link: the site has no platform, and its own prefix does
+/// not encode it.
+pub(crate) fn may_encode(site: &SiteFile) -> bool
+    ensures { OnFalse result ((host : List ℕ)
+        → option_map_or (λ p. p.is_encoded) (prefix_at site.now host) false ≡ false) }
+{
+    site.platform_tables().is_some() || encodes(site_prefix(site))
+}
+
+/// Returns whether the address is percent-encoded in the links to a host. Looks for the host among the excepted ones
+/// last, since it may have many labels and they may be many.
+pub(crate) fn is_encoded_at(site: &SiteFile, host: &[u8]) -> bool
+    ensures { result ≡ option_map_or (λ p. p.is_encoded) (prefix_at site.now host.now) false }
+{
+    let is_encoded = encodes(plain_prefix(site, host));
+    is_encoded && !site.is_excepted(host)
 }
 
 /// Returns the prefix of the link to a target: that of its platform, or else that of the site, unless the link is

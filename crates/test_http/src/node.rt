@@ -207,7 +207,12 @@ impl<'a> DriverNode<'a> {
         let is_busy = line.flag("busy", "free");
         let keeps = line.flag("keep", "close");
         let request = line.text(self.rt.alloc())?;
-        self.print_node_response(out, &request, keeps, &FetchPolicy { token, is_busy })
+        let policy = FetchPolicy {
+            token,
+            is_busy,
+            is_reloading: false,
+        };
+        self.print_node_response(out, &request, keeps, &policy)
     }
 
     fn print_node_response(

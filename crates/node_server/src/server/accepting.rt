@@ -19,7 +19,7 @@ impl Server {
         node: &mut ServedNode<'_, K, S>,
         log: &mut L,
     ) -> bool
-        ensures { IsLater S.wanted S.responses node.old node.new }
+        ensures { IsLater S.wanted S.responses S.sites node.old node.new }
     {
         for _ in 0..ACCEPTS {
             if !self.may_accept || !node.table().has_place() {
@@ -38,7 +38,7 @@ impl Server {
         node: &mut ServedNode<'_, K, S>,
         log: &mut L,
     ) -> bool
-        ensures { IsLater S.wanted S.responses node.old node.new }
+        ensures { IsLater S.wanted S.responses S.sites node.old node.new }
     {
         match self.listener.accept() {
             Ok((stream, addr)) => {
@@ -68,7 +68,7 @@ impl Server {
         addr: SocketAddr,
         log: &mut L,
     )
-        ensures { IsLater S.wanted S.responses node.old node.new }
+        ensures { IsLater S.wanted S.responses S.sites node.old node.new }
     {
         // Otherwise the system holds a response back until the client acknowledges the one before it.
         let _ = stream.set_nodelay(true);

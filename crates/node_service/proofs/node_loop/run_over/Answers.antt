@@ -3,19 +3,21 @@ use Rattle.node_request.specs.Forms.{form_length}
 use Rattle.feed_model.specs.Content.{IsContent}
 use Rattle.node_server.specs.declared.socket.Socket.{Socket}
 use Rattle.node_machine.specs.declared.machine.NodeMachine.{NodeMachine}
-use Rattle.node_machine.specs.NodeEvents.{NodeEvent, DayBegan, Reopened, feed_history}
+use Rattle.node_machine.specs.NodeEvents.{NodeEvent, DayBegan, Reopened, SitesBegan, feed_history}
 use Rattle.node_machine.specs.Rules.{AreGiven}
 use Rattle.node_machine.specs.Nodes.{HasHistory}
 use Rattle.node_service.specs.declared.responder.FeedResponder.{FeedResponder}
+use Rattle.node_resolver.specs.declared.node_sites.NodeSites.{NodeSites}
 use Rattle.node_service.specs.Responders.{IsTurnText}
 use Rattle.node_service.proofs.node_loop.run_over.Goals as goal
 
 pub returns : goal.returns
 returns g c = λ history is given clean.
-    let opened = DayBegan c.today.result ∷ Reopened ∷ [] in
-    let start = subst (λ (node : NodeMachine Socket g.row.K.Denot FeedResponder g.K.Keep). HasHistory (λ responder head. form_length head) IsTurnText node (opened ++ history))
+    let opened = SitesBegan c.args.setup.sites ∷ DayBegan c.today.result ∷ Reopened ∷ [] in
+    let start = subst (λ (node : NodeMachine Socket g.row.K.Denot FeedResponder g.K.Keep).
+    HasHistory (λ responder head. form_length head) IsTurnText (λ (responder : FeedResponder). responder.sites) node (opened ++ history))
     (sym c.keep_releases.ensures) (c.new-node.ensures.history history is given) in
     let now = c.run-end.ensures.history (opened ++ history) start in
-    let kept = subst (λ (whole : List NodeEvent). IsContent (g.K.Keep.content c.into_keeper.result) (feed_history whole) × AreGiven whole) (sym (append_assoc now.0 opened history))
+    let kept = subst (λ (whole : List (NodeEvent NodeSites)). IsContent (g.K.Keep.content c.into_keeper.result) (feed_history whole) × AreGiven whole) (sym (append_assoc now.0 opened history))
     (c.into_keeper.ensures (now.0 ++ (opened ++ history)) now.1 clean) in
     (now.0 ++ opened, kept.0, kept.1)

@@ -13,6 +13,8 @@ returns-clause-history g c = λ history has. (
     idle = has.idle;
     requested = has.requested;
     today = has.today;
+    sites_had = has.sites_had;
+    reload = has.reload;
     allowed = has.allowed;
     given = has.given;
   },
@@ -21,4 +23,5 @@ returns-clause-history g c = λ history has. (
 pub returns-clause-later : goal.returns-clause-later
 unfolding returns-clause-history
 returns-clause-later g c =
-    later_by g.S.FeedRespond.wanted g.S.FeedRespond.responses (Passed (millis_at c.args.self.now.table c.args.now)) _ _ (λ history has. (returns-clause-history g c history has).1)
+    later_by g.S.FeedRespond.wanted g.S.FeedRespond.responses g.S.FeedRespond.sites (Passed (millis_at c.args.self.now.table c.args.now)) _ _
+    (λ history has. (returns-clause-history g c history has).1)

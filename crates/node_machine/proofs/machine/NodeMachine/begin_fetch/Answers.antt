@@ -17,13 +17,13 @@ returns-in-Ok-clause-begun g c asked history is has =
     let next : Fetching = record { name = c.in-Ok.name; fetch = c.new-fetch.result; exchange = None } in
     let gone : c.take.new.self ≡ None = search rules in
     let same : Ok c.in-Ok.name ≡ asked = cc (sym was ∙ is) in
-    subst (λ (a : Result Name NameFault). HasHistory wanted replies (record old { fetching = Some next; requested = c.take.new.self }) (Began a ∷ history)) same
-    (begun_on wanted replies old next c.take.new.self history was refl gone has)
+    subst (λ (a : Result Name NameFault). HasHistory wanted replies g.S.FeedRespond.sites (record old { fetching = Some next; requested = c.take.new.self }) (Began a ∷ history)) same
+    (begun_on wanted replies g.S.FeedRespond.sites old next c.take.new.self history was refl gone has)
 
 pub returns-in-Ok-clause-later : goal.returns-in-Ok-clause-later
 returns-in-Ok-clause-later g c =
     let was : c.args.self.now.requested ≡ Some (Ok c.in-Ok.name) = search rules in
-    later_begun g.S.FeedRespond.wanted g.S.FeedRespond.responses (Ok c.in-Ok.name) _ _ was (returns-in-Ok-clause-begun g c)
+    later_begun g.S.FeedRespond.wanted g.S.FeedRespond.responses g.S.FeedRespond.sites (Ok c.in-Ok.name) _ _ was (returns-in-Ok-clause-begun g c)
 
 pub returns-in-Err-clause-begun : goal.returns-in-Err-clause-begun
 returns-in-Err-clause-begun g c asked history is has =
@@ -33,10 +33,10 @@ returns-in-Err-clause-begun g c asked history is has =
     let was : old.requested ≡ Some (Err c.in-Err.fault) = search rules in
     let gone : c.take.new.self ≡ None = search rules in
     let same : Err c.in-Err.fault ≡ asked = cc (sym was ∙ is) in
-    subst (λ (a : Result Name NameFault). HasHistory wanted replies (record old { requested = c.take.new.self }) (Began a ∷ history)) same
-    (refused_on wanted replies old c.in-Err.fault c.take.new.self history was gone has)
+    subst (λ (a : Result Name NameFault). HasHistory wanted replies g.S.FeedRespond.sites (record old { requested = c.take.new.self }) (Began a ∷ history)) same
+    (refused_on wanted replies g.S.FeedRespond.sites old c.in-Err.fault c.take.new.self history was gone has)
 
 pub returns-in-Err-clause-later : goal.returns-in-Err-clause-later
 returns-in-Err-clause-later g c =
     let was : c.args.self.now.requested ≡ Some (Err c.in-Err.fault) = search rules in
-    later_begun g.S.FeedRespond.wanted g.S.FeedRespond.responses (Err c.in-Err.fault) _ _ was (returns-in-Err-clause-begun g c)
+    later_begun g.S.FeedRespond.wanted g.S.FeedRespond.responses g.S.FeedRespond.sites (Err c.in-Err.fault) _ _ was (returns-in-Err-clause-begun g c)

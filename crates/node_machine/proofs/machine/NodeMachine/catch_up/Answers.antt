@@ -14,9 +14,11 @@ returns-clause-history g c = λ history has. record {
   idle = has.idle;
   requested = has.requested;
   today = has.today;
+  sites_had = has.sites_had;
+  reload = has.reload;
   allowed = has.allowed;
   given = has.given;
 }
 
 pub returns-clause-later : goal.returns-clause-later
-returns-clause-later g c = later_kept g.S.FeedRespond.wanted g.S.FeedRespond.responses _ _ (returns-clause-history g c)
+returns-clause-later g c = later_kept g.S.FeedRespond.wanted g.S.FeedRespond.responses g.S.FeedRespond.sites _ _ (returns-clause-history g c)

@@ -13,7 +13,7 @@ returns-in-Some-clause-ended g c arriving history has =
     let is : c.args.self.now.fetching ≡ Some was = search rules in
     let so : is_arriving was.exchange ≡ true = subst (λ (f : Option Fetching). is_arriving (exchange_of f) ≡ true) is arriving in
     let name : next.name ≡ was.name = c.end.ensures.name in
-    exchanged_on g.S.FeedRespond.wanted g.S.FeedRespond.responses (Ended c.args.end) c.args.self.now was next history is name
+    exchanged_on g.S.FeedRespond.wanted g.S.FeedRespond.responses g.S.FeedRespond.sites (Ended c.args.end) c.args.self.now was next history is name
     (subst (λ n. IsExchangeOf next.exchange n (Ended c.args.end ∷ exchange_in history) (given_in history)) (sym name)
     (c.end.ensures.ended so (exchange_in history) (given_in history) (has.fetching was is).1)) tt tt has
 
@@ -22,4 +22,4 @@ returns-in-Some-clause-kept g c = search rules
 
 pub returns-in-Some-clause-later : goal.returns-in-Some-clause-later
 returns-in-Some-clause-later g c =
-    later_either g.S.FeedRespond.wanted g.S.FeedRespond.responses (Ended c.args.end) _ _ (returns-in-Some-clause-ended g c) (returns-in-Some-clause-kept g c)
+    later_either g.S.FeedRespond.wanted g.S.FeedRespond.responses g.S.FeedRespond.sites (Ended c.args.end) _ _ (returns-in-Some-clause-ended g c) (returns-in-Some-clause-kept g c)

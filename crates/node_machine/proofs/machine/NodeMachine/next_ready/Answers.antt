@@ -5,8 +5,8 @@ use Rattle.node_machine.proofs.machine.NodeMachine.next_ready.Goals as goal
 
 pub returns-clause-history : goal.returns-clause-history
 returns-clause-history g c =
-    tabled g.S.FeedRespond.wanted g.S.FeedRespond.responses c.args.self.now c.next_ready.new.self
+    tabled g.S.FeedRespond.wanted g.S.FeedRespond.responses g.S.FeedRespond.sites c.args.self.now c.next_ready.new.self
     (keeps_all c.args.self.now.table c.next_ready.new.self c.next_ready.ensures.peers)
 
 pub returns-clause-later : goal.returns-clause-later
-returns-clause-later g c = later_kept g.S.FeedRespond.wanted g.S.FeedRespond.responses _ _ (returns-clause-history g c)
+returns-clause-later g c = later_kept g.S.FeedRespond.wanted g.S.FeedRespond.responses g.S.FeedRespond.sites _ _ (returns-clause-history g c)

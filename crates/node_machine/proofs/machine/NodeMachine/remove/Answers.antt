@@ -5,9 +5,9 @@ use Rattle.node_machine.proofs.machine.NodeMachine.remove.Goals as goal
 
 pub returns-clause-history : goal.returns-clause-history
 returns-clause-history g c =
-    tabled g.S.FeedRespond.wanted g.S.FeedRespond.responses c.args.self.now c.remove.new.self
+    tabled g.S.FeedRespond.wanted g.S.FeedRespond.responses g.S.FeedRespond.sites c.args.self.now c.remove.new.self
     (keeps_removed c.args.key c.args.self.now.table c.remove.new.self
     (λ some. (let gone = c.remove.ensures.removed some in (gone.others, gone.gone))) (λ none. (c.remove.ensures.absent none).0))
 
 pub returns-clause-later : goal.returns-clause-later
-returns-clause-later g c = later_kept g.S.FeedRespond.wanted g.S.FeedRespond.responses _ _ (returns-clause-history g c)
+returns-clause-later g c = later_kept g.S.FeedRespond.wanted g.S.FeedRespond.responses g.S.FeedRespond.sites _ _ (returns-clause-history g c)

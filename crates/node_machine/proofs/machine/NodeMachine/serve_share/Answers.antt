@@ -12,8 +12,8 @@ returns-then-share-replies-clause-history g c = λ history has. elim (c.serve_fr
 pub returns-then-share-replies-clause-noted : goal.returns-then-share-replies-clause-noted
 returns-then-share-replies-clause-noted g c less =
     let rest = c.serve_from_feed-progress.ensures.rest in
-    noted_behind g.S.FeedRespond.wanted g.S.FeedRespond.responses c.args.turn.key c.args.self.now c.serve_from_feed-progress.new.self c.note_request.new.self
-    rest.fetching rest.token c.serve_from_feed-progress.ensures.requested c.note_request.ensures.noted
+    noted_behind g.S.FeedRespond.wanted g.S.FeedRespond.responses g.S.FeedRespond.sites c.args.turn.key c.args.self.now c.serve_from_feed-progress.new.self c.note_request.new.self
+    rest.fetching rest.token c.serve_from_feed-progress.ensures.requested c.serve_from_feed-progress.ensures.reload c.note_request.ensures.noted
 
 pub returns-then-share-replies-clause-rest : goal.returns-then-share-replies-clause-rest
 returns-then-share-replies-clause-rest g c = record {
@@ -27,7 +27,7 @@ returns-then-share-replies-clause-rest g c = record {
 
 pub returns-then-share-replies-clause-later : goal.returns-then-share-replies-clause-later
 returns-then-share-replies-clause-later g c =
-    later_advanced g.S.FeedRespond.wanted g.S.FeedRespond.responses c.args.turn.key _ _ (returns-then-share-replies-clause-history g c)
+    later_advanced g.S.FeedRespond.wanted g.S.FeedRespond.responses g.S.FeedRespond.sites c.args.turn.key _ _ (returns-then-share-replies-clause-history g c)
 
 pub returns-else-share-replies-clause-later : goal.returns-else-share-replies-clause-later
-returns-else-share-replies-clause-later g c = later_served g.S.FeedRespond.wanted g.S.FeedRespond.responses c.args.turn.key _ _ c.serve_from_feed-progress.ensures.history
+returns-else-share-replies-clause-later g c = later_served g.S.FeedRespond.wanted g.S.FeedRespond.responses g.S.FeedRespond.sites c.args.turn.key _ _ c.serve_from_feed-progress.ensures.history

@@ -16,9 +16,9 @@ returns-in-Ok-clause-taken g c history has =
     let arriving : was.exchange ≡ Some (Arriving c.in-Ok.arrival) = c.in-Ok.ensures.arriving in
     let e = c.submit_part-arrival.ensures in
     let next : Fetching = record { name = was.name; fetch = c.submit_part-arrival.new.fetch; exchange = Some (Arriving c.submit_part-arrival.result.0) } in
-    part_taken_as wanted replies c.args.self.now _ history was is (λ first size bytes of.
+    part_taken_as wanted replies g.S.FeedRespond.sites c.args.self.now _ history was is (λ first size bytes of.
     (let part = sym (ap part_of arriving) ∙ of in
-    took_part wanted replies c.args.self.now c.submit_part-arrival.new.feed was next first size bytes _ history is refl
+    took_part wanted replies g.S.FeedRespond.sites c.args.self.now c.submit_part-arrival.new.feed was next first size bytes _ history is refl
     (λ events given h. (let now = subst (λ x. IsExchangeOf x was.name events given) arriving h in
     let passed = e.passed first size bytes part events given now.1 in (now.0, (now.0, passed.0), passed.1))) (e.right first size bytes part) has))
 
@@ -28,7 +28,7 @@ returns-in-Ok-clause-idle g c = search rules
 pub returns-in-Ok-clause-later : goal.returns-in-Ok-clause-later
 returns-in-Ok-clause-later g c =
     let is : c.args.self.now.fetching ≡ Some c.in-Some.fetching = search rules in
-    later_part g.S.FeedRespond.wanted g.S.FeedRespond.responses c.args.self.now _ c.in-Some.fetching is (returns-in-Ok-clause-idle g c) (returns-in-Ok-clause-taken g c)
+    later_part g.S.FeedRespond.wanted g.S.FeedRespond.responses g.S.FeedRespond.sites c.args.self.now _ c.in-Some.fetching is (returns-in-Ok-clause-idle g c) (returns-in-Ok-clause-taken g c)
 
 pub returns-in-Err-clause-idle : goal.returns-in-Err-clause-idle
 returns-in-Err-clause-idle g c = search rules

@@ -1,0 +1,74 @@
+//! The address to which `/go` redirects.
+ghost use Rattle.std.specs.Prelude.{◌≡◌, IfOk, option_copied, option_map};
+ghost use Rattle.node_hits.specs.Tallying.{tally_from};
+ghost use Rattle.node_resolver.specs.Responses.{closed_target, first_address, library_target, target_in};
+
+use node_hits::{Lookup, Tally};
+use node_site::{LibraryLink, LinkUse, SearchOutcome, SiteFile, library_links};
+use std::alloc::{AllocError, Global};
+
+/// Returns a copy of a link, if there is one.
+pub(crate) fn copied(alloc: Global, link: Option<&[u8]>) -> Result<Option<Vec<u8>>, AllocError>
+    ensures { IfOk result (λ copy. option_map (λ text. text.items) copy ≡ option_copied link.entry) }
+{
+    match link {
+        Some(link) => Ok(Some(Vec::from_slice(alloc, link)?)),
+        None => Ok(None),
+    }
+}
+
+fn first_address(alloc: Global, links: &[LibraryLink<'_>]) -> Result<Option<Vec<u8>>, AllocError>
+    ensures { IfOk result (λ address. option_map (λ text. text.items) address ≡ first_address links.now) }
+{
+    match links.split_first() {
+        Some((link, _)) => Ok(Some(Vec::from_slice(alloc, link.address())?)),
+        None => Ok(None),
+    }
+}
+
+// Returns the library's link to which a reader is sent who finds no open hit.
+fn library_target(
+    alloc: Global,
+    site: &SiteFile,
+    outcome: SearchOutcome,
+    lookup: &Lookup,
+) -> Result<Option<Vec<u8>>, AllocError>
+    ensures { IfOk result (λ address. option_map (λ text. text.items) address
+        ≡ library_target site.now outcome lookup.now) }
+{
+    let cited = lookup.cited(b"");
+    let links = library_links(alloc, site, LinkUse::Followed, outcome, &cited)?;
+    first_address(alloc, &links)
+}
+
+// Returns the link of the library, or else that of the best hit.
+fn closed_target(
+    alloc: Global,
+    site: &SiteFile,
+    lookup: &Lookup,
+    hits: &Tally<'_>,
+) -> Result<Option<Vec<u8>>, AllocError>
+    ensures { IfOk result (λ address. option_map (λ text. text.items) address
+        ≡ closed_target site.now lookup.now (tally_from hits.now)) }
+{
+    match library_target(alloc, site, hits.outcome(), lookup)? {
+        Some(link) => Ok(Some(link)),
+        None => copied(alloc, hits.best_link()),
+    }
+}
+
+/// Returns the link of the best open hit, or else that of the library, or else that of the best hit.
+pub(crate) fn target_in(
+    alloc: Global,
+    site: &SiteFile,
+    lookup: &Lookup,
+    hits: &Tally<'_>,
+) -> Result<Option<Vec<u8>>, AllocError>
+    ensures { IfOk result (λ address. option_map (λ text. text.items) address
+        ≡ target_in site.now lookup.now (tally_from hits.now)) }
+{
+    match copied(alloc, hits.best_open_link())? {
+        Some(link) => Ok(Some(link)),
+        None => closed_target(alloc, site, lookup, hits),
+    }
+}
