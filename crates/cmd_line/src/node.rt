@@ -6,7 +6,7 @@ use clap::{ArgGroup, ArgMatches};
 use feed_options::{LogOptions, NodeOptions, SitePath, Source};
 use std::alloc::{AllocError, Global};
 
-// The options of which the token needs one.
+// The name of the group of options that a token needs one of.
 const TOKEN_USES: &str = "from or sites";
 
 /// The arguments of `node`.
@@ -130,7 +130,7 @@ pub static NODE: [Argument; 19] = [
     },
 ];
 
-/// Returns the options of which the token needs one.
+/// Returns the group of options that a token needs one of: a source of releases, or a folder of site files.
 pub fn token_uses<'a>(alloc: Global) -> Result<ArgGroup<'a>, AllocError> {
     let uses = ArgGroup::new(alloc, TOKEN_USES).arg("from")?.arg("sites")?;
     Ok(uses.multiple(true))

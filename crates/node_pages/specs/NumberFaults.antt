@@ -1,4 +1,4 @@
--- What is wrong with a text that is neither an ISSN nor an ISBN.
+-- The faults of a text that is neither an ISSN nor an ISBN.
 use Rattle.std.specs.Prelude.{ℕ, ◌-◌, ◌==◌, ◌&&◌, ◌||◌, Bool, not, if◌then◌else◌, List, [], ◌∷◌, ◌++◌, codes, filter, is_some, length, take, Option, Some, None}
 use Rattle.std.specs.Char.{is_ascii_digit}
 use Rattle.std.specs.List.{list_all}

@@ -1,4 +1,4 @@
-//! What is wrong with a text that is neither an ISSN nor an ISBN.
+//! The faults of a text that is neither an ISSN nor an ISBN.
 ghost use Rattle.std.specs.Prelude.{◌≡◌, ◌++◌, ◌∷◌, [], IfOk, OnOk, filter};
 ghost use Rattle.std.specs.Char.{is_ascii_digit};
 ghost use Rattle.std.specs.List.{list_all};
@@ -21,7 +21,7 @@ pub(crate) enum NumberKind {
     Isbn,
 }
 
-/// What is wrong with a text that is no such number.
+/// The fault of a text that is not such a number.
 #[derive(Clone, Copy)]
 pub(crate) enum NumberFault {
     /// With this character in place of its last one it is a number.
