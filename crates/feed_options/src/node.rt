@@ -47,7 +47,7 @@ pub enum SitePath<'a> {
     Folder(&'a str),
 }
 
-/// What the log of a node shows, and who may have reports of the node.
+/// The fields that the log of a node shows, and the clients that may have reports of the node.
 #[derive(Clone, Copy)]
 pub struct LogOptions {
     /// Whether a peer on the same machine is a proxy, which states the address of its client.

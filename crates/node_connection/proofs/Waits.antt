@@ -1,4 +1,4 @@
--- What a connection waits for after a step that blocks.
+-- The phase of a connection after a step that blocks.
 use Rattle.std.proofs.Common.{◌≡◌, inl, inr, sym, ◌∙◌}
 use Rattle.node_connection.specs.declared.connection.Connection.{Connection}
 use Rattle.node_connection.specs.declared.phase.Wants.TheVariants.{Bytes, Room, Close}

@@ -33,7 +33,7 @@ first_within places bytes (found ∷ more) =
     else []
 
 -- what a response needs to know of the hits of a query: text shows the first ones, JSON and a page those of the highest
--- ranks; the best link of all hits, that of those that are open to readers, and whether there is such a hit
+-- ranks; the best link of all hits, the best link of open hits, and whether there is an open hit
 pub record TallyValue : Type 0 where
   pub count : ℕ
   pub is_whole : Bool
@@ -63,7 +63,7 @@ outcome_of tally =
     else if tally.is_whole then (if tally.count == 0 then outcome.NoHits else outcome.Embargoed)
     else outcome.Unknown
 
--- where a reader is sent who asks for no page: to the best open hit, or else to a link of the library, or else to the best hit
+-- where a redirect leads: to the best open hit, or else to a link of the library, or else to the best hit
 abbrev pub followed_link : Option (List ℕ) → TallyValue → Option (List ℕ)
 followed_link library tally = option_or tally.best_open (option_or library tally.best)
 

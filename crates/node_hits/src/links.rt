@@ -66,7 +66,7 @@ impl BestLink {
     }
 }
 
-/// The best link of all hits, and that of those that are open to readers.
+/// The best link of all hits, and the best link of open hits.
 #[derive(Drop)]
 pub(crate) struct Links {
     all: BestLink,
@@ -114,7 +114,7 @@ impl Links {
         self.all.best()
     }
 
-    /// Returns the best link of those that are open to readers.
+    /// Returns the best link of the hits that are open to readers.
     pub(crate) fn best_open(&self) -> Option<&[u8]>
         ensures { option_copied result ≡ option_map link_url self.now.open_ones }
     {

@@ -44,7 +44,7 @@ first blank (b ∷ more) rest end back some clean = let after = b ∷ ((more ++ 
     ap (λ t. to_place t (position is_line_end t)) (ap (from_place (front ++ after)) (placed (λ x. not (is_line_end x)) front b ((more ++ rest) ++ (print_end end ++ back)) (blank_lines blank)
     (both _ _ clean).0) ∙ drop_at front after (length front) refl) ∙ to_first (b ∷ (more ++ rest)) end back clean
 
--- bytes that pass a test are none that fails it
+-- no byte that passes a test fails it
 differs : (test : ℕ → Bool) (s b : ℕ) → test s ≡ false → test b ≡ true → (b == s) ≡ false
 differs test s b out passes = ne_eqb b s (λ e. false≢true (sym out ∙ subst (λ (v : ℕ). test v ≡ true) e passes))
 

@@ -61,8 +61,8 @@ kind_of Html = 104
 abbrev pub kind_and_day : Representation → ℤ → List ℕ
 kind_and_day representation day = kind_of representation ∷ signed_decimal day
 
--- the digest of the digests of five texts, the last two of which are given as digests: a node computes it when it starts, and
--- when its releases change
+-- the digest of the digests of five texts. The last two texts are given by their digests: a node computes it when it starts,
+-- and when its releases change
 abbrev pub digest_of_digests : List ℕ → List ℕ → List ℕ → List ℕ → List ℕ → List ℕ
 digest_of_digests version settings file listing releases =
     sha256 ((((sha256 version ++ sha256 settings) ++ sha256 file) ++ listing) ++ releases)

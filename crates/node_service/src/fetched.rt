@@ -1,4 +1,4 @@
-//! What a fetch makes of the response that arrived.
+//! The effect of the response that arrived on its fetch.
 ghost use Rattle.std.specs.Prelude.{◌≡◌};
 ghost use Rattle.node_service.specs.Runs.{IsLaterNode};
 

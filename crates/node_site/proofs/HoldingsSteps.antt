@@ -1,5 +1,5 @@
 -- The steps of the reading of a holdings file.
-use Rattle.std.proofs.Common.{◌≡◌, ℕ, suc, ◌+◌, ◌-◌, ◌*◌, ◌<◌, ◌≤◌, Bool, true, false, ◌==◌, if◌then◌else◌, List, [], ◌∷◌, ◌++◌, Some, None, filter, length, map}
+use Rattle.std.proofs.Common.{◌≡◌, ℕ, suc, ◌+◌, ◌-◌, ◌*◌, ◌<◌, ◌≤◌, Bool, true, false, ◌==◌, if◌then◌else◌, List, [], ◌∷◌, ◌++◌, filter, length}
 use Rattle.std.proofs.Common.{refl, sym, ap, subst, ◌∙◌, arith, sum_by}
 use Rattle.std.specs.Global.{Vec}
 use Rattle.std.proofs.lemmas.List.{drop_all, length-map, length_push, nil_from_length}
@@ -9,11 +9,10 @@ use Rattle.node_site.specs.declared.entry.Entry.{Entry}
 use Rattle.node_site.specs.declared.merge.Merge.{Merge}
 use Rattle.node_site.specs.declared.holdings_fault.HoldingsFault.{HoldingsFault}
 use Rattle.node_site.specs.declared.holdings_fault.HoldingsFault.TheVariants.{TooLong, NotUtf8, Line, Memory}
-use Rattle.node_site.specs.Limits.{holdings_limit}
-use Rattle.node_site.specs.HoldingsEntries.{AreEntries, AreInOrder, IsInOrder, IsMerge, entries_at, entry_at, left_over, merge_weight, runs_weight}
+use Rattle.node_site.specs.HoldingsEntries.{AreInOrder, IsInOrder, IsMerge, entries_at, entry_at, left_over, merge_weight, runs_weight}
 use Rattle.node_site.specs.HoldingsFaults.{IsHoldingsFault, first_fault}
 use Rattle.node_site.specs.HoldingsFiles.{begins_row, row_places, starts_from}
-use Rattle.node_site.specs.HoldingsIndex.{IsFirstFault, IsHeaded, IsIndexed, IsPeacefulBelow, places_behind}
+use Rattle.node_site.specs.HoldingsIndex.{IsFirstFault, IsHeaded, IsPeacefulBelow, places_behind}
 use Rattle.node_site.specs.declared.holdings_reading.Phase.{Phase}
 use Rattle.node_site.specs.declared.holdings_reading.Phase.TheVariants as phase
 use Rattle.node_site.specs.HoldingsReadings.{AreCompared, AreMerging, AreRows, AreRuns, IsNext, IsRead, IsRunOf, steps_left}

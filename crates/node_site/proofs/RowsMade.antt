@@ -1,4 +1,4 @@
--- What is made of the rows of a list, one row after another.
+-- The values that the rows of a list give, one row after another.
 use Rattle.std.proofs.Common.{◌≡◌, ℕ, ◌+◌, ◌<◌, List, [], ◌∷◌, ◌++◌, Option, Some, None, refl, sym, ap, ◌∙◌}
 use Rattle.std.proofs.Common.{append_assoc, drop, get_or, length}
 use Rattle.std.specs.List.{cons_option, filter_map}

@@ -40,8 +40,8 @@ listed_package package_id rows = title_holding package_id [] rows
 abbrev pub unlisted : SiteValue → HoldingValue
 unlisted site = record { is_held = site.holds_unlisted; first = None; last = None }
 
--- what the library has of a title of a package. The first of these that says something decides: the title's table, its row in
--- the holdings file, the package's table, its row in the file, and else the default
+-- what the library has of a title of a package. The first place that says something decides, in this order: the title's table,
+-- its row in the holdings file, the package's table, its row in the file, and else the default
 abbrev pub holding_at : SiteValue → List ℕ → List ℕ → HoldingValue
 holding_at site package_id id =
     unwrap_or (title_holding package_id id site.titles)

@@ -24,7 +24,7 @@ abbrev pub is_shown : Occasion → SearchOutcome → Bool
 is_shown on.Always outcome = true
 is_shown occasion outcome = is_meant occasion outcome
 
--- a reader who asks for no page is sent to a link that is meant for an answer without a text that is open
+-- whether a redirect may lead to a link: if the link is meant for an answer without a text that is open
 abbrev pub is_followed : Occasion → SearchOutcome → Bool
 is_followed on.NoHits outcome = is_meant on.NoHits outcome
 is_followed on.Embargoed outcome = is_meant on.Embargoed outcome

@@ -8,6 +8,6 @@ use Rattle.node_site.specs.Site.{PlatformValue}
 abbrev pub is_platform : List ℕ → PlatformValue → Bool
 is_platform host rule = str_eq_ignore_ascii_case rule.host host
 
--- the platform of a host; a longer text is no host
+-- the platform of a host, which has at most 253 bytes
 abbrev pub platform_at : List PlatformValue → List ℕ → Option PlatformValue
 platform_at platforms host = if nat_le (length host) 253 then find (is_platform host) platforms else None

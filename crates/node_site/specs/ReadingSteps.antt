@@ -1,4 +1,4 @@
--- What a step of the reading of a holdings file leads to.
+-- The result of a step of the reading of a holdings file.
 use Rattle.std.specs.Prelude.{◌≡◌, ◌<◌}
 use Rattle.node_site.specs.declared.holdings_reading.ReadingStep.{ReadingStep}
 use Rattle.node_site.specs.declared.holdings_reading.ReadingStep.TheVariants.{More, Done}

@@ -23,7 +23,7 @@ other_site sites = sites.others
 abbrev pub count_of_sites : {S : Type 0} → Sites S → ℕ
 count_of_sites sites = btree_map_len sites.by_host
 
--- the site of the requests for a host, or of those without one: its own, or else that of all others
+-- the site of the requests for a host, or of requests without one: its own, or else that of all others
 abbrev pub site_of : {S : Type 0} → Option (List ℕ) → Sites S → Option S
 site_of None sites = other_site sites
 site_of (Some host) sites = option_or (own_site host sites) (other_site sites)

@@ -1,8 +1,8 @@
 //! The lines of a holdings file: their cells, and what is wrong with them.
 ghost use Rattle.std.specs.Prelude.{◌≡◌, ◌≤◌, ◌==◌, length, count_by};
-ghost use Rattle.node_site.specs.HoldingsFiles.{cells_of, has_bytes, has_header, holding_in, line_at, line_number};
+ghost use Rattle.node_site.specs.HoldingsFiles.{cells_of, has_header, holding_in, line_at, line_number};
 ghost use Rattle.node_site.specs.HoldingsFiles.{subject_at, without_mark, without_return};
-ghost use Rattle.node_site.specs.HoldingsFaults.{at_line, cell_fault, cells_flaw, flaw_at, has_five_cells, is_empty_or};
+ghost use Rattle.node_site.specs.HoldingsFaults.{at_line, cell_fault, cells_flaw, flaw_at, is_empty_or};
 ghost use Rattle.node_site.specs.HoldingsFaults.{is_yes_or_no, line_fault};
 ghost use Rattle.node_site.specs.Kinds.{is_date, is_text};
 ghost use Rattle.node_site.specs.Limits.{holdings_limit};

@@ -68,7 +68,7 @@ fn listed_package(site: &SiteFile, package_id: &[u8]) -> Option<Holding>
     site.listed_holding(package_id, b"")
 }
 
-// Returns the holdings of the library in a title of a package: what the first of these says that says something.
+// Returns the holdings of the library in a title of a package: those of the first place that says something.
 fn holding_at(site: &SiteFile, package_id: &[u8], id: &[u8]) -> Holding
     ensures { result ≡ holding_at site.now package_id.now id.now }
 {

@@ -1,4 +1,4 @@
-//! What a library has of a package or a title: nothing, or the days from a first to a last.
+//! The holdings of a library in a package or a title: nothing, or the days from a first to a last.
 ghost use Rattle.std.specs.Prelude.{◌≡◌};
 ghost use Rattle.node_site.specs.Held.{has_asked, has_days, shares_day};
 ghost use Rattle.node_site.specs.Valid.{is_forward};

@@ -28,7 +28,7 @@ const COMPARE_LEN: usize = 4_096;
 pub(crate) enum Phase {
     // The rows before a place are in sorted runs.
     Rows(usize, Vec<Vec<Entry>>),
-    // All rows are in sorted runs, two of which are being merged.
+    // All rows are in sorted runs, and two of them are being merged.
     Merging(Merge, Vec<Vec<Entry>>),
     // All rows are in order, and as many as the number says do not contradict each other.
     Comparing(Vec<Entry>, usize),
@@ -54,7 +54,7 @@ impl Model for HoldingsReading {
     ghost invariant = { λ r. IsReading r.text.items r.phase };
 }
 
-/// What a step of a reading leads to.
+/// The result of a step of a reading.
 #[derive(Drop)]
 pub enum ReadingStep {
     /// More of the file is to be read.
@@ -203,11 +203,11 @@ fn next_phase(alloc: Global, text: &[u8], phase: Phase) -> Result<Phase, Holding
 impl HoldingsReading {
     ghost use Rattle.node_site.specs.ReadingSteps.{IsStep};
 
-    /// Begins to read a holdings file. Its length is checked, whether it is UTF-8, and its header.
+    /// Begins to read a holdings file: checks its length, that it is UTF-8, and its header.
     ///
     /// # Errors
     ///
-    /// One of these is not accepted.
+    /// The length, an invalid byte or the header.
     pub fn begin(alloc: Global, bytes: Vec<u8>) -> Result<HoldingsReading, HoldingsFault>
         ensures text { IfOk result (λ reading. reading.text ≡ bytes.items) }
         ensures refused { IfErr result (IsHoldingsFault bytes.items) }

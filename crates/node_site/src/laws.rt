@@ -1,5 +1,5 @@
-//! Laws of the links of a page, of those to forms and articles, and of what a library has: each is the contract of a
-//! function with an empty body.
+//! Laws of the links of a page, of links to forms and articles, and of the holdings of a library: each is the contract
+//! of a function with an empty body.
 ghost use Rattle.node_site.specs.Laws.{ExceptedIsDirect, FreeIsDirect, NoProxyIsDirect, OthersGoThrough};
 ghost use Rattle.node_site.specs.Laws.{LinkFits, SubdomainsAreWithin};
 ghost use Rattle.node_site.specs.HostLaws.{HostsAreStandard, LinksAreStandard};

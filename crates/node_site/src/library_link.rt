@@ -78,7 +78,7 @@ fn rule_of(table: &Table) -> LinkRule<'_>
     }
 }
 
-// What the links are used for, the outcome of a search, and the citation that it was for.
+// The use of the links, the outcome of a search, and the citation that it was for.
 #[derive(Clone, Copy)]
 struct Asked<'c, 'd> {
     usage: LinkUse,

@@ -1,5 +1,5 @@
 //! The merge of two sorted runs of entries, in portions.
-ghost use Rattle.std.specs.Prelude.{◌≡◌, ◌≤◌, ◌<◌, ◌+◌, ◌-◌, ◌++◌, ℕ, List, [], ◌∷◌, IfOk, OnOk, length, sum_by};
+ghost use Rattle.std.specs.Prelude.{◌≡◌, ◌≤◌, ◌<◌, ◌+◌, ◌-◌, ◌++◌, ℕ, List, [], ◌∷◌, IfOk, length, sum_by};
 ghost use Rattle.node_site.specs.HoldingsEntries.{AreMerged, IsInOrder, is_below};
 ghost use Rattle.node_site.specs.declared.entry.Entry.{Entry};
 

@@ -10,13 +10,13 @@ pub(crate) enum Occasion {
     Always,
     /// If there is a hit that is open to readers.
     Hits,
-    /// If there is no hit.
+    /// If a search has no hit.
     NoHits,
     /// If there are hits, and none is open to readers.
     Embargoed,
 }
 
-/// What a search found. A hit is open unless it is under an embargo or has abstracts alone.
+/// The outcome of a search. A hit is open unless it is under an embargo or has abstracts alone.
 #[derive(Clone, Copy, Debug, PartialEq, Eq)]
 pub enum SearchOutcome {
     /// There is an open hit.
@@ -29,12 +29,12 @@ pub enum SearchOutcome {
     Unknown,
 }
 
-/// What the links of a library are used for.
+/// The use of the links of a library.
 #[derive(Clone, Copy, Debug, PartialEq, Eq)]
 pub enum LinkUse {
     /// A page shows them.
     Shown,
-    /// A reader who asks for no page is sent to the first of them.
+    /// A redirect leads to the first of them.
     Followed,
 }
 

@@ -35,7 +35,7 @@ pub(crate) const CITED_NAMES: &[TemplateLine] = template![
     if (Cited) ["</dl>"]
 ];
 
-/// What is wrong with the ISSN and the ISBN, if anything is.
+/// The faults of the ISSN and of the ISBN, if they have any.
 pub(crate) const NUMBER_FAULTS: &[TemplateLine] = template![
     if (IssnFault) [
         r#"<p class="note"><bdi>"# {Issn} "</bdi>" {text Colon} " " {IssnFault} "</p>"

@@ -48,7 +48,7 @@ pub enum Slot {
     PageLink,
     Link,
     Host,
-    /// That a row does not match, and the limit that an embargo sets.
+    /// The sentence that a row does not match, and the limit that an embargo sets.
     Unmatched,
     Limit,
     /// The fit of a hit with its class.
@@ -62,7 +62,7 @@ pub enum Slot {
     LeftOut,
     LeastText,
     Hint,
-    /// What readers see of a link of the library, and the address of it.
+    /// The text of a link of the library, and its address.
     Label,
     Way,
     /// The pairs of a query for a title.
@@ -70,7 +70,7 @@ pub enum Slot {
     /// The text that is searched, percent-encoded, and the place of the next title.
     Encoded,
     Start,
-    /// What is wrong with the ISSN and with the ISBN of a citation.
+    /// The faults of the ISSN and of the ISBN of a citation.
     IssnFault,
     IsbnFault,
 }

@@ -68,7 +68,7 @@ pub enum Template {
     TitleCard,
     /// The end of the list, the order of titles, and the link to the next ones.
     TitlesEnd,
-    /// What is wrong with the ISSN and the ISBN, if anything is.
+    /// The faults of the ISSN and of the ISBN, if they have any.
     NumberFaults,
     /// The beginning of the list of packages, if it has any, a package, and the end of the list.
     Packages,
