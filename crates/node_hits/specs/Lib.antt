@@ -13,3 +13,4 @@ pub mod QueryFacts
 pub mod AnswerJson
 pub mod Lookups
 pub mod Laws
+pub mod Sfx

@@ -7,13 +7,14 @@ use Rattle.feed_openurl.specs.declared.citation_part.CitationPart.TheVariants as
 use Rattle.form_urlencoded.specs.Form as form
 use Rattle.node_site.specs.Site as site_file
 use Rattle.node_request.specs.declared.representation.Representation.{Representation}
-use Rattle.node_request.specs.declared.representation.Representation.TheVariants.{Text, Json, Html}
+use Rattle.node_request.specs.declared.representation.Representation.TheVariants.{Text, Json, Html, Fragment, Sfx}
 use Rattle.node_response.specs.Pages.{fault_body}
 use Rattle.node_response.specs.Fragments.{joined}
 use Rattle.node_response.specs.Responses.{ResponseValue, response_with}
 use Rattle.node_response.specs.declared.status.Status.{Status}
 use Rattle.node_response.specs.declared.status.Status.TheVariants as status
 use Rattle.node_hits.specs.AnswerJson.{answer_json}
+use Rattle.node_hits.specs.Sfx.{no_targets}
 use Rattle.node_hits.specs.QueryFacts.{QueryFactsValue, names_work}
 use Rattle.node_hits.specs.Tallies.{tally_of}
 use Rattle.node_site.specs.Texts.{text_of}
@@ -80,19 +81,22 @@ nothing_json ask why = answer_json ask (reason_text why) (tally_of []) (tally_of
 -- the body for such an OpenURL, by whether its citation names a work
 unfoldable pub numberless_body : site_file.SiteValue → List ℕ → Bool → Representation → QueryFactsValue → OpenUrlFault → List ℕ
 numberless_body site query named Html ask why = nothing_page site query ask
+numberless_body site query named Sfx ask why = no_targets
+numberless_body site query named Fragment ask why = fault_body Fragment (reason_text why)
 numberless_body site query true Text ask why = nothing_text why
 numberless_body site query true Json ask why = nothing_json ask why
 numberless_body site query false Text ask why = fault_body Text (reason_text why)
 numberless_body site query false Json ask why = fault_body Json (reason_text why)
 
--- the status of the response to such an OpenURL
-abbrev pub numberless_status : Bool → Status → Status
-numberless_status named code = if named then code else status.BadRequest
+-- the status of the response to such an OpenURL; the reply of SFX is one without a target
+abbrev pub numberless_status : Representation → Bool → Status → Status
+numberless_status Sfx named code = code
+numberless_status representation named code = if named then code else status.BadRequest
 
 -- the response to an OpenURL without a number: with this status, if its citation names a work
 abbrev pub numberless_response : site_file.SiteValue → List ℕ → Status → Representation → QueryFactsValue → OpenUrlFault → ResponseValue
 numberless_response site query code representation ask why =
-    response_with (numberless_status (names_work ask.citation) code) representation
+    response_with (numberless_status representation (names_work ask.citation) code) representation
     (numberless_body site query (names_work ask.citation) representation ask why)
 
 -- the response is a page, and the OpenURL is empty

@@ -12,7 +12,7 @@ use Rattle.node_site.specs.Site as site_file
 use Rattle.node_site.specs.Texts.{text_of}
 use Rattle.node_site.specs.declared.text_table.Text.TheVariants as text
 use Rattle.node_request.specs.declared.representation.Representation.{Representation}
-use Rattle.node_request.specs.declared.representation.Representation.TheVariants.{Text, Json, Html}
+use Rattle.node_request.specs.declared.representation.Representation.TheVariants.{Text, Json, Html, Fragment, Sfx}
 use Rattle.node_response.specs.Responses.{ResponseValue, refusal, response_with}
 use Rattle.node_response.specs.declared.status.Status.TheVariants as status
 use Rattle.node_titles.specs.TitleSearches.{TitleSearchValue, ask_of}
@@ -76,11 +76,13 @@ titles_parts site asked walk =
 unfoldable pub titles_page : site_file.SiteValue → List ℕ → WalkValue → List ℕ
 titles_page site asked walk = page_text site (titles_parts site asked walk)
 
--- the rows that a walk found
+-- the rows that a walk found; no query names the last two representations for them
 unfoldable pub titles_body : site_file.SiteValue → Representation → TitleSearchValue → WalkValue → List ℕ
 titles_body site Text ask walk = titles_text walk
 titles_body site Json ask walk = titles_json ask walk
 titles_body site Html ask walk = titles_page site ask.text walk
+titles_body site Fragment ask walk = titles_page site ask.text walk
+titles_body site Sfx ask walk = titles_text walk
 
 -- the name of a fault
 abbrev pub fault_text : TitleFault → List ℕ
@@ -103,6 +105,8 @@ titles_refusal site Html why =
     (titles_form_page site (text_of site text.NotAnswered) (text_of site text.TitlesNotRead) (fault_text why))
 titles_refusal site Text why = refusal status.BadRequest Text (fault_text why)
 titles_refusal site Json why = refusal status.BadRequest Json (fault_text why)
+titles_refusal site Fragment why = refusal status.BadRequest Fragment (fault_text why)
+titles_refusal site Sfx why = refusal status.BadRequest Sfx (fault_text why)
 
 abbrev pub titles_by : site_file.SiteValue → Representation → List ActiveValue → Result TitleSearchValue TitleFault → ResponseValue
 titles_by site representation actives (Ok ask) =

@@ -5,6 +5,7 @@ ghost use Rattle.node_pages.specs.ErrorPages.{error_body, error_page, error_resp
 use crate::form::put_form_end;
 use crate::openurl_text::OpenUrlText;
 use feed_answer::{Pair, decode_pairs};
+use node_hits::put_no_targets;
 use node_request::Representation;
 use node_response::{Response, Status, put_fault};
 use node_site::{SiteFile, Text, text_of};
@@ -61,7 +62,10 @@ fn put_error(
             let pairs = decode_pairs(alloc, asked.text)?;
             put_error_page(out, site, &pairs, advice, name)
         }
-        Representation::Text | Representation::Json => put_fault(out, asked.representation, name),
+        Representation::Sfx => put_no_targets(out),
+        Representation::Text | Representation::Json | Representation::Fragment => {
+            put_fault(out, asked.representation, name)
+        }
     }
 }
 

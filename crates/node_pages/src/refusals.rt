@@ -17,7 +17,7 @@ use crate::ways::{cited_of, put_ways_to};
 use feed_answer::Pair;
 use feed_bytes::put_all;
 use feed_openurl::{CitationPart, OpenUrlFault};
-use node_hits::{QueryFacts, ReceivedOpenUrl, Tally, names_work, put_answer_json};
+use node_hits::{QueryFacts, ReceivedOpenUrl, Tally, names_work, put_answer_json, put_no_targets};
 use node_request::Representation;
 use node_response::{Fragment, Response, Status, put_fault};
 use node_site::{SearchOutcome, SiteFile, Text, text_of};
@@ -160,16 +160,21 @@ fn put_numberless(
     let named = names_work(&ask.citation);
     match query.representation {
         Representation::Html => put_nothing(alloc, out, site, query.pairs(), ask),
+        Representation::Sfx => put_no_targets(out),
         Representation::Text if named => put_text(out, reason),
         Representation::Json if named => put_json(alloc, out, ask, reason),
         _ => put_fault(out, query.representation, reason_text(reason)),
     }
 }
 
-fn numberless_status(named: bool, status: Status) -> Status
-    ensures { result ≡ numberless_status named status }
+fn numberless_status(representation: Representation, named: bool, status: Status) -> Status
+    ensures { result ≡ numberless_status representation named status }
 {
-    if named { status } else { Status::BadRequest }
+    match representation {
+        Representation::Sfx => status,
+        _ if named => status,
+        _ => Status::BadRequest,
+    }
 }
 
 fn numberless_response(
@@ -184,7 +189,7 @@ fn numberless_response(
         reason) }
 {
     let ask = query.ask(alloc)?;
-    let status = numberless_status(names_work(&ask.citation), status);
+    let status = numberless_status(query.representation, names_work(&ask.citation), status);
     let mut body = Vec::new(alloc);
     put_numberless(alloc, &mut body, site, query, &ask, reason)?;
     Ok(Response::new(status, query.representation, body))

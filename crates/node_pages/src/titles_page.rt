@@ -156,9 +156,11 @@ fn put_body(
         ≡ out.old.items ++ titles_body site.now representation ask.now walk.now) }
 {
     match representation {
-        Representation::Text => put_titles_text(out, walk),
+        Representation::Text | Representation::Sfx => put_titles_text(out, walk),
         Representation::Json => put_titles_json(out, ask, walk),
-        Representation::Html => put_titles_page(out, site, ask.text(), walk),
+        Representation::Html | Representation::Fragment => {
+            put_titles_page(out, site, ask.text(), walk)
+        }
     }
 }
 

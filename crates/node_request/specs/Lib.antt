@@ -1,4 +1,5 @@
 pub mod Representations
+pub mod SfxQueries
 pub mod Routes
 pub mod FoundRequests
 pub mod FetchRequests

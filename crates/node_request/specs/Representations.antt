@@ -1,5 +1,5 @@
 -- Which representation a request asks for (RFC 9110, sections 12.4.2 and 12.5.1).
-use Rattle.std.specs.Prelude.{ℕ, ◌+◌, ◌-◌, ◌*◌, ◌==◌, ◌&&◌, nat_le, if◌then◌else◌, List, [], ◌∷◌, length, codes, slice_get, Option, Some, None}
+use Rattle.std.specs.Prelude.{ℕ, ◌+◌, ◌-◌, ◌*◌, ◌==◌, ◌&&◌, nat_le, Bool, true, false, if◌then◌else◌, is_some, List, [], ◌∷◌, length, codes, slice_get, Option, Some, None}
 use Rattle.std.specs.List.{list_all}
 use Rattle.std.specs.Option.{option_and_then, option_map_or}
 use Rattle.std.specs.Char.{is_ascii_digit}
@@ -10,7 +10,10 @@ use Rattle.httparse.specs.Grammar.{RequestHead}
 use Rattle.feed_http_heads.specs.Fields.{values_named, only}
 use Rattle.feed_bytes.specs.Parts.{parts_at}
 use Rattle.node_request.specs.declared.representation.Representation.{Representation}
-use Rattle.node_request.specs.declared.representation.Representation.TheVariants.{Text, Json, Html}
+use Rattle.node_request.specs.declared.representation.Representation.TheVariants.{Text, Json, Html, Fragment, Sfx}
+use Rattle.node_request.specs.declared.route.Route.{Route}
+use Rattle.node_request.specs.declared.route.Route.TheVariants as route
+use Rattle.node_request.specs.SfxQueries.{sfx_form_in}
 
 -- the first, or otherwise the second
 abbrev pub or_else : {A : Type 0} → Option A → Option A → Option A
@@ -84,23 +87,40 @@ preferred_in value = most_preferred
 abbrev pub accepted_representation : RequestHead → Representation
 accepted_representation head = option_map_or preferred_in (only (values_named (codes "accept") head.fields)) Text
 
--- the representation that a field of a query names
-abbrev pub format_in : List ℕ → Option Representation
-format_in piece =
+-- the representation that a field of a query names on any route
+abbrev pub common_format_in : List ℕ → Option Representation
+common_format_in piece =
     if bytes_eq piece (codes "format=text") then Some Text
     else (if bytes_eq piece (codes "format=json") then Some Json
     else (if bytes_eq piece (codes "format=html") then Some Html
     else None))
 
+-- the representation that a field names which only hits have
+abbrev pub hits_format_in : List ℕ → Option Representation
+hits_format_in piece =
+    if bytes_eq piece (codes "format=fragment") then Some Fragment
+    else (if is_some (sfx_form_in piece) then Some Sfx
+    else None)
+
+-- the representation that a field names, of a response that has hits or not; any other field is ignored
+abbrev pub format_in : Bool → List ℕ → Option Representation
+format_in hits piece = or_else (common_format_in piece) (if hits then hits_format_in piece else None)
+
 -- the representation that the first such field names
-abbrev pub first_format : List (List ℕ) → Option Representation
-first_format [] = None
-first_format (piece ∷ pieces) = or_else (format_in piece) (first_format pieces)
+abbrev pub first_format : Bool → List (List ℕ) → Option Representation
+first_format hits [] = None
+first_format hits (piece ∷ pieces) = or_else (format_in hits piece) (first_format hits pieces)
 
 -- the representation that a query names, whose fields are separated by `&`
-abbrev pub format_of : List ℕ → Option Representation
-format_of query = first_format (parts_at 38 query)
+abbrev pub format_of : Bool → List ℕ → Option Representation
+format_of hits query = first_format hits (parts_at 38 query)
 
--- the representation for a request with this query
-abbrev pub representation_of : List ℕ → RequestHead → Representation
-representation_of query head = option_map_or (λ named. named) (format_of query) (accepted_representation head)
+-- the routes whose responses have hits
+abbrev pub has_hits : Route → Bool
+has_hits route.Resolve = true
+has_hits route.Package = true
+has_hits other = false
+
+-- the representation for a request of a route with this query
+abbrev pub representation_of : Route → List ℕ → RequestHead → Representation
+representation_of route query head = option_map_or (λ named. named) (format_of (has_hits route) query) (accepted_representation head)

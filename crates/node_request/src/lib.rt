@@ -10,6 +10,7 @@ mod host;
 mod received;
 mod representation;
 mod route;
+mod sfx_query;
 mod sites_target;
 
 pub use authorization::{FetchPolicy, is_authorized};
@@ -20,4 +21,5 @@ pub use host::{host_of, other_fields_do_not_count, whole_target_decides};
 pub use received::{ParsedRequest, ReceivedRequest};
 pub use representation::{Representation, accepted_representation, representation_of};
 pub use route::{Route, is_unsupported_method, package_in, path_in, query_in, route_at};
+pub use sfx_query::{SfxOptions, sfx_options_in};
 pub use sites_target::{SitesRequest, sites_query, sites_request, sites_to_read};

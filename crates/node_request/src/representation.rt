@@ -7,8 +7,11 @@ ghost use Rattle.feed_http_heads.specs.Fields.{AreWithin, AreFieldsOf};
 ghost use Rattle.node_request.specs.Representations.{digit_at, thousandths, fraction, weight_value};
 ghost use Rattle.node_request.specs.Representations.{weight_of, weight_in, weight_under, type_weight};
 ghost use Rattle.node_request.specs.Representations.{most_preferred, preferred_in, accepted_representation};
-ghost use Rattle.node_request.specs.Representations.{format_in, format_of, representation_of};
+ghost use Rattle.node_request.specs.Representations.{common_format_in, format_in, format_of, has_hits};
+ghost use Rattle.node_request.specs.Representations.{hits_format_in, representation_of};
 
+use crate::route::Route;
+use crate::sfx_query::sfx_form_in;
 use feed_bytes::{split_once, strip_prefix, trim_spaces};
 use feed_http_heads::Fields;
 
@@ -21,6 +24,10 @@ pub enum Representation {
     Json,
     /// `text/html`.
     Html,
+    /// `text/html` without the frame of a page, for a page of another site. Only hits have it.
+    Fragment,
+    /// `application/xml`, as SFX replies. Only hits have it.
+    Sfx,
 }
 
 fn digit_at(digits: &[u8], place: usize) -> u16
@@ -169,8 +176,8 @@ pub fn accepted_representation(fields: &Fields<'_>) -> Representation
     }
 }
 
-fn format_in(piece: &[u8]) -> Option<Representation>
-    ensures { result ≡ format_in piece.now }
+fn common_format_in(piece: &[u8]) -> Option<Representation>
+    ensures { result ≡ common_format_in piece.now }
 {
     if piece == b"format=text".as_slice() {
         Some(Representation::Text)
@@ -183,26 +190,54 @@ fn format_in(piece: &[u8]) -> Option<Representation>
     }
 }
 
-fn format_of(query: &[u8]) -> Option<Representation>
-    ensures { result ≡ format_of query.now }
+fn hits_format_in(piece: &[u8]) -> Option<Representation>
+    ensures { result ≡ hits_format_in piece.now }
+{
+    if piece == b"format=fragment".as_slice() {
+        Some(Representation::Fragment)
+    } else if sfx_form_in(piece).is_some() {
+        Some(Representation::Sfx)
+    } else {
+        None
+    }
+}
+
+fn format_in(hits: bool, piece: &[u8]) -> Option<Representation>
+    ensures { result ≡ format_in hits piece.now }
+{
+    match common_format_in(piece) {
+        Some(format) => Some(format),
+        None if hits => hits_format_in(piece),
+        None => None,
+    }
+}
+
+fn format_of(hits: bool, query: &[u8]) -> Option<Representation>
+    ensures { result ≡ format_of hits query.now }
 {
     let mut rest = query;
     while let Some((piece, more)) = split_once(rest, b'&') {
-        if let Some(format) = format_in(piece) {
+        if let Some(format) = format_in(hits, piece) {
             return Some(format);
         }
         rest = more;
     }
-    format_in(rest)
+    format_in(hits, rest)
 }
 
-/// Returns the representation that a query names, or otherwise that of the Accept field.
-pub fn representation_of(query: &[u8], fields: &Fields<'_>) -> Representation
+fn has_hits(route: Route) -> bool
+    ensures { result ≡ has_hits route }
+{
+    matches!(route, Route::Resolve | Route::Package)
+}
+
+/// Returns the representation that a query names on a route, or otherwise that of the Accept field.
+pub fn representation_of(route: Route, query: &[u8], fields: &Fields<'_>) -> Representation
     requires { AreWithin fields.now }
     ensures { (head : RequestHead) → AreFieldsOf fields.now head.fields
-        → result ≡ representation_of query.now head }
+        → result ≡ representation_of route query.now head }
 {
-    match format_of(query) {
+    match format_of(has_hits(route), query) {
         Some(format) => format,
         None => accepted_representation(fields),
     }

@@ -11,8 +11,9 @@ use Rattle.feed_http_heads.specs.Fields.{values_named, only, has_any}
 use Rattle.feed_http_heads.specs.Requests.{lacks_host, is_get, is_head}
 use Rattle.feed_http_heads.specs.Targets.{origin_form}
 use Rattle.node_request.specs.Conditions.{has_tag, names_tag}
-use Rattle.node_request.specs.Representations.{accepted_representation, representation_of, preferred_in, format_of}
+use Rattle.node_request.specs.Representations.{accepted_representation, representation_of, preferred_in, format_of, has_hits}
 use Rattle.node_request.specs.Routes.{query_in, route_of}
+use Rattle.node_request.specs.declared.route.Route.{Route}
 use Rattle.node_request.specs.declared.representation.Representation.TheVariants.{Text}
 use Rattle.node_response.specs.Responses.{ResponseValue, with_tag, not_modified, is_good}
 use Rattle.node_response.specs.Tags.{SiteValue}
@@ -72,8 +73,8 @@ no_tag tag head = ap (λ vs. option_map_or (names_tag tag) (only vs) false) (non
 same_accepted : (head : RequestHead) → accepted_representation (without_condition head) ≡ accepted_representation head
 same_accepted head = ap (λ vs. option_map_or preferred_in (only vs) Text) (values_stay (codes "accept") refl head.fields)
 
-same_representation : (query : List ℕ) (head : RequestHead) → representation_of query (without_condition head) ≡ representation_of query head
-same_representation query head = ap (λ r. option_map_or (λ named. named) (format_of query) r) (same_accepted head)
+same_representation : (r : Route) (query : List ℕ) (head : RequestHead) → representation_of r query (without_condition head) ≡ representation_of r query head
+same_representation r query head = ap (λ a. option_map_or (λ named. named) (format_of (has_hits r) query) a) (same_accepted head)
 
 same_host : (head : RequestHead) → lacks_host (without_condition head) ≡ lacks_host head
 same_host head = ap (λ vs. (head.minor == 1) && is_none (only vs)) (values_stay (codes "host") refl head.fields)
@@ -83,7 +84,7 @@ same_coded head = ap (λ (vs : List (List ℕ)). has_any vs) (values_stay (codes
 
 same_target : (head : RequestHead) (actives : Sited) → query_answer (without_condition head) actives ≡ query_answer head actives
 same_target head actives = same_parts (route_of head) (without_condition head) head (path_of head) (target_query head) actives
-    (same_representation (target_query head) head) (same_accepted head)
+    (same_representation (route_of head) (target_query head) head) (same_accepted head)
 
 same_plain : (head : RequestHead) (body : List ℕ) (actives : Sited) → (is_get head || is_head head) ≡ true
     → untagged_response (without_condition head) body actives ≡ untagged_response head body actives
@@ -135,7 +136,7 @@ tag_of_good site head body actives tagged =
     read_validated site (without_condition head) body actives tagged
     ∙ ap (λ h. validated_by h (tag_asked site actives (without_condition head)) site.max_age (untagged_response (without_condition head) body (sited site actives))) (no_tag _ head)
     ∙ ap (λ t. validated_by false t site.max_age (untagged_response (without_condition head) body (sited site actives)))
-    (ap (tag_of site actives) (same_representation (query_in (origin_form head.target)) head))
+    (ap (tag_of site actives) (same_representation (route_of head) (query_in (origin_form head.target)) head))
     ∙ ap (validated_by false tag site.max_age) (same_plain head body (sited site actives) (and_left (is_get head || is_head head) (has_validator (route_of head)) tagged)) in
     let stated : tag_to site actives head ≡ tag = ap (λ (b : Bool). if b then tag else []) tagged in
     read_validated site head body actives tagged

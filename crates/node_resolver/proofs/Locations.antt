@@ -16,7 +16,7 @@ use Rattle.node_request.specs.Forms.{form_of}
 use Rattle.node_request.specs.declared.form.FormFault.{FormFault}
 use Rattle.node_request.specs.declared.form.FormFault.TheVariants as fault
 use Rattle.node_request.specs.declared.representation.Representation.{Representation}
-use Rattle.node_request.specs.declared.representation.Representation.TheVariants.{Text, Json, Html}
+use Rattle.node_request.specs.declared.representation.Representation.TheVariants.{Text, Json, Html, Fragment, Sfx}
 use Rattle.node_request.specs.declared.route.Route.{Route}
 use Rattle.node_request.specs.declared.route.Route.TheVariants as route
 use Rattle.node_response.specs.Responses.{ResponseValue, refusal, redirect_to, response_with}
@@ -90,7 +90,7 @@ unasked_located : (site : site_file.SiteValue) (query : List ℕ) (code : Status
     → IsLocated (unasked_response site query code representation ask why)
 unasked_located site query code representation ask why =
     let read : ResponseValue =
-    response_with (numberless_status (names_work ask.citation) code) representation (numberless_body site query (names_work ask.citation) representation ask why) in
+    response_with (numberless_status representation (names_work ask.citation) code) representation (numberless_body site query (names_work ask.citation) representation ask why) in
     let refused : ResponseValue = error_response site query status.BadRequest representation advice.TooManyNumbers (reason_text why) in
     either_located (asks_for_form query representation) (response_with status.Good Html (form_page site))
     (if is_numberless why then read else refused) plain
@@ -110,6 +110,8 @@ pub sole_hit : (representation : Representation) (actives : Sited) (query : Sear
     → (representation ≡ Html) × (actives.library.redirects_sole_hit ≡ true) × IsSoleHit (looks_among query actives) url
 sole_hit Text actives query url e = absurd (cc)
 sole_hit Json actives query url e = absurd (cc)
+sole_hit Fragment actives query url e = absurd (cc)
+sole_hit Sfx actives query url e = absurd (cc)
 sole_hit Html actives query url e =
     let wanted = sole_wanted actives.library.redirects_sole_hit (sole_link (tally_among query actives)) url e in
     (refl, wanted.0, (sole_is (looks_among query actives) url).0 wanted.1)
@@ -172,17 +174,19 @@ titles_located site Html actives (Err TooLong) = plain
 titles_located site Html actives (Err BadStart) = plain
 titles_located site Text actives (Err why) = plain
 titles_located site Json actives (Err why) = plain
+titles_located site Fragment actives (Err why) = plain
+titles_located site Sfx actives (Err why) = plain
 
 route_located : (r : Route) (head : RequestHead) (path query : List ℕ) (actives : Sited) → IsLocated (route_response r head path query actives)
 route_located route.Home head path query actives = plain
 route_located route.Status head path query actives = plain
-route_located route.Resolve head path query actives = resolve_located (representation_of query head) query actives
+route_located route.Resolve head path query actives = resolve_located (representation_of route.Resolve query head) query actives
 route_located route.Package head path query actives =
-    package_located (representation_of query head) query actives (error_response actives.library query status.NotFound (representation_of query head) advice.NoList (codes "NoRelease"))
+    package_located (representation_of route.Package query head) query actives (error_response actives.library query status.NotFound (representation_of route.Package query head) advice.NoList (codes "NoRelease"))
     (position (is_of (package_in path)) actives.actives) plain
 route_located route.Go head path query actives = go_located (accepted_representation head) query actives
 route_located route.Titles head path query actives =
-    titles_located actives.library (representation_of query head) actives.actives (title_searches.ask_of query)
+    titles_located actives.library (representation_of route.Titles query head) actives.actives (title_searches.ask_of query)
 route_located other head path query actives = plain
 
 target_located : (head : RequestHead) (query : List ℕ) (actives : Sited) → IsLocated (target_response head query actives)

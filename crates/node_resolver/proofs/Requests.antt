@@ -16,7 +16,7 @@ use Rattle.feed_openurl.specs.declared.fault.OpenUrlFault.{OpenUrlFault}
 use Rattle.node_request.specs.FoundRequests.{BeginsWith}
 use Rattle.node_request.specs.FetchRequests.{name_at, name_to_fetch}
 use Rattle.node_response.specs.FetchResponses.{IsFetchMessage}
-use Rattle.node_request.specs.Representations.{accepted_representation, representation_of, preferred_in, format_of}
+use Rattle.node_request.specs.Representations.{accepted_representation, representation_of, preferred_in, format_of, has_hits}
 use Rattle.node_request.specs.Forms.{form_of, form_in, form_by, is_form_post, takes_form, has_form_type, stated_length}
 use Rattle.node_request.specs.declared.form.FormFault.{FormFault}
 use Rattle.node_request.specs.declared.form.FormFault.TheVariants as fault
@@ -24,7 +24,7 @@ use Rattle.node_request.specs.declared.representation.Representation.{Representa
 use Rattle.node_request.specs.Routes.{path_in, query_in, route_at, route_of, package_in, is_unsupported_method}
 use Rattle.node_resolver.specs.Status.{status_body}
 use Rattle.node_pages.specs.HomePage.{home_page}
-use Rattle.node_request.specs.declared.representation.Representation.TheVariants.{Text, Json, Html}
+use Rattle.node_request.specs.declared.representation.Representation.TheVariants.{Text, Json, Html, Fragment, Sfx}
 use Rattle.node_pages.specs.TitlesPage.{titles_response}
 use Rattle.node_request.specs.declared.route.Route.{Route}
 use Rattle.node_request.specs.declared.route.Route.TheVariants as route
@@ -113,7 +113,7 @@ read_reply head body actives read =
 pub answered_to : (head : RequestHead) (actives : Sited) → lacks_host head ≡ false → has_coded_body head ≡ false → is_tagged head ≡ true
     → IsAnswered (route_of head) (path_of head) (target_query head) actives → IsAnsweredTo head actives
 answered_to head actives host plain tagged answered body =
-    subst (IsGoodIn (representation_of (query_in (origin_form head.target)) head))
+    subst (IsGoodIn (representation_of (route_of head) (query_in (origin_form head.target)) head))
     (sym (read_reply head body actives (and_left (is_get head || is_head head) (has_validator (route_of head)) tagged)
     ∙ ap (λ l. response_by l false false (has_coded_body head) (query_answer head actives)) host
     ∙ ap (λ c. response_by false false false c (query_answer head actives)) plain))
@@ -126,13 +126,15 @@ answered_to head actives host plain tagged answered body =
 -- the response to each request of a target whose query is valid
 pub status_answered : (r : Route) (path query : List ℕ) (actives : Sited) → r ≡ route.Status → IsAnswered r path query actives
 status_answered r path query actives is head =
-    subst (λ o. IsGoodIn (representation_of query head) (route_response o head path query actives)) (sym is) (refl, refl)
+    subst (λ o. IsGoodIn (representation_of o query head) (route_response o head path query actives)) (sym is) (refl, refl)
 
 -- a library that redirects no browser
 shown : (representation : Representation) (text : List ℕ) (actives : Sited) (query : SearchValue) → actives.library.redirects_sole_hit ≡ false
     → IsGoodIn representation (found_response representation text actives query)
 shown Text text actives query off = (refl, refl)
 shown Json text actives query off = (refl, refl)
+shown Fragment text actives query off = (refl, refl)
+shown Sfx text actives query off = (refl, refl)
 shown Html text actives query off =
     let none : sole_redirect Html actives query ≡ None = ap (λ b. if b then sole_link (tally_among query actives) else None) off in
     subst (λ (o : Option (List ℕ)). IsGoodIn Html (option_map_or redirect_to o (hits_response status.Good Html text actives query))) (sym none) (refl, refl)
@@ -146,8 +148,8 @@ query_answered representation text actives (Err why) query off is = absurd (cc)
 pub resolve_answered : (r : Route) (path query : List ℕ) (actives : Sited) (search : SearchValue) → r ≡ route.Resolve
     → actives.library.redirects_sole_hit ≡ false → asked_of query ≡ Ok search → IsAnswered r path query actives
 resolve_answered r path query actives search is off valid head =
-    subst (λ o. IsGoodIn (representation_of query head) (route_response o head path query actives)) (sym is)
-    (query_answered (representation_of query head) query actives (asked_of query) search off valid)
+    subst (λ o. IsGoodIn (representation_of o query head) (route_response o head path query actives)) (sym is)
+    (query_answered (representation_of route.Resolve query head) query actives (asked_of query) search off valid)
 
 placed_answered : (representation : Representation) (text : List ℕ) (actives : Sited) (query : SearchValue) (o : Option ℕ) (other : ResponseValue) → is_some o ≡ true
     → actives.library.redirects_sole_hit ≡ false → asked_of text ≡ Ok query → IsGoodIn representation (option_map_or (resolve_response_at representation text actives) o other)
@@ -158,14 +160,14 @@ pub package_answered : (r : Route) (path query : List ℕ) (actives : Sited) (se
     → is_some (position (is_of (package_in path)) actives.actives) ≡ true → actives.library.redirects_sole_hit ≡ false → asked_of query ≡ Ok search
     → IsAnswered r path query actives
 package_answered r path query actives search is some off valid head =
-    subst (λ o. IsGoodIn (representation_of query head) (route_response o head path query actives)) (sym is)
-    (placed_answered (representation_of query head) query actives search (position (is_of (package_in path)) actives.actives) _ some off valid)
+    subst (λ o. IsGoodIn (representation_of o query head) (route_response o head path query actives)) (sym is)
+    (placed_answered (representation_of route.Package query head) query actives search (position (is_of (package_in path)) actives.actives) _ some off valid)
 
 -- ---- HEAD
 
 -- a response depends on the fields only by the representation that they prefer
 pub same_parts : (r : Route) (head other : RequestHead) (path query : List ℕ) (actives : Sited)
-    → representation_of query head ≡ representation_of query other → accepted_representation head ≡ accepted_representation other
+    → representation_of r query head ≡ representation_of r query other → accepted_representation head ≡ accepted_representation other
     → route_response r head path query actives ≡ route_response r other path query actives
 same_parts route.Home head other path query actives wants accepts = refl
 same_parts route.Status head other path query actives wants accepts = rw wants refl
@@ -354,7 +356,7 @@ answer_by route.Titles named accepted path query actives = titles_response activ
 answer_by other_route named accepted path query actives = error_response actives.library query status.NotFound accepted advice.NoPage (codes "NoTarget")
 
 answered_by : (r : Route) (head : RequestHead) (path query : List ℕ) (actives : Sited)
-    → route_response r head path query actives ≡ answer_by r (representation_of query head) (accepted_representation head) path query actives
+    → route_response r head path query actives ≡ answer_by r (representation_of r query head) (accepted_representation head) path query actives
 answered_by route.Home head path query actives = refl
 answered_by route.Status head path query actives = refl
 answered_by route.Resolve head path query actives = refl
@@ -368,10 +370,10 @@ same_fields : (r : Route) (get post : RequestHead) (path query : List ℕ) (acti
     → route_response r get path query actives ≡ route_response r post path query actives
 same_fields r get post path query actives fields =
     let accepts : accepted_representation get ≡ accepted_representation post = ap (λ fs. option_map_or preferred_in (only (values_named (codes "accept") fs)) Text) fields in
-    let names : representation_of query get ≡ representation_of query post = ap (λ a. option_map_or (λ named. named) (format_of query) a) accepts in
+    let names : representation_of r query get ≡ representation_of r query post = ap (λ a. option_map_or (λ named. named) (format_of (has_hits r) query) a) accepts in
     answered_by r get path query actives
     ∙ ap (λ a. answer_by r a (accepted_representation get) path query actives) names
-    ∙ ap (λ a. answer_by r (representation_of query post) a path query actives) accepts
+    ∙ ap (λ a. answer_by r (representation_of r query post) a path query actives) accepts
     ∙ sym (answered_by r post path query actives)
 
 -- a POST has no tag, and is not a preflight

@@ -16,27 +16,30 @@ use Rattle.node_request.specs.declared.route.Route.TheVariants as route
 
 -- the answer of all packages
 pub resolve_requested : (a b : Route) (representation : Representation) (path query : List ℕ) (head : RequestHead) (actives : Sited)
-    → a ≡ route.Resolve → a ≡ b → representation ≡ representation_of query head
+    → a ≡ route.Resolve → a ≡ b → representation ≡ representation_of b query head
     → resolve_response representation query actives ≡ route_response b head path query actives
 resolve_requested a b representation path query head actives is of wants =
     ap (λ (r : Representation). resolve_response r query actives) wants
+    ∙ ap (λ (o : Route). resolve_response (representation_of o query head) query actives) (sym of ∙ is)
     ∙ sym (ap (λ (o : Route). route_response o head path query actives) (sym of ∙ is))
 
 -- the answer of one
 pub package_requested : (a b : Route) (representation : Representation) (path other query package_name : List ℕ) (head : RequestHead) (actives : Sited)
-    → a ≡ route.Package → a ≡ b → package_name ≡ package_in path → path ≡ other → representation ≡ representation_of query head
+    → a ≡ route.Package → a ≡ b → package_name ≡ package_in path → path ≡ other → representation ≡ representation_of b query head
     → package_response representation package_name query actives ≡ route_response b head other query actives
 package_requested a b representation path other query package_name head actives is of named same wants =
     ap (λ (r : Representation). package_response r package_name query actives) wants
-    ∙ ap (λ (p : List ℕ). package_response (representation_of query head) p query actives) (named ∙ ap package_in same)
+    ∙ ap (λ (p : List ℕ). package_response (representation_of b query head) p query actives) (named ∙ ap package_in same)
+    ∙ ap (λ (o : Route). package_response (representation_of o query head) (package_in other) query actives) (sym of ∙ is)
     ∙ sym (ap (λ (o : Route). route_response o head other query actives) (sym of ∙ is))
 
 -- the titles that contain a text
 pub titles_requested : (a b : Route) (representation : Representation) (path query : List ℕ) (head : RequestHead) (actives : Sited)
-    → a ≡ route.Titles → a ≡ b → representation ≡ representation_of query head
+    → a ≡ route.Titles → a ≡ b → representation ≡ representation_of b query head
     → titles_response actives.library representation query actives.actives ≡ route_response b head path query actives
 titles_requested a b representation path query head actives is of wants =
     ap (λ (r : Representation). titles_response actives.library r query actives.actives) wants
+    ∙ ap (λ (o : Route). titles_response actives.library (representation_of o query head) query actives.actives) (sym of ∙ is)
     ∙ sym (ap (λ (o : Route). route_response o head path query actives) (sym of ∙ is))
 
 -- a route without a response of its own

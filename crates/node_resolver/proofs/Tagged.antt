@@ -9,7 +9,7 @@ use Rattle.feed_http_heads.specs.Targets.{origin_form}
 use Rattle.feed_http_heads.specs.Requests.{lacks_host}
 use Rattle.node_request.specs.Conditions.{has_tag}
 use Rattle.node_request.specs.Representations.{representation_of}
-use Rattle.node_request.specs.Routes.{query_in}
+use Rattle.node_request.specs.Routes.{query_in, route_of}
 use Rattle.node_request.specs.declared.representation.Representation.{Representation}
 use Rattle.node_request.specs.declared.representation.Representation.TheVariants.{Text}
 use Rattle.node_response.specs.Responses.{ResponseValue, response_with, with_tag, not_modified, is_good}
@@ -25,7 +25,7 @@ use Rattle.node_resolver.proofs.Locations.{IsLocated, nowhere, response_located}
 
 -- the tag of what a request asks for, whether it has one or not
 abbrev pub tag_asked : SiteValue → Dated → RequestHead → List ℕ
-tag_asked site actives head = tag_of site actives (representation_of (query_in (origin_form head.target)) head)
+tag_asked site actives head = tag_of site actives (representation_of (route_of head) (query_in (origin_form head.target)) head)
 
 -- a response by whether its target has a tag, and by the status of a preflight
 abbrev pub final_by : Bool → Option Status → RequestHead → List ℕ → ℕ → ResponseValue → ResponseValue
@@ -105,11 +105,11 @@ known_response false has tag max_age representation reply is names good = absurd
 
 -- the same for a request with a tag, from what the code looks at
 pub known_validated : (head : RequestHead) (tag : List ℕ) (max_age : ℕ) (body : List ℕ) (actives : Sited) (reply : ResponseValue) (representation : Representation) (is has : Bool)
-    → is ≡ true → is ≡ is_tagged head → has ≡ true → has ≡ has_tag tag head → representation ≡ representation_of (query_in (origin_form head.target)) head
+    → is ≡ true → is ≡ is_tagged head → has ≡ true → has ≡ has_tag tag head → representation ≡ representation_of (route_of head) (query_in (origin_form head.target)) head
     → (is_tagged head ≡ true → IsAnsweredTo head actives) → reply ≡ not_modified tag max_age representation
     → reply ≡ validated head tag max_age (untagged_response head body actives)
 known_validated head tag max_age body actives reply representation is has tags tagged holds named wants answered given =
     let true_tag : is_tagged head ≡ true = sym tagged ∙ tags in
     given ∙ ap (not_modified tag max_age) wants
-    ∙ known_response (is_tagged head) (has_tag tag head) tag max_age (representation_of (query_in (origin_form head.target)) head) (untagged_response head body actives) true_tag (sym named ∙ holds)
+    ∙ known_response (is_tagged head) (has_tag tag head) tag max_age (representation_of (route_of head) (query_in (origin_form head.target)) head) (untagged_response head body actives) true_tag (sym named ∙ holds)
     (answered true_tag body)

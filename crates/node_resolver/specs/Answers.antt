@@ -7,7 +7,7 @@ use Rattle.node_site.specs.Site as site_file
 use Rattle.feed_answer.specs.QueryValue.{QueryValue}
 use Rattle.feed_releases.specs.Actives.{ActiveValue}
 use Rattle.node_request.specs.declared.representation.Representation.{Representation}
-use Rattle.node_request.specs.declared.representation.Representation.TheVariants.{Text, Json, Html}
+use Rattle.node_request.specs.declared.representation.Representation.TheVariants.{Text, Json, Html, Fragment, Sfx}
 use Rattle.node_hits.specs.Hits.{ReleaseHitValue}
 use Rattle.node_hits.specs.Looks.{found_in, looks_in}
 use Rattle.node_hits.specs.AnswerJson.{answer_json}
@@ -15,6 +15,7 @@ use Rattle.node_hits.specs.QueryFacts.{ask_of}
 use Rattle.node_hits.specs.Searches.{SearchValue, in_scope}
 use Rattle.node_hits.specs.declared.search.Scope.TheVariants as scope
 use Rattle.node_hits.specs.HitsText.{release_text}
+use Rattle.node_hits.specs.Sfx.{no_targets}
 use Rattle.node_hits.specs.Tallies.{TallyValue, tally_of}
 use Rattle.node_pages.specs.HitsPage.{hits_page}
 use Rattle.node_response.specs.Tags.{SiteValue}
@@ -107,3 +108,6 @@ answers_body Text text search actives = texts_behind actives.library actives.tod
 answers_body Json text search actives = answer_json (ask_of text) [] (tally_among search actives) (also_among search actives)
 answers_body Html text search actives =
     hits_page actives.library text (ask_of text) (tally_among search actives) (also_among search actives) (others_among search actives)
+answers_body Fragment text search actives =
+    hits_page actives.library text (ask_of text) (tally_among search actives) (also_among search actives) (others_among search actives)
+answers_body Sfx text search actives = no_targets

@@ -11,7 +11,7 @@ use Rattle.node_request.specs.Routes.{route_of, query_in}
 use Rattle.node_request.specs.declared.representation.Representation.{Representation}
 use Rattle.node_request.specs.declared.representation.Representation.TheVariants.{Html}
 use Rattle.node_request.specs.declared.route.Route.TheVariants.{Go}
-use Rattle.node_response.specs.Responses.{ResponseTextValue, is_page, of_site, response_of}
+use Rattle.node_response.specs.Responses.{ResponseTextValue, is_document, of_site, response_of}
 use Rattle.node_response.specs.Messages.{IsMessage, IsMessageFor}
 use Rattle.node_response.specs.declared.status.Status.TheVariants as status
 use Rattle.node_hits.specs.Lookups.{asked_of}
@@ -120,8 +120,8 @@ FormIsGet =
     → IsResponse site bytes body keeps actives response
     → (response ≡ response_of keeps false (of_site site.library.redirects_sole_hit (untagged_response get other (sited site actives)))) × ((untagged_response get other (sited site actives)).tag ≡ [])
 
--- the response to a request is UTF-8 if it is a page, whatever the query, the lists and the site file have
+-- the response to a request is UTF-8 if it is a document of HTML or XML or a fragment of one, whatever the query, the lists and the site file have
 abbrev pub EveryPageIsUtf8 : Type 0
 EveryPageIsUtf8 =
     (site : SiteValue) (head : RequestHead) (body : List ℕ) (actives : Dated)
-    → is_page (site_response site head body actives).representation ≡ true → IsUtf8 (site_response site head body actives).body
+    → is_document (site_response site head body actives).representation ≡ true → IsUtf8 (site_response site head body actives).body

@@ -11,6 +11,7 @@ use Rattle.node_request.specs.FoundRequests.{BeginsWith}
 use Rattle.node_request.specs.FetchRequests.{FetchPolicyValue, name_to_fetch}
 use Rattle.node_request.specs.Hosts.{host_of}
 use Rattle.node_request.specs.Representations.{representation_of}
+use Rattle.node_request.specs.Routes.{route_of}
 use Rattle.node_request.specs.declared.representation.Representation.TheVariants.{Text}
 use Rattle.node_response.specs.Responses.{ResponseTextValue, refusal, response_of}
 use Rattle.node_response.specs.declared.status.Status.TheVariants as status
@@ -31,7 +32,7 @@ hostless_response keeps head = response_of keeps (is_head head) (refusal status.
 -- the response to a request for a host without a site (RFC 9110, section 15.5.20), in the representation that it asks for
 abbrev pub misdirected_response : Bool → RequestHead → ResponseTextValue
 misdirected_response keeps head =
-    response_of keeps (is_head head) (refusal status.Misdirected (representation_of (target_query head) head) (codes "NoSite"))
+    response_of keeps (is_head head) (refusal status.Misdirected (representation_of (route_of head) (target_query head) head) (codes "NoSite"))
 
 -- the response by the site of a host, if it has one
 abbrev pub hosted_response : Option SiteValue → Bool → Dated → RequestHead → List ℕ → ResponseTextValue

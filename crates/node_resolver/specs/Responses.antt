@@ -17,7 +17,7 @@ use Rattle.node_request.specs.declared.form.FormFault.TheVariants as fault
 use Rattle.node_request.specs.Representations.{accepted_representation, representation_of}
 use Rattle.node_request.specs.Routes.{path_in, query_in, route_of, package_in, is_unsupported_method}
 use Rattle.node_request.specs.declared.representation.Representation.{Representation}
-use Rattle.node_request.specs.declared.representation.Representation.TheVariants.{Text, Json, Html}
+use Rattle.node_request.specs.declared.representation.Representation.TheVariants.{Text, Json, Html, Fragment, Sfx}
 use Rattle.node_request.specs.declared.route.Route.{Route}
 use Rattle.node_request.specs.declared.route.Route.TheVariants as route
 use Rattle.node_response.specs.Responses.{ResponseValue, ResponseTextValue, response_with, redirect_to, refusal, of_site, response_of, bad_head_response}
@@ -54,6 +54,8 @@ hits_response code representation text actives search = response_with code repre
 abbrev pub sole_redirect : Representation → Sited → SearchValue → Option (List ℕ)
 sole_redirect Text actives search = None
 sole_redirect Json actives search = None
+sole_redirect Fragment actives search = None
+sole_redirect Sfx actives search = None
 sole_redirect Html actives search =
     if actives.library.redirects_sole_hit then sole_link (tally_among search actives) else None
 
@@ -116,12 +118,12 @@ go_response representation text actives =
 abbrev pub route_response : Route → RequestHead → List ℕ → List ℕ → Sited → ResponseValue
 route_response route.Home head path query actives = response_with status.Good Html (home_page actives.library actives.actives)
 route_response route.Status head path query actives =
-    response_with status.Good (representation_of query head) (status_body actives.library (representation_of query head) actives.actives)
-route_response route.Resolve head path query actives = resolve_response (representation_of query head) query actives
-route_response route.Package head path query actives = package_response (representation_of query head) (package_in path) query actives
+    response_with status.Good (representation_of route.Status query head) (status_body actives.library (representation_of route.Status query head) actives.actives)
+route_response route.Resolve head path query actives = resolve_response (representation_of route.Resolve query head) query actives
+route_response route.Package head path query actives = package_response (representation_of route.Package query head) (package_in path) query actives
 route_response route.Go head path query actives = go_response (accepted_representation head) query actives
 route_response route.Titles head path query actives =
-    titles_response actives.library (representation_of query head) query actives.actives
+    titles_response actives.library (representation_of route.Titles query head) query actives.actives
 route_response other head path query actives =
     error_response actives.library query status.NotFound (accepted_representation head) advice.NoPage (codes "NoTarget")
 

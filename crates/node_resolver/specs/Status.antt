@@ -7,7 +7,7 @@ use Rattle.json.specs.Json.{member, no_members, number, object}
 use Rattle.feed_kbart.specs.HoldingsValue.{HoldingsValue}
 use Rattle.feed_releases.specs.Actives.{ActiveValue}
 use Rattle.node_request.specs.declared.representation.Representation.{Representation}
-use Rattle.node_request.specs.declared.representation.Representation.TheVariants.{Text, Json, Html}
+use Rattle.node_request.specs.declared.representation.Representation.TheVariants.{Text, Json, Html, Fragment, Sfx}
 use Rattle.node_response.specs.JsonLists.{json_list}
 use Rattle.node_response.specs.Fragments.{joined}
 use Rattle.node_pages.specs.HomePage.{home_page}
@@ -28,11 +28,13 @@ counts_end holdings = joined (
 unfoldable pub active_object : ActiveValue → List ℕ
 active_object active = release_members active.name ++ counts_end active.holdings
 
--- the active releases; as a page, behind the form
+-- the active releases; as a page, behind the form; no query names the last two for them
 unfoldable pub status_body : site_file.SiteValue → Representation → List ActiveValue → List ℕ
 status_body site Text actives = flat_map active_line actives
 status_body site Json actives = json_list active_object actives
 status_body site Html actives = home_page site actives
+status_body site Fragment actives = home_page site actives
+status_body site Sfx actives = flat_map active_line actives
 
 -- the object that states an active release
 abbrev pub active_value : ActiveValue → json.Json

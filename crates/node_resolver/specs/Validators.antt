@@ -42,7 +42,7 @@ tag_of site actives representation =
 -- the tag of what a request asks for, if it has one
 abbrev pub tag_to : SiteValue → Dated → RequestHead → List ℕ
 tag_to site actives head =
-    if is_tagged head then tag_of site actives (representation_of (query_in (origin_form head.target)) head) else []
+    if is_tagged head then tag_of site actives (representation_of (route_of head) (query_in (origin_form head.target)) head) else []
 
 -- the response to a client that has the tag or not: a 200 has the tag, and becomes a 304 for a client that has it; any
 -- other response stays as it is

@@ -10,7 +10,8 @@ use crate::context::Context;
 use feed_answer::Query;
 use feed_releases::ActiveRelease;
 use node_hits::{
-    LibraryRelease, Lookup, ReceivedOpenUrl, Search, Tally, put_answer_json, put_release,
+    LibraryRelease, Lookup, ReceivedOpenUrl, Search, Tally, put_answer_json, put_no_targets,
+    put_release,
 };
 use node_pages::{Tallies, put_hits_page};
 use node_request::Representation;
@@ -193,6 +194,8 @@ pub(crate) fn put_counted<'a>(
         Representation::Text => put_texts(alloc, out, context, lookup),
         Representation::Json => put_json(alloc, out, query, context, lookup, &hits),
         Representation::Html => put_page(alloc, out, query, context, lookup, hits),
+        Representation::Fragment => put_page(alloc, out, query, context, lookup, hits),
+        Representation::Sfx => put_no_targets(out),
     }
 }
 
@@ -210,7 +213,7 @@ pub(crate) fn put_answer(
 {
     match query.representation {
         Representation::Text => put_texts(alloc, out, context, lookup),
-        Representation::Json | Representation::Html => {
+        _ => {
             let hits = tally_among(alloc, context, lookup)?;
             put_counted(alloc, out, query, context, lookup, hits)
         }

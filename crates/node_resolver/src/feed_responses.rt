@@ -319,7 +319,7 @@ fn feed_response<K: Keep>(
                 alloc,
                 feed,
                 activity,
-                representation_of(query, &request.fields()),
+                representation_of(parsed.route, query, &request.fields()),
             )
         }
         FeedTarget::End => end_response(alloc, is_authorized(token, request), is_busy),

@@ -3,6 +3,7 @@ ghost use Rattle.std.specs.Prelude.{◌≡◌};
 ghost use Rattle.httparse.specs.Grammar.{RequestHead};
 ghost use Rattle.feed_http_heads.specs.Requests.{HasHead};
 ghost use Rattle.node_request.specs.Representations.{representation_of};
+ghost use Rattle.node_request.specs.Routes.{route_of};
 ghost use Rattle.node_resolver.specs.Responses.{path_of, target_query};
 
 use feed_http_heads::origin_form;
@@ -19,7 +20,7 @@ pub(crate) struct ReaderRequest<'b> {
     ghost has_path: { (head : RequestHead) → HasHead parsed.request head → path.now ≡ path_of head },
     ghost has_query: { (head : RequestHead) → HasHead parsed.request head → query.now ≡ target_query head },
     ghost prefers: { (head : RequestHead) → HasHead parsed.request head
-        → representation ≡ representation_of (target_query head) head },
+        → representation ≡ representation_of (route_of head) (target_query head) head },
 }
 
 impl<'b> ReaderRequest<'b> {
@@ -33,7 +34,7 @@ impl<'b> ReaderRequest<'b> {
             parsed,
             path: path_in(target),
             query,
-            representation: representation_of(query, &parsed.request.fields()),
+            representation: representation_of(parsed.route, query, &parsed.request.fields()),
         }
     }
 }

@@ -9,6 +9,7 @@ ghost use Rattle.feed_model.specs.History.{History};
 ghost use Rattle.feed_model.specs.Content.{IsContent};
 ghost use Rattle.feed_releases.specs.Feeds.{recorded, releases_of};
 ghost use Rattle.node_request.specs.Representations.{accepted_representation, representation_of};
+ghost use Rattle.node_request.specs.Routes.{route_of};
 ghost use Rattle.node_hits.specs.Tallies.{sole_link};
 ghost use Rattle.node_pages.specs.TitlesPage.{titles_response};
 ghost use Rattle.node_response.specs.Responses.{of_site, redirect_to, response_with, response_of};
@@ -262,7 +263,7 @@ fn route_response(
     context: &Context<'_>,
 ) -> Result<Response, AllocError>
     ensures { IfOk result (λ reply. (head : RequestHead) → HasHead request.now.parsed.request head
-        → representation ≡ representation_of query.now head
+        → representation ≡ representation_of (route_of head) query.now head
         → reply ≡ target_response head query.now (sited_in context.now)) }
 {
     let asked = OpenUrlText {
@@ -351,7 +352,8 @@ fn form_response(
 {
     match form {
         Ok(_) => {
-            let representation = representation_of(body, &request.parsed.request.fields());
+            let fields = request.parsed.request.fields();
+            let representation = representation_of(request.parsed.route, body, &fields);
             route_response(alloc, request, body, representation, context)
         }
         Err(fault) => form_refusal(alloc, fault),

@@ -87,8 +87,8 @@ pub(crate) fn put_status(
         ≡ out.old.items ++ status_body site.now representation actives.now) }
 {
     match representation {
-        Representation::Text => put_lines(out, actives),
+        Representation::Text | Representation::Sfx => put_lines(out, actives),
         Representation::Json => put_json(out, actives),
-        Representation::Html => put_home_page(out, site, actives),
+        Representation::Html | Representation::Fragment => put_home_page(out, site, actives),
     }
 }

@@ -20,7 +20,7 @@ use Rattle.feed_bytes.proofs.Digits.{numerals}
 use Rattle.feed_http_heads.specs.Fields.{values_named, only}
 use Rattle.feed_http_heads.specs.Options.{lists, lacks_close, SaysWhetherItKeeps}
 use Rattle.node_request.specs.declared.representation.Representation.{Representation}
-use Rattle.node_request.specs.declared.representation.Representation.TheVariants.{Text, Json, Html}
+use Rattle.node_request.specs.declared.representation.Representation.TheVariants.{Text, Json, Html, Fragment, Sfx}
 use Rattle.node_response.specs.Responses.{ResponseValue, ResponseTextValue, status_code, reason_text, status_line, status_field}
 use Rattle.node_response.specs.Responses.{type_text, is_bodiless, response_head, response_body, response_of}
 use Rattle.node_response.specs.Laws.{NotModifiedIsHeadOfGood}
@@ -107,6 +107,9 @@ policy_pairs Json redirects = (codes "Access-Control-Allow-Origin", codes "*") �
 policy_pairs Html true =
     (codes "Content-Security-Policy", codes "default-src 'none'; style-src 'unsafe-inline'; form-action 'self' http: https:; base-uri 'none'") ∷ []
 policy_pairs Html false = (codes "Content-Security-Policy", codes "default-src 'none'; style-src 'unsafe-inline'; form-action 'self'; base-uri 'none'") ∷ []
+policy_pairs Fragment redirects =
+    (codes "Access-Control-Allow-Origin", codes "*") ∷ (codes "Content-Security-Policy", codes "default-src 'none'; form-action 'none'; base-uri 'none'") ∷ []
+policy_pairs Sfx redirects = (codes "Access-Control-Allow-Origin", codes "*") ∷ []
 
 abbrev last_pairs : Bool → Representation → Bool → Pairs
 last_pairs keeps representation redirects =
@@ -180,10 +183,14 @@ last_written true Text redirects = refl
 last_written true Json redirects = refl
 last_written true Html true = refl
 last_written true Html false = refl
+last_written true Fragment redirects = refl
+last_written true Sfx redirects = refl
 last_written false Text redirects = refl
 last_written false Json redirects = refl
 last_written false Html true = refl
 last_written false Html false = refl
+last_written false Fragment redirects = refl
+last_written false Sfx redirects = refl
 
 -- lines in five steps
 five_lines : (a b c d e : Pairs) (rest : List ℕ) → lines (a ++ (b ++ (c ++ (d ++ e)))) rest ≡ lines a (lines b (lines c (lines d (lines e rest))))
@@ -305,6 +312,8 @@ media_passes : (representation : Representation) → list_all is_value_byte (32 
 media_passes Text = refl
 media_passes Json = refl
 media_passes Html = refl
+media_passes Fragment = refl
+media_passes Sfx = refl
 
 -- the digits of a length
 digits_pass : (n : ℕ) → n < 2 ^ 64 → AllPass is_uri_byte (decimal n)
@@ -346,10 +355,14 @@ last_valid true Text redirects = literals_valid (last_pairs true Text redirects)
 last_valid true Json redirects = literals_valid (last_pairs true Json redirects) refl
 last_valid true Html true = literals_valid (last_pairs true Html true) refl
 last_valid true Html false = literals_valid (last_pairs true Html false) refl
+last_valid true Fragment redirects = literals_valid (last_pairs true Fragment redirects) refl
+last_valid true Sfx redirects = literals_valid (last_pairs true Sfx redirects) refl
 last_valid false Text redirects = literals_valid (last_pairs false Text redirects) refl
 last_valid false Json redirects = literals_valid (last_pairs false Json redirects) refl
 last_valid false Html true = literals_valid (last_pairs false Html true) refl
 last_valid false Html false = literals_valid (last_pairs false Html false) refl
+last_valid false Fragment redirects = literals_valid (last_pairs false Fragment redirects) refl
+last_valid false Sfx redirects = literals_valid (last_pairs false Sfx redirects) refl
 
 -- two lists of valid fields
 both_valid : (ps qs : Pairs) → All IsField (fields_of ps) → All IsField (fields_of qs) → All IsField (fields_of (ps ++ qs))
@@ -402,6 +415,8 @@ unfolding httparse_on_literals
 media_trimmed Text = refl
 media_trimmed Json = refl
 media_trimmed Html = refl
+media_trimmed Fragment = refl
+media_trimmed Sfx = refl
 
 close_trimmed : trim_ows (32 ∷ codes "close") ≡ codes "close"
 unfolding httparse_on_literals
@@ -483,10 +498,14 @@ last_values true Text redirects = (refl, refl, refl, refl, ap (λ (t : List ℕ)
 last_values true Json redirects = (refl, refl, refl, refl, ap (λ (t : List ℕ). t ∷ []) accept_trimmed, refl, refl)
 last_values true Html true = (refl, refl, refl, refl, ap (λ (t : List ℕ). t ∷ []) accept_trimmed, refl, refl)
 last_values true Html false = (refl, refl, refl, refl, ap (λ (t : List ℕ). t ∷ []) accept_trimmed, refl, refl)
+last_values true Fragment redirects = (refl, refl, refl, refl, ap (λ (t : List ℕ). t ∷ []) accept_trimmed, refl, refl)
+last_values true Sfx redirects = (refl, refl, refl, refl, ap (λ (t : List ℕ). t ∷ []) accept_trimmed, refl, refl)
 last_values false Text redirects = (refl, refl, refl, refl, ap (λ (t : List ℕ). t ∷ []) accept_trimmed, refl, refl)
 last_values false Json redirects = (refl, refl, refl, refl, ap (λ (t : List ℕ). t ∷ []) accept_trimmed, refl, refl)
 last_values false Html true = (refl, refl, refl, refl, ap (λ (t : List ℕ). t ∷ []) accept_trimmed, refl, refl)
 last_values false Html false = (refl, refl, refl, refl, ap (λ (t : List ℕ). t ∷ []) accept_trimmed, refl, refl)
+last_values false Fragment redirects = (refl, refl, refl, refl, ap (λ (t : List ℕ). t ∷ []) accept_trimmed, refl, refl)
+last_values false Sfx redirects = (refl, refl, refl, refl, ap (λ (t : List ℕ). t ∷ []) accept_trimmed, refl, refl)
 
 -- the values of the five parts of a head
 parts_values : (name : List ℕ) (a b c d e : Pairs) (va vb vc vd ve : List (List ℕ))

@@ -9,9 +9,9 @@ use Rattle.std.proofs.lemmas.Bool.Decides.{nat_tests}
 use Rattle.std.proofs.lemmas.Str.{IsUtf8-append, IsUtf8-encode, IsUtf8-from_is_utf8, IsUtf8-nil}
 use Rattle.node_response.specs.declared.utf8.TheConstants.{UPPER}
 use Rattle.node_request.specs.declared.representation.Representation.{Representation}
-use Rattle.node_request.specs.declared.representation.Representation.TheVariants.{Text, Json, Html}
+use Rattle.node_request.specs.declared.representation.Representation.TheVariants.{Text, Json, Html, Fragment, Sfx}
 use Rattle.node_response.specs.Laws.{PagesAreUtf8}
-use Rattle.node_response.specs.Responses.{is_page, sent_page}
+use Rattle.node_response.specs.Responses.{is_document, sent_body}
 use Rattle.node_response.specs.Utf8.{from_windows_1252, in_utf8, windows_1252}
 
 both : (a b : Bool) → (a && b) ≡ true → (a ≡ true) × (b ≡ true)
@@ -41,10 +41,12 @@ pub in_utf8_is_utf8 : (text : List ℕ) → IsUtf8 (in_utf8 text)
 unfolding in_utf8
 in_utf8_is_utf8 text = either (is_utf8 text) text refl
 
-page_case : (representation : Representation) (body : List ℕ) → is_page representation ≡ true → IsUtf8 (sent_page representation body)
+page_case : (representation : Representation) (body : List ℕ) → is_document representation ≡ true → IsUtf8 (sent_body representation body)
 page_case Text body h = cc
 page_case Json body h = cc
 page_case Html body h = in_utf8_is_utf8 body
+page_case Fragment body h = in_utf8_is_utf8 body
+page_case Sfx body h = in_utf8_is_utf8 body
 
 pub pages_in_utf8 : PagesAreUtf8
 pages_in_utf8 redirects page h = page_case page.representation page.body h

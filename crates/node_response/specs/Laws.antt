@@ -8,7 +8,7 @@ use Rattle.node_response.specs.JsonStrings.{json_string}
 use Rattle.node_response.specs.Pages.{fault_body}
 use Rattle.httparse.specs.Grammar.{ResponseHead}
 use Rattle.feed_http_heads.specs.Fields.{values_named}
-use Rattle.node_response.specs.Responses.{ResponseValue, is_page, of_site, with_tag, not_modified, response_of}
+use Rattle.node_response.specs.Responses.{ResponseValue, is_document, of_site, with_tag, not_modified, response_of}
 use Rattle.node_response.specs.Messages.{IsSentAs, IsSendable, IsHeadOf, IsMessage}
 
 -- an escaped text has no `<`, `>`, `"` and `'`, and no control character
@@ -20,9 +20,9 @@ EscapedHasNoMarkup = (text : List ℕ) → All (λ b. (is_markup b || is_control
 abbrev pub EscapedReadsBack : Type 0
 EscapedReadsBack = (text : List ℕ) → unescaped (escaped text) ≡ Some (shown text)
 
--- a page that a site sends is UTF-8, whatever texts are in it
+-- a page, a fragment of one or a document of XML that a site sends is UTF-8, whatever texts are in it
 abbrev pub PagesAreUtf8 : Type 0
-PagesAreUtf8 = (redirects : Bool) (page : ResponseValue) → is_page page.representation ≡ true → IsUtf8 (of_site redirects page).body
+PagesAreUtf8 = (redirects : Bool) (page : ResponseValue) → is_document page.representation ≡ true → IsUtf8 (of_site redirects page).body
 
 -- a JSON string is, by the grammar of JSON, the text from which it was written
 abbrev pub JsonReadsBack : Type 0

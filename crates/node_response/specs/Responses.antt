@@ -2,11 +2,11 @@
 use Rattle.std.specs.Prelude.{ℕ, ◌==◌, ◌||◌, ◌&&◌, Bool, true, false, if◌then◌else◌, List, [], ◌∷◌, ◌++◌, length, codes}
 use Rattle.std.specs.Fmt.{decimal}
 use Rattle.node_request.specs.declared.representation.Representation.{Representation}
-use Rattle.node_request.specs.declared.representation.Representation.TheVariants.{Text, Json, Html}
+use Rattle.node_request.specs.declared.representation.Representation.TheVariants.{Text, Json, Html, Fragment, Sfx}
 use Rattle.node_response.specs.Fragments.{joined}
 use Rattle.node_response.specs.Utf8.{in_utf8}
 use Rattle.node_response.specs.Pages.{fault_body, fault_representation}
-use Rattle.node_response.specs.declared.response.TheConstants.{LAST_FIELDS, PAGE_FIELDS, REDIRECTING_FIELDS, SHARED_FIELDS, PREFLIGHT_FIELDS, QUERY_PREFLIGHT_FIELDS}
+use Rattle.node_response.specs.declared.response.TheConstants.{LAST_FIELDS, PAGE_FIELDS, REDIRECTING_FIELDS, SHARED_FIELDS, FRAGMENT_FIELDS, PREFLIGHT_FIELDS, QUERY_PREFLIGHT_FIELDS}
 use Rattle.node_response.specs.declared.status.Status.{Status}
 use Rattle.node_response.specs.declared.status.Status.TheVariants as status
 
@@ -50,17 +50,21 @@ with_tag tag max_age reply = record {
   redirects = reply.redirects;
 }
 
--- a page
-abbrev pub is_page : Representation → Bool
-is_page Text = false
-is_page Json = false
-is_page Html = true
+-- a document of HTML or XML, or a fragment of one
+abbrev pub is_document : Representation → Bool
+is_document Text = false
+is_document Json = false
+is_document Html = true
+is_document Fragment = true
+is_document Sfx = true
 
--- the body that a site sends: a page is UTF-8
-abbrev pub sent_page : Representation → List ℕ → List ℕ
-sent_page Text body = body
-sent_page Json body = body
-sent_page Html body = in_utf8 body
+-- the body that a site sends: a document is UTF-8
+abbrev pub sent_body : Representation → List ℕ → List ℕ
+sent_body Text body = body
+sent_body Json body = body
+sent_body Html body = in_utf8 body
+sent_body Fragment body = in_utf8 body
+sent_body Sfx body = in_utf8 body
 
 -- the response of a site that redirects browsers to a sole hit, or not
 abbrev pub of_site : Bool → ResponseValue → ResponseValue
@@ -68,10 +72,10 @@ of_site redirects reply = record {
   status = reply.status;
   location = reply.location;
   representation = reply.representation;
-  body = sent_page reply.representation reply.body;
+  body = sent_body reply.representation reply.body;
   tag = reply.tag;
   max_age = reply.max_age;
-  redirects = is_page reply.representation && redirects;
+  redirects = is_document reply.representation && redirects;
 }
 
 -- the response to a client that has what such a response would send (RFC 9110, section 15.4.5)
@@ -131,6 +135,8 @@ abbrev pub type_text : Representation → List ℕ
 type_text Text = codes "text/plain; charset=utf-8"
 type_text Json = codes "application/json"
 type_text Html = codes "text/html; charset=utf-8"
+type_text Fragment = codes "text/html; charset=utf-8"
+type_text Sfx = codes "application/xml; charset=utf-8"
 
 -- the fields that a status asks for (RFC 9110, sections 10.2.1, 10.2.2 and 11.6.1); those of a preflight are of the Fetch
 -- standard
@@ -168,12 +174,15 @@ cache_field max_age =
     else joined (codes "\r\nCache-Control: max-age=" ∷ decimal max_age ∷ [])
 
 -- what a browser may do with the response: a page runs no script, has its own styles and sends forms to its own site,
--- and, on a site that redirects, to where the form is redirected; the scripts of any site may read a text
+-- and, on a site that redirects, to where the form is redirected; the scripts of any site may read the others, and a
+-- fragment runs and sends nothing by itself
 abbrev pub policy_field : Representation → Bool → List ℕ
 policy_field Text redirects = SHARED_FIELDS.now
 policy_field Json redirects = SHARED_FIELDS.now
 policy_field Html true = REDIRECTING_FIELDS.now
 policy_field Html false = PAGE_FIELDS.now
+policy_field Fragment redirects = FRAGMENT_FIELDS.now
+policy_field Sfx redirects = SHARED_FIELDS.now
 
 -- the last fields, and the end of the head
 abbrev pub last_fields : Bool → Representation → Bool → List ℕ

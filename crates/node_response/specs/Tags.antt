@@ -7,7 +7,7 @@ use Rattle.feed_answer.specs.Today.{TodayValue}
 use Rattle.node_site.specs.Reading.{IsSiteOf}
 use Rattle.node_site.specs.Site as site_file
 use Rattle.node_request.specs.declared.representation.Representation.{Representation}
-use Rattle.node_request.specs.declared.representation.Representation.TheVariants.{Text, Json, Html}
+use Rattle.node_request.specs.declared.representation.Representation.TheVariants.{Text, Json, Html, Fragment, Sfx}
 
 -- what the responses of a node depend on beside its releases and the day: the version of the program, for how many
 -- seconds a cache may use a response, and the site file of the library, with its bytes
@@ -56,6 +56,8 @@ abbrev pub kind_of : Representation → ℕ
 kind_of Text = 116
 kind_of Json = 106
 kind_of Html = 104
+kind_of Fragment = 102
+kind_of Sfx = 120
 
 -- a representation and a day's number
 abbrev pub kind_and_day : Representation → ℤ → List ℕ

@@ -18,6 +18,8 @@ pub(crate) struct DayDigests {
     text: [u8; 32],
     json: [u8; 32],
     html: [u8; 32],
+    fragment: [u8; 32],
+    sfx: [u8; 32],
 }
 
 fn kind_of(representation: Representation) -> u8
@@ -27,6 +29,8 @@ fn kind_of(representation: Representation) -> u8
         Representation::Text => b't',
         Representation::Json => b'j',
         Representation::Html => b'h',
+        Representation::Fragment => b'f',
+        Representation::Sfx => b'x',
     }
 }
 
@@ -86,6 +90,8 @@ impl DayDigests {
             text: digest_on(alloc, source, today, Representation::Text)?,
             json: digest_on(alloc, source, today, Representation::Json)?,
             html: digest_on(alloc, source, today, Representation::Html)?,
+            fragment: digest_on(alloc, source, today, Representation::Fragment)?,
+            sfx: digest_on(alloc, source, today, Representation::Sfx)?,
         })
     }
 
@@ -97,6 +103,8 @@ impl DayDigests {
             Representation::Text => self.text,
             Representation::Json => self.json,
             Representation::Html => self.html,
+            Representation::Fragment => self.fragment,
+            Representation::Sfx => self.sfx,
         }
     }
 }

@@ -17,7 +17,7 @@ fn fault_representation(representation: Representation) -> Representation
 {
     match representation {
         Representation::Json => Representation::Json,
-        Representation::Text | Representation::Html => Representation::Text,
+        _ => Representation::Text,
     }
 }
 
@@ -39,9 +39,7 @@ pub fn put_fault(
                 Fragment::Plain(b"}\n"),
             ],
         ),
-        Representation::Text | Representation::Html => {
-            put_all(out, &[Fragment::Plain(name), Fragment::Plain(b"\n")])
-        }
+        _ => put_all(out, &[Fragment::Plain(name), Fragment::Plain(b"\n")]),
     }
 }
 

@@ -5,7 +5,7 @@ ghost use Rattle.node_response.specs.Responses.{response_head, response_body, re
 ghost use Rattle.node_response.specs.Responses.{status_code, status_line, status_field, type_text, is_bodiless};
 ghost use Rattle.node_response.specs.Responses.{content_fields, tag_field, cache_field, policy_field};
 ghost use Rattle.node_response.specs.Responses.{connection_field, last_fields, with_tag, not_modified, is_good};
-ghost use Rattle.node_response.specs.Responses.{is_page, of_site, sent_page};
+ghost use Rattle.node_response.specs.Responses.{is_document, of_site, sent_body};
 ghost use Rattle.node_response.specs.Messages.{IsLocation, IsMessageFor};
 
 use crate::escape::put;
@@ -35,6 +35,11 @@ const REDIRECTING_FIELDS: &[u8] =
 
 // The scripts of any site may read a text (Fetch standard, section 3.3.3).
 const SHARED_FIELDS: &[u8] = b"\r\nAccess-Control-Allow-Origin: *";
+
+// The scripts of any site may read a fragment, which is for their pages. It runs and sends nothing by itself.
+const FRAGMENT_FIELDS: &[u8] =
+    b"\r\nAccess-Control-Allow-Origin: *\r\nContent-Security-Policy: default-src 'none'; \
+    form-action 'none'; base-uri 'none'";
 
 // The methods that a script of another site may use.
 const PREFLIGHT_FIELDS: &[u8] =
@@ -83,7 +88,8 @@ fn type_text(representation: Representation) -> &'static [u8]
     match representation {
         Representation::Text => b"text/plain; charset=utf-8",
         Representation::Json => b"application/json",
-        Representation::Html => b"text/html; charset=utf-8",
+        Representation::Html | Representation::Fragment => b"text/html; charset=utf-8",
+        Representation::Sfx => b"application/xml; charset=utf-8",
     }
 }
 
@@ -97,32 +103,35 @@ fn policy_field(representation: Representation, redirects: bool) -> &'static [u8
     ensures { result.now ≡ policy_field representation redirects }
 {
     match representation {
-        Representation::Text | Representation::Json => SHARED_FIELDS,
+        Representation::Text | Representation::Json | Representation::Sfx => SHARED_FIELDS,
         Representation::Html if redirects => REDIRECTING_FIELDS,
         Representation::Html => PAGE_FIELDS,
+        Representation::Fragment => FRAGMENT_FIELDS,
     }
 }
 
-fn is_page(representation: Representation) -> bool
-    ensures { result ≡ is_page representation }
+fn is_document(representation: Representation) -> bool
+    ensures { result ≡ is_document representation }
 {
     match representation {
         Representation::Text | Representation::Json => false,
-        Representation::Html => true,
+        Representation::Html | Representation::Fragment | Representation::Sfx => true,
     }
 }
 
-// Returns the body that a site sends: a page is UTF-8.
-fn sent_page(
+// Returns the body that a site sends: a document is UTF-8.
+fn sent_body(
     alloc: Global,
     representation: Representation,
     body: Vec<u8>,
 ) -> Result<Vec<u8>, AllocError>
-    ensures { IfOk result (λ sent. sent.items ≡ sent_page representation body.items) }
+    ensures { IfOk result (λ sent. sent.items ≡ sent_body representation body.items) }
 {
     match representation {
         Representation::Text | Representation::Json => Ok(body),
-        Representation::Html => page_in_utf8(alloc, body),
+        Representation::Html | Representation::Fragment | Representation::Sfx => {
+            page_in_utf8(alloc, body)
+        }
     }
 }
 
@@ -288,7 +297,8 @@ impl Response {
         }
     }
 
-    /// Returns the response of a site that redirects browsers to a sole hit or not. A page is UTF-8.
+    /// Returns the response of a site that redirects browsers to a sole hit or not. A document of HTML or XML is
+    /// UTF-8.
     ///
     /// # Errors
     ///
@@ -296,7 +306,7 @@ impl Response {
     pub fn of_site(self, alloc: Global, redirects: bool) -> Result<Response, AllocError>
         ensures { IfOk result (λ reply. reply ≡ of_site redirects self) }
     {
-        let body = sent_page(alloc, self.representation, self.body)?;
+        let body = sent_body(alloc, self.representation, self.body)?;
         Ok(Response {
             status: self.status,
             location: self.location,
@@ -304,7 +314,7 @@ impl Response {
             body,
             tag: self.tag,
             max_age: self.max_age,
-            redirects: is_page(self.representation) && redirects,
+            redirects: is_document(self.representation) && redirects,
         })
     }
 

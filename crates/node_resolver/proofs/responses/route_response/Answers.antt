@@ -18,7 +18,7 @@ use Rattle.node_resolver.proofs.responses.route_response.Goals as goal
 pub returns-in-Resolve : goal.returns-in-Resolve
 returns-in-Resolve c = IfOk-weaker c.resolve_response.result
     (λ reply. reply ≡ resolve_response c.args.representation c.args.query.now (sited_in c.args.context.now))
-    (λ reply. (head : RequestHead) → HasHead c.args.request.now.parsed.request head → c.args.representation ≡ representation_of c.args.query.now head
+    (λ reply. (head : RequestHead) → HasHead c.args.request.now.parsed.request head → c.args.representation ≡ representation_of (route_of head) c.args.query.now head
     → reply ≡ target_response head c.args.query.now (sited_in c.args.context.now))
     (λ reply is head has wants. is ∙ resolve_requested c.args.request.now.parsed.route (route_of head) c.args.representation (path_of head) c.args.query.now
     head (sited_in c.args.context.now) c.in-Resolve.is (c.args.request.now.parsed.routed head has) wants)
@@ -27,7 +27,7 @@ returns-in-Resolve c = IfOk-weaker c.resolve_response.result
 pub returns-in-Package : goal.returns-in-Package
 returns-in-Package c = IfOk-weaker c.package_response.result
     (λ reply. reply ≡ package_response c.args.representation c.package_in.result.now c.args.query.now (sited_in c.args.context.now))
-    (λ reply. (head : RequestHead) → HasHead c.args.request.now.parsed.request head → c.args.representation ≡ representation_of c.args.query.now head
+    (λ reply. (head : RequestHead) → HasHead c.args.request.now.parsed.request head → c.args.representation ≡ representation_of (route_of head) c.args.query.now head
     → reply ≡ target_response head c.args.query.now (sited_in c.args.context.now))
     (λ reply is head has wants. is ∙ package_requested c.args.request.now.parsed.route (route_of head) c.args.representation c.args.request.now.path.now (path_of head)
     c.args.query.now c.package_in.result.now head (sited_in c.args.context.now)
@@ -37,7 +37,7 @@ returns-in-Package c = IfOk-weaker c.package_response.result
 pub returns-in-Titles : goal.returns-in-Titles
 returns-in-Titles c = IfOk-weaker c.titles_response.result
     (λ reply. reply ≡ titles_response c.args.context.now.site.library c.args.representation c.args.query.now c.args.context.now.actives.actives)
-    (λ reply. (head : RequestHead) → HasHead c.args.request.now.parsed.request head → c.args.representation ≡ representation_of c.args.query.now head
+    (λ reply. (head : RequestHead) → HasHead c.args.request.now.parsed.request head → c.args.representation ≡ representation_of (route_of head) c.args.query.now head
     → reply ≡ target_response head c.args.query.now (sited_in c.args.context.now))
     (λ reply is head has wants. is ∙ titles_requested c.args.request.now.parsed.route (route_of head) c.args.representation (path_of head) c.args.query.now
     head (sited_in c.args.context.now) c.in-Titles.is (c.args.request.now.parsed.routed head has) wants)
@@ -45,7 +45,7 @@ returns-in-Titles c = IfOk-weaker c.titles_response.result
 
 pub returns-in_default : goal.returns-in_default
 returns-in_default c = IfOk-weaker c.error_response.result _
-    (λ reply. (head : RequestHead) → HasHead c.args.request.now.parsed.request head → c.args.representation ≡ representation_of c.args.query.now head
+    (λ reply. (head : RequestHead) → HasHead c.args.request.now.parsed.request head → c.args.representation ≡ representation_of (route_of head) c.args.query.now head
     → reply ≡ target_response head c.args.query.now (sited_in c.args.context.now))
     (λ reply is head has wants. is
     ∙ ap (λ (site : site_file.SiteValue). error_response site c.accepted-in_default.result.text status.NotFound c.accepted-in_default.result.representation advice.NoPage
