@@ -83,10 +83,10 @@ fn put_query<'a>(out: &mut Vec<u8>, query: &'a [u8], refused: &'a [u8]) -> Resul
 }
 
 #[tactic(auto, unfolding(crate::specs::AnswerJson::answer_start))]
-fn put_start(out: &mut Vec<u8>, ask: &QueryFacts, refused: &[u8]) -> Result<(), AllocError>
+fn put_start(out: &mut Vec<u8>, ask: &QueryFacts<'_>, refused: &[u8]) -> Result<(), AllocError>
     ensures { OnOk result (out.new.items ≡ out.old.items ++ answer_start ask.now refused.now) }
 {
-    put_citation(out, &ask.citation)?;
+    put_citation(out, ask.citation)?;
     put_query(out, &ask.query, refused)
 }
 
@@ -104,7 +104,7 @@ fn put_also(out: &mut Vec<u8>, also: &Tally<'_>) -> Result<(), AllocError>
 #[tactic(auto, unfolding(crate::specs::AnswerJson::answer_json))]
 pub fn put_answer_json(
     out: &mut Vec<u8>,
-    ask: &QueryFacts,
+    ask: &QueryFacts<'_>,
     refused: &[u8],
     tally: &Tally<'_>,
     also: &Tally<'_>,

@@ -88,7 +88,7 @@ pub fn put_release<'a>(
     out: &mut Vec<u8>,
     tally: &mut Tally<'a>,
     release: &LibraryRelease<'a>,
-    lookup: &Lookup,
+    lookup: &Lookup<'_>,
 ) -> Result<(), AllocError>
     ensures tally { OnOk result (tally.new
         ≡ with_looks tally.old (looks_in release.now.site.now release.now.today.now lookup.now release.now.name.now

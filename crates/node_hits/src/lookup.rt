@@ -6,7 +6,7 @@ ghost use Rattle.node_hits.specs.Lookups.{first_text, is_book_first, is_of_seria
 use crate::query_facts::date_text;
 use crate::rank::is_word;
 use crate::search::Scope;
-use feed_answer::{Pair, Query};
+use feed_answer::Query;
 use feed_identifiers::{Isbn, Issn};
 use feed_openurl::{Citation, CitationPart};
 use node_site::CitedTitle;
@@ -16,19 +16,19 @@ use std::marker::Model;
 /// What is looked up for a query: its identifiers, its date and its volume, whether a book that it names comes before a
 /// serial, and what it cites.
 #[derive(Drop)]
-pub struct Lookup {
+pub struct Lookup<'q> {
     query: Query,
     // The hits of the query. A search for other rows of its titles has another scope.
     scope: Scope,
     is_book_first: bool,
-    citation: Citation,
+    citation: &'q Citation,
     // The first identifiers, as they are printed, and the date as it is understood.
     issn: Vec<u8>,
     isbn: Vec<u8>,
     date: Vec<u8>,
 }
 
-impl Model for Lookup {
+impl<'q> Model for Lookup<'q> {
     ghost use Rattle.std.specs.Prelude.{[]};
     ghost use Rattle.node_hits.specs.Searches.{SearchValue};
 
@@ -39,7 +39,7 @@ impl Model for Lookup {
       scope = l.scope;
       is_book_first = l.is_book_first;
       cited = record {
-        citation = l.citation;
+        citation = l.citation.now;
         issn = l.issn.items;
         isbn = l.isbn.items;
         date = l.date.items;
@@ -85,24 +85,22 @@ fn first_isbn(alloc: Global, isbns: &[Isbn]) -> Result<Vec<u8>, AllocError>
     }
 }
 
-impl Lookup {
+impl<'q> Lookup<'q> {
     ghost use Rattle.std.specs.Prelude.{option_copied};
-    ghost use Rattle.feed_openurl.specs.Citations.{citation_of_pairs};
     ghost use Rattle.node_hits.specs.Lookups.{search_of};
     ghost use Rattle.node_hits.specs.Searches.{with_title_id};
 
-    /// Returns the lookup for a query that these pairs give, with its date as it is understood.
+    /// Returns the lookup for a query with this citation, with its date as it is understood.
     pub(crate) fn of(
         alloc: Global,
-        pairs: &[Pair<'_>],
+        citation: &'q Citation,
         date: Option<&[u8]>,
         query: Query,
-    ) -> Result<Lookup, AllocError>
+    ) -> Result<Lookup<'q>, AllocError>
         ensures { IfOk result (λ lookup. lookup
-            ≡ search_of (citation_of_pairs pairs.now) (option_copied date.entry) query) }
+            ≡ search_of citation.now (option_copied date.entry) query) }
     {
-        let citation = Citation::of_pairs(alloc, pairs)?;
-        let is_book_first = is_book_first(&citation, &query);
+        let is_book_first = is_book_first(citation, &query);
         let issn = first_issn(alloc, query.issns())?;
         let isbn = first_isbn(alloc, query.isbns())?;
         Ok(Lookup {
@@ -121,7 +119,7 @@ impl Lookup {
         ensures { result ≡ with_title_id title_id.now self.now.cited }
     {
         CitedTitle {
-            citation: &self.citation,
+            citation: self.citation,
             issn: &self.issn,
             isbn: &self.isbn,
             date: &self.date,

@@ -21,8 +21,8 @@ pub const SHOWN: [CitationPart; 9] = [
 
 /// The facts that a response reports about a query beside its hits.
 #[derive(Drop)]
-pub struct QueryFacts {
-    pub citation: Citation,
+pub struct QueryFacts<'q> {
+    pub citation: &'q Citation,
     /// The query that is looked up, as an OpenURL 1.0. It is empty if nothing is looked up.
     pub query: Vec<u8>,
     /// Whether a date is read, and a volume.
@@ -32,13 +32,13 @@ pub struct QueryFacts {
     pub date: Vec<u8>,
 }
 
-impl Model for QueryFacts {
+impl<'q> Model for QueryFacts<'q> {
     ghost use Rattle.node_hits.specs.QueryFacts.{QueryFactsValue};
 
     ghost Value = { QueryFactsValue };
 
     ghost view = { λ a. record {
-      citation = a.citation;
+      citation = a.citation.now;
       query = a.query.items;
       has_date = a.has_date;
       has_volume = a.has_volume;
@@ -88,16 +88,16 @@ pub fn is_blank(citation: &Citation) -> bool
     SHOWN.iter().all(|part| is_absent(citation, *part))
 }
 
-impl QueryFacts {
+impl<'q> QueryFacts<'q> {
     ghost use Rattle.node_hits.specs.QueryFacts.{ask_by};
 
     /// Returns the facts about a query with this citation, as it is understood.
     pub(crate) fn of(
         alloc: Global,
-        citation: Citation,
+        citation: &'q Citation,
         understood: &OpenUrl,
-    ) -> Result<QueryFacts, AllocError>
-        ensures { IfOk result (λ ask. ask ≡ ask_by citation understood.now) }
+    ) -> Result<QueryFacts<'q>, AllocError>
+        ensures { IfOk result (λ ask. ask ≡ ask_by citation.now understood.now) }
     {
         Ok(QueryFacts {
             citation,

@@ -1,6 +1,7 @@
 //! A query as a reader sends it, in whatever form: its pairs, decoded once, and what they ask for, understood once.
 ghost use Rattle.std.specs.Prelude.{◌≡◌, IfOk};
 ghost use Rattle.form_urlencoded.specs.Form as form;
+ghost use Rattle.feed_openurl.specs.Citations.{citation_of_pairs};
 ghost use Rattle.feed_openurl.specs.Values as values;
 
 use crate::lookup::Lookup;
@@ -18,8 +19,10 @@ pub struct ReceivedOpenUrl<'a> {
     pub representation: Representation,
     pairs: Vec<Pair<'a>>,
     understood: OpenUrl,
+    citation: Citation,
     ghost decoded: { pairs.items ≡ form.parse text.now },
     ghost read: { understood ≡ values.understood text.now },
+    ghost cited: { citation ≡ citation_of_pairs (form.parse text.now) },
 }
 
 impl<'a> ReceivedOpenUrl<'a> {
@@ -40,12 +43,14 @@ impl<'a> ReceivedOpenUrl<'a> {
         ensures representation { IfOk result (λ query. query.representation ≡ representation) }
     {
         let pairs = decode_pairs(alloc, text)?;
+        let citation = Citation::of_pairs(alloc, &pairs)?;
         match OpenUrl::of_pairs(alloc, &pairs) {
             Ok(understood) => Ok(ReceivedOpenUrl {
                 text,
                 representation,
                 pairs,
                 understood,
+                citation,
             }),
             Err(_) => Err(AllocError),
         }
@@ -64,13 +69,13 @@ impl<'a> ReceivedOpenUrl<'a> {
     ///
     /// Running out of memory.
     #[tactic(auto, unfolding(crate::specs::Lookups::asked_of))]
-    pub fn lookup(&self, alloc: Global) -> Result<Result<Lookup, OpenUrlFault>, AllocError>
+    pub fn lookup(&self, alloc: Global) -> Result<Result<Lookup<'_>, OpenUrlFault>, AllocError>
         ensures { IfOk result (λ asked. asked ≡ asked_of self.now.text.now) }
     {
         match self.understood.query(alloc)? {
             Ok(query) => {
                 let date = self.understood.date();
-                Ok(Ok(Lookup::of(alloc, self.pairs(), date, query)?))
+                Ok(Ok(Lookup::of(alloc, &self.citation, date, query)?))
             }
             Err(reason) => Ok(Err(reason)),
         }
@@ -82,10 +87,9 @@ impl<'a> ReceivedOpenUrl<'a> {
     ///
     /// Running out of memory.
     #[tactic(auto, unfolding(crate::specs::QueryFacts::ask_of))]
-    pub fn ask(&self, alloc: Global) -> Result<QueryFacts, AllocError>
+    pub fn ask(&self, alloc: Global) -> Result<QueryFacts<'_>, AllocError>
         ensures { IfOk result (λ ask. ask ≡ ask_of self.now.text.now) }
     {
-        let citation = Citation::of_pairs(alloc, self.pairs())?;
-        QueryFacts::of(alloc, citation, &self.understood)
+        QueryFacts::of(alloc, &self.citation, &self.understood)
     }
 }

@@ -30,7 +30,7 @@ pub enum Scope {
 /// A search for some rows of the titles that a query names.
 #[derive(Drop)]
 pub struct Search<'a> {
-    lookup: &'a Lookup,
+    lookup: &'a Lookup<'a>,
     scope: Scope,
 }
 
@@ -73,7 +73,7 @@ fn title_at<'r>(rows: &'r [Row], place: u32) -> Option<Hit<'r>>
 
 impl<'a> Search<'a> {
     /// Returns the search for the hits of a query.
-    pub fn of(lookup: &'a Lookup) -> Search<'a>
+    pub fn of(lookup: &'a Lookup<'a>) -> Search<'a>
         ensures { result ≡ lookup.now }
     {
         Search {
@@ -83,7 +83,7 @@ impl<'a> Search<'a> {
     }
 
     /// Returns the search for the rows that cover the date of a query, and do not have its volume.
-    pub fn dated(lookup: &'a Lookup) -> Search<'a>
+    pub fn dated(lookup: &'a Lookup<'a>) -> Search<'a>
         ensures { result ≡ in_scope scope.Dated lookup.now }
     {
         Search {
@@ -93,7 +93,7 @@ impl<'a> Search<'a> {
     }
 
     /// Returns the search for all other rows of the titles that a query names, whatever its date and its volume are.
-    pub fn others(lookup: &'a Lookup) -> Search<'a>
+    pub fn others(lookup: &'a Lookup<'a>) -> Search<'a>
         ensures { result ≡ in_scope scope.Others lookup.now }
     {
         Search {

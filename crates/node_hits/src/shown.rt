@@ -1,5 +1,5 @@
 //! The hits that a response shows.
-ghost use Rattle.std.specs.Prelude.{◌≡◌, ◌-◌, ◌≤◌, [], OnOk, length};
+ghost use Rattle.std.specs.Prelude.{◌≡◌, ◌-◌, ◌≤◌, ℕ, [], OnOk, length};
 ghost use Rattle.node_hits.specs.Tallies.{first_within, text_size, shown_limit, text_limit};
 ghost use Rattle.node_hits.specs.Tallying.{with_shown};
 
@@ -13,7 +13,7 @@ pub(crate) const SHOWN_LIMIT: usize = 1_000;
 
 // The texts of the hits that a response shows have fewer bytes. Each byte takes at most six in JSON or in a page, and
 // JSON has an address up to three times, so that a response has at most 10 MiB.
-const TEXT_LIMIT: usize = 524_288;
+const TEXT_LIMIT: u32 = 524_288;
 
 /// The hits that a response shows: the first ones, within the limits.
 #[derive(Drop)]
@@ -25,14 +25,18 @@ pub(crate) struct Shown<'a> {
 }
 
 impl<'a> Model for Shown<'a> {
+    ghost use Rattle.std.specs.Prelude.{◌≤◌};
+    ghost use Rattle.node_hits.specs.Tallies.{text_limit};
     ghost use Rattle.node_hits.specs.Tallying.{ShownValue};
 
     ghost Value = { ShownValue };
 
     ghost view = { λ s. record { hits = s.hits.items; places = s.places; bytes = s.bytes } };
+
+    ghost invariant = { λ s. s.bytes ≤ text_limit };
 }
 
-// The bytes left after the texts of a hit, with room for its link.
+// Returns how many of some bytes are left after the texts of a hit, with room for its link.
 fn bytes_after(bytes: usize, found: &ReleaseHit<'_>) -> usize
     ensures { result ≡ bytes - text_size found.now }
 {
@@ -50,14 +54,30 @@ fn bytes_after(bytes: usize, found: &ReleaseHit<'_>) -> usize
         .saturating_sub(found.note().len())
 }
 
+/// Returns how many bytes the texts of a hit leave of those of a response. They are read once for each hit.
+pub(crate) fn bytes_left(found: &ReleaseHit<'_>) -> u32
+    ensures { result ≡ text_limit - text_size found.now }
+{
+    bytes_after(TEXT_LIMIT as usize, found) as u32
+}
+
+/// Returns how many of some bytes are left after the texts of a hit that leave this many of those of a response.
+pub(crate) fn bytes_beside(bytes: usize, left: u32) -> usize
+    requires within { bytes ≤ text_limit }
+    requires left { left ≤ text_limit }
+    ensures { (size : ℕ) → left ≡ text_limit - size → result ≡ bytes - size }
+{
+    bytes.saturating_sub((TEXT_LIMIT - left) as usize)
+}
+
 // How many of the hits at the front are within the limits.
 fn count_within(hits: &[RankedHit<'_>]) -> usize
     ensures count { result ≡ length (first_within shown_limit text_limit hits.now) }
     ensures bound { result ≤ length hits.now }
 {
-    let mut bytes = TEXT_LIMIT;
+    let mut bytes = TEXT_LIMIT as usize;
     for (place, found) in hits.iter().enumerate() {
-        bytes = bytes_after(bytes, found.hit());
+        bytes = found.bytes_after(bytes);
         if place >= SHOWN_LIMIT || bytes == 0 {
             return place;
         }
@@ -79,7 +99,7 @@ impl<'a> Shown<'a> {
         Shown {
             hits: Vec::new(alloc),
             places: SHOWN_LIMIT,
-            bytes: TEXT_LIMIT,
+            bytes: TEXT_LIMIT as usize,
         }
     }
 
@@ -89,14 +109,21 @@ impl<'a> Shown<'a> {
         &self.hits
     }
 
-    /// Adds a hit, if there is room for it. Otherwise no later one is added either.
-    pub(crate) fn add(&mut self, alloc: Global, found: &ReleaseHit<'a>) -> Result<(), AllocError>
+    /// Adds a hit whose texts leave this many of the bytes of a response, if there is room for it. Otherwise no later
+    /// one is added either.
+    pub(crate) fn add(
+        &mut self,
+        alloc: Global,
+        found: &ReleaseHit<'a>,
+        left: u32,
+    ) -> Result<(), AllocError>
+        requires { left ≡ text_limit - text_size found.now }
         ensures { OnOk result (self.new ≡ with_shown self.old found.now) }
     {
         if self.places == 0 {
             return Ok(());
         }
-        let bytes = bytes_after(self.bytes, found);
+        let bytes = bytes_beside(self.bytes, left);
         if bytes > 0 {
             self.hits.push(found.again(alloc)?)?;
             self.places -= 1;

@@ -17,7 +17,7 @@ use crate::links::Links;
 use crate::ranked_hit::RankedHit;
 use crate::row_places::first_places;
 use crate::search::Search;
-use crate::shown::Shown;
+use crate::shown::{Shown, bytes_left};
 use crate::top::Top;
 use feed_kbart::Row;
 use node_site::{SearchOutcome, package_place};
@@ -214,8 +214,9 @@ impl<'a> Tally<'a> {
             Some(found) => {
                 self.count += 1;
                 self.links.add(alloc, &found)?;
-                self.shown.add(alloc, &found)?;
-                self.top.add(alloc, found)
+                let left = bytes_left(&found);
+                self.shown.add(alloc, &found, left)?;
+                self.top.add(alloc, found, left)
             }
             None => Ok(()),
         }

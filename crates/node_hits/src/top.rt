@@ -1,6 +1,6 @@
 //! The hits of the highest ranks.
-ghost use Rattle.std.specs.Prelude.{◌≡◌, ◌≤◌, [], OnOk, length};
-ghost use Rattle.node_hits.specs.Tallies.{first_within, shown_limit, text_limit};
+ghost use Rattle.std.specs.Prelude.{◌≡◌, ◌-◌, ◌≤◌, [], OnOk, length};
+ghost use Rattle.node_hits.specs.Tallies.{first_within, shown_limit, text_limit, text_size};
 ghost use Rattle.node_hits.specs.Tallying.{IsPlaceOf, IsRanked, kept_above, with_top};
 
 use crate::hits::ReleaseHit;
@@ -54,15 +54,22 @@ impl<'a> Top<'a> {
         first_within(&self.hits)
     }
 
-    /// Adds a hit behind the last one that does not rank below it, if it is then among the first 1,000.
-    pub(crate) fn add(&mut self, alloc: Global, found: ReleaseHit<'a>) -> Result<(), AllocError>
+    /// Adds a hit behind the last one that does not rank below it, if it is then among the first 1,000. Its texts leave
+    /// this many of the bytes of a response.
+    pub(crate) fn add(
+        &mut self,
+        alloc: Global,
+        found: ReleaseHit<'a>,
+        left: u32,
+    ) -> Result<(), AllocError>
+        requires { left ≡ text_limit - text_size found }
         ensures { OnOk result (self.new ≡ with_top self.old found.entry) }
     {
         let place = place_of(&self.hits, found.rank());
         if place >= SHOWN_LIMIT {
             return Ok(());
         }
-        let ranked = RankedHit::new(alloc, found)?;
+        let ranked = RankedHit::new(alloc, found, left)?;
         self.hits.insert(place, ranked)?;
         self.hits.truncate(SHOWN_LIMIT);
         Ok(())

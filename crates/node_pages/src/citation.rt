@@ -36,17 +36,17 @@ fn is_all_plain(text: &[u8]) -> bool
 }
 
 // Returns a part of the citation of a query.
-fn cited(ask: &QueryFacts, part: CitationPart) -> &[u8]
+fn cited<'q>(ask: &QueryFacts<'q>, part: CitationPart) -> &'q [u8]
     ensures { result.now ≡ text_at ask.now.citation part }
 {
     ask.citation.text(part).as_bytes()
 }
 
 // Returns a value for the slot of a citation that has any part.
-fn cited_mark(pairs: &[Pair<'_>], ask: &QueryFacts) -> &'static [u8]
+fn cited_mark(pairs: &[Pair<'_>], ask: &QueryFacts<'_>) -> &'static [u8]
     ensures { result.now ≡ cited_mark pairs.now ask.now }
 {
-    let is_uncited = is_blank(&ask.citation)
+    let is_uncited = is_blank(ask.citation)
         && issn_in(pairs).is_empty()
         && isbn_in(pairs).is_empty();
     text_if(!is_uncited, b"cited")
@@ -59,7 +59,7 @@ fn put_work(
     site: &SiteFile,
     heading: &[u8],
     pairs: &[Pair<'_>],
-    ask: &QueryFacts,
+    ask: &QueryFacts<'_>,
 ) -> Result<(), AllocError>
     ensures { OnOk result (out.new.items
         ≡ out.old.items ++ page_text site.now (work_parts heading.now pairs.now ask.now)) }
@@ -82,7 +82,7 @@ fn put_work(
 
 // Writes the place in the work. A date and a volume are understood, or have a note.
 #[tactic(auto, unfolding(crate::specs::Citations::place_parts))]
-fn put_place(out: &mut Vec<u8>, site: &SiteFile, ask: &QueryFacts) -> Result<(), AllocError>
+fn put_place(out: &mut Vec<u8>, site: &SiteFile, ask: &QueryFacts<'_>) -> Result<(), AllocError>
     ensures { OnOk result (out.new.items ≡ out.old.items ++ page_text site.now (place_parts ask.now)) }
 {
     let date = cited(ask, CitationPart::Date);
@@ -121,7 +121,7 @@ fn put_names_with(
     out: &mut Vec<u8>,
     site: &SiteFile,
     pairs: &[Pair<'_>],
-    ask: &QueryFacts,
+    ask: &QueryFacts<'_>,
     address: &[u8],
 ) -> Result<(), AllocError>
     ensures { OnOk result (out.new.items
@@ -149,7 +149,7 @@ fn put_names(
     out: &mut Vec<u8>,
     site: &SiteFile,
     pairs: &[Pair<'_>],
-    ask: &QueryFacts,
+    ask: &QueryFacts<'_>,
 ) -> Result<(), AllocError>
     ensures { OnOk result (out.new.items
         ≡ out.old.items ++ page_text site.now (names_parts site.now pairs.now ask.now)) }
@@ -166,7 +166,7 @@ pub(crate) fn put_cited_top(
     site: &SiteFile,
     heading: &[u8],
     pairs: &[Pair<'_>],
-    ask: &QueryFacts,
+    ask: &QueryFacts<'_>,
 ) -> Result<(), AllocError>
     ensures { OnOk result (out.new.items
         ≡ out.old.items ++ page_text site.now (cited_top site.now heading.now pairs.now ask.now)) }

@@ -131,7 +131,7 @@ fn put_hits_end(
     out: &mut Vec<u8>,
     site: &SiteFile,
     pairs: &[Pair<'_>],
-    ask: &QueryFacts,
+    ask: &QueryFacts<'_>,
     tally: &Tally<'_>,
     is_none: bool,
 ) -> Result<(), AllocError>
@@ -151,7 +151,7 @@ pub fn put_hits_page(
     out: &mut Vec<u8>,
     site: &SiteFile,
     pairs: &[Pair<'_>],
-    ask: &QueryFacts,
+    ask: &QueryFacts<'_>,
     found: &Tallies<'_>,
 ) -> Result<(), AllocError>
     ensures { OnOk result (out.new.items

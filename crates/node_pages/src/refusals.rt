@@ -51,7 +51,7 @@ fn put_reasons_with(
     out: &mut Vec<u8>,
     site: &SiteFile,
     pairs: &[Pair<'_>],
-    ask: &QueryFacts,
+    ask: &QueryFacts<'_>,
     issn_fault: &[u8],
     isbn_fault: &[u8],
 ) -> Result<(), AllocError>
@@ -84,7 +84,7 @@ fn put_reasons(
     out: &mut Vec<u8>,
     site: &SiteFile,
     pairs: &[Pair<'_>],
-    ask: &QueryFacts,
+    ask: &QueryFacts<'_>,
 ) -> Result<(), AllocError>
     ensures { OnOk result (out.new.items
         ≡ out.old.items ++ page_text site.now (reasons site.now pairs.now ask.now)) }
@@ -100,7 +100,7 @@ fn put_nothing(
     out: &mut Vec<u8>,
     site: &SiteFile,
     pairs: &[Pair<'_>],
-    ask: &QueryFacts,
+    ask: &QueryFacts<'_>,
 ) -> Result<(), AllocError>
     ensures { OnOk result (out.new.items ≡ out.old.items ++ page_of_nothing site.now pairs.now ask.now) }
 {
@@ -134,7 +134,7 @@ fn put_text(out: &mut Vec<u8>, reason: OpenUrlFault) -> Result<(), AllocError>
 fn put_json(
     alloc: Global,
     out: &mut Vec<u8>,
-    ask: &QueryFacts,
+    ask: &QueryFacts<'_>,
     reason: OpenUrlFault,
 ) -> Result<(), AllocError>
     ensures { OnOk result (out.new.items ≡ out.old.items ++ nothing_json ask.now reason) }
@@ -149,7 +149,7 @@ fn put_numberless(
     out: &mut Vec<u8>,
     site: &SiteFile,
     query: &ReceivedOpenUrl<'_>,
-    ask: &QueryFacts,
+    ask: &QueryFacts<'_>,
     reason: OpenUrlFault,
 ) -> Result<(), AllocError>
     ensures { OnOk result (out.new.items
@@ -157,7 +157,7 @@ fn put_numberless(
         ++ numberless_body site.now query.now.text.now (names_work ask.now.citation) query.now.representation ask.now
         reason) }
 {
-    let named = names_work(&ask.citation);
+    let named = names_work(ask.citation);
     match query.representation {
         Representation::Html => put_nothing(alloc, out, site, query.pairs(), ask),
         Representation::Sfx => put_no_targets(out),
@@ -189,7 +189,7 @@ fn numberless_response(
         reason) }
 {
     let ask = query.ask(alloc)?;
-    let status = numberless_status(query.representation, names_work(&ask.citation), status);
+    let status = numberless_status(query.representation, names_work(ask.citation), status);
     let mut body = Vec::new(alloc);
     put_numberless(alloc, &mut body, site, query, &ask, reason)?;
     Ok(Response::new(status, query.representation, body))

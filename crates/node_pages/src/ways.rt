@@ -12,11 +12,11 @@ use node_templates::{Slot, Template, put_page};
 use std::alloc::{AllocError, Global};
 
 /// Returns what a query with these pairs cites, for the links of a library.
-pub(crate) fn cited_of<'p>(ask: &'p QueryFacts, pairs: &'p [Pair<'_>]) -> CitedTitle<'p>
+pub(crate) fn cited_of<'p>(ask: &'p QueryFacts<'_>, pairs: &'p [Pair<'_>]) -> CitedTitle<'p>
     ensures { result ≡ cited_of ask.now pairs.now }
 {
     CitedTitle {
-        citation: &ask.citation,
+        citation: ask.citation,
         issn: issn_in(pairs),
         isbn: isbn_in(pairs),
         date: &ask.date,

@@ -57,7 +57,7 @@ fn tally_by<'a>(
 pub(crate) fn tally_among<'a>(
     alloc: Global,
     context: &Context<'a>,
-    lookup: &Lookup,
+    lookup: &Lookup<'_>,
 ) -> Result<Tally<'a>, AllocError>
     ensures { IfOk result (λ tally. tally
         ≡ with_looks no_hits (looks_among lookup.now (sited_in context.now))) }
@@ -82,7 +82,7 @@ fn is_placed(query: &Query) -> bool
 fn also_beside<'a>(
     alloc: Global,
     context: &Context<'a>,
-    lookup: &Lookup,
+    lookup: &Lookup<'_>,
 ) -> Result<Tally<'a>, AllocError>
     ensures { IfOk result (λ tally. tally
         ≡ with_looks no_hits (also_beside lookup.now (sited_in context.now))) }
@@ -99,7 +99,7 @@ fn also_beside<'a>(
 fn others_beside<'a>(
     alloc: Global,
     context: &Context<'a>,
-    lookup: &Lookup,
+    lookup: &Lookup<'_>,
     count: usize,
 ) -> Result<Tally<'a>, AllocError>
     ensures { IfOk result (λ tally. tally
@@ -117,7 +117,7 @@ fn put_texts(
     alloc: Global,
     out: &mut Vec<u8>,
     context: &Context<'_>,
-    lookup: &Lookup,
+    lookup: &Lookup<'_>,
 ) -> Result<(), AllocError>
     ensures { OnOk result (out.new.items
         ≡ out.old.items
@@ -143,7 +143,7 @@ fn put_json(
     out: &mut Vec<u8>,
     query: &ReceivedOpenUrl<'_>,
     context: &Context<'_>,
-    lookup: &Lookup,
+    lookup: &Lookup<'_>,
     hits: &Tally<'_>,
 ) -> Result<(), AllocError>
     requires { hits.now ≡ with_looks no_hits (looks_among lookup.now (sited_in context.now)) }
@@ -161,7 +161,7 @@ fn put_page<'a>(
     out: &mut Vec<u8>,
     query: &ReceivedOpenUrl<'_>,
     context: &Context<'a>,
-    lookup: &Lookup,
+    lookup: &Lookup<'_>,
     hits: Tally<'a>,
 ) -> Result<(), AllocError>
     requires { hits ≡ with_looks no_hits (looks_among lookup.now (sited_in context.now)) }
@@ -182,7 +182,7 @@ pub(crate) fn put_counted<'a>(
     out: &mut Vec<u8>,
     query: &ReceivedOpenUrl<'_>,
     context: &Context<'a>,
-    lookup: &Lookup,
+    lookup: &Lookup<'_>,
     hits: Tally<'a>,
 ) -> Result<(), AllocError>
     requires { hits ≡ with_looks no_hits (looks_among lookup.now (sited_in context.now)) }
@@ -205,7 +205,7 @@ pub(crate) fn put_answer(
     out: &mut Vec<u8>,
     query: &ReceivedOpenUrl<'_>,
     context: &Context<'_>,
-    lookup: &Lookup,
+    lookup: &Lookup<'_>,
 ) -> Result<(), AllocError>
     ensures { OnOk result (out.new.items
         ≡ out.old.items

@@ -52,7 +52,7 @@ fn hits_response(
     status: Status,
     query: &ReceivedOpenUrl<'_>,
     context: &Context<'_>,
-    lookup: &Lookup,
+    lookup: &Lookup<'_>,
 ) -> Result<Response, AllocError>
     ensures { IfOk result (λ reply. reply
         ≡ hits_response status query.now.representation query.now.text.now (sited_in context.now) lookup.now) }
@@ -68,7 +68,7 @@ fn counted_response<'a>(
     status: Status,
     query: &ReceivedOpenUrl<'_>,
     context: &Context<'a>,
-    lookup: &Lookup,
+    lookup: &Lookup<'_>,
     hits: Tally<'a>,
 ) -> Result<Response, AllocError>
     requires { hits ≡ with_looks no_hits (looks_among lookup.now (sited_in context.now)) }
@@ -85,7 +85,7 @@ fn sole_response(
     alloc: Global,
     query: &ReceivedOpenUrl<'_>,
     context: &Context<'_>,
-    lookup: &Lookup,
+    lookup: &Lookup<'_>,
 ) -> Result<Response, AllocError>
     ensures { IfOk result (λ reply. reply
         ≡ option_map_or redirect_to (sole_link (tally_among lookup.now (sited_in context.now)))
@@ -102,7 +102,7 @@ fn found_response(
     alloc: Global,
     query: &ReceivedOpenUrl<'_>,
     context: &Context<'_>,
-    lookup: &Lookup,
+    lookup: &Lookup<'_>,
 ) -> Result<Response, AllocError>
     ensures { IfOk result (λ reply. reply
         ≡ found_response query.now.representation query.now.text.now (sited_in context.now) lookup.now) }
@@ -175,7 +175,7 @@ fn redirect_response(
     alloc: Global,
     query: &ReceivedOpenUrl<'_>,
     context: &Context<'_>,
-    lookup: &Lookup,
+    lookup: &Lookup<'_>,
 ) -> Result<Response, AllocError>
     ensures { IfOk result (λ reply. reply
         ≡ redirect_response query.now.representation query.now.text.now (sited_in context.now) lookup.now) }

@@ -31,7 +31,7 @@ fn library_target(
     alloc: Global,
     site: &SiteFile,
     outcome: SearchOutcome,
-    lookup: &Lookup,
+    lookup: &Lookup<'_>,
 ) -> Result<Option<Vec<u8>>, AllocError>
     ensures { IfOk result (λ address. option_map (λ text. text.items) address
         ≡ library_target site.now outcome lookup.now) }
@@ -45,7 +45,7 @@ fn library_target(
 fn closed_target(
     alloc: Global,
     site: &SiteFile,
-    lookup: &Lookup,
+    lookup: &Lookup<'_>,
     hits: &Tally<'_>,
 ) -> Result<Option<Vec<u8>>, AllocError>
     ensures { IfOk result (λ address. option_map (λ text. text.items) address
@@ -61,7 +61,7 @@ fn closed_target(
 pub(crate) fn target_in(
     alloc: Global,
     site: &SiteFile,
-    lookup: &Lookup,
+    lookup: &Lookup<'_>,
     hits: &Tally<'_>,
 ) -> Result<Option<Vec<u8>>, AllocError>
     ensures { IfOk result (λ address. option_map (λ text. text.items) address
