@@ -101,9 +101,13 @@ fn put_parts(
     Ok(())
 }
 
-// Returns the whole citation as the query of an OpenURL 1.0.
+/// Returns the whole citation as the query of an OpenURL 1.0.
+///
+/// # Errors
+///
+/// Running out of memory.
 #[tactic(auto, unfolding(crate::specs::Requests::citation_query))]
-fn citation_query(alloc: Global, cited: &CitedTitle<'_>) -> Result<Vec<u8>, AllocError>
+pub fn citation_query(alloc: Global, cited: &CitedTitle<'_>) -> Result<Vec<u8>, AllocError>
     ensures { IfOk result (λ query. query.items ≡ citation_query cited.now) }
 {
     let mut query = Vec::from_slice(alloc, b"url_ver=Z39.88-2004")?;

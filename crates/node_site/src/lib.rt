@@ -55,7 +55,7 @@ mod urls;
 mod values;
 
 pub use articles::{article_link, doi_link, is_direct};
-pub use cited::CitedTitle;
+pub use cited::{CitedTitle, citation_query};
 pub use column::Column;
 pub use fault::ValueFault;
 pub use held::library_has;
