@@ -8,6 +8,9 @@ use Rattle.json.specs.Lex.{Lexeme, token, comma, colon, lex, between, punctuate,
 use Rattle.json.specs.Json.{array}
 use Rattle.json.specs.Tree.{json_tokens, items_depth}
 use Rattle.json.specs.Value.{items_of}
+use Rattle.json.specs.Print.{IsNumber}
+use Rattle.json.specs.Word.{after_number}
+use Rattle.json.proofs.Printed.Numbers.{lex-number}
 use Rattle.feed_openurl.specs.CitationParts.{name_of}
 use Rattle.feed_openurl.specs.Citations.{CitationValue, text_at}
 use Rattle.feed_openurl.specs.declared.citation_part.CitationPart.{CitationPart}
@@ -23,10 +26,32 @@ use Rattle.node_hits.specs.Laws.{AnswerIsJson}
 use Rattle.node_hits.specs.Tallies.{TallyValue}
 use Rattle.node_hits.proofs.HitTexts.{string_lexemes, with_string, hits_in, hits_flat, also_in, also_shallow}
 
-article_key : Lexes (codes "{\"citation\":{\"article\":")
-    (token Token.begin_object ∷ token (Token.string (codes "citation")) ∷ colon ∷ token Token.begin_object ∷ token (Token.string (codes "article")) ∷ colon ∷ [])
+version_key : Lexes (codes "{\"version\":") (token Token.begin_object ∷ token (Token.string (codes "version")) ∷ colon ∷ [])
 unfolding lex content
-article_key = record { lexed = λ rest. refl }
+version_key = record { lexed = λ rest. refl }
+
+citation_key : Lexes (codes ",\"citation\":{\"article\":")
+    (comma ∷ token (Token.string (codes "citation")) ∷ colon ∷ token Token.begin_object ∷ token (Token.string (codes "article")) ∷ colon ∷ [])
+unfolding lex content
+citation_key = record { lexed = λ rest. refl }
+
+version_is : IsNumber (codes "1")
+unfolding after_number
+version_is = refl
+
+-- the version, in front of a comma
+version_number : Lexes (codes "1" ++ codes ",\"citation\":{\"article\":")
+    (token (Token.number (codes "1")) ∷ comma ∷ token (Token.string (codes "citation")) ∷ colon ∷ token Token.begin_object
+    ∷ token (Token.string (codes "article")) ∷ colon ∷ [])
+version_number = record {
+  lexed = λ rest. lex-number (codes "1") (codes ",\"citation\":{\"article\":" ++ rest) version_is refl
+      ∙ ap (λ ls. token (Token.number (codes "1")) ∷ ls) (citation_key.lexed rest);
+}
+
+article_key : Lexes (codes "{\"version\":1,\"citation\":{\"article\":")
+    (token Token.begin_object ∷ token (Token.string (codes "version")) ∷ colon ∷ token (Token.number (codes "1")) ∷ comma
+    ∷ token (Token.string (codes "citation")) ∷ colon ∷ token Token.begin_object ∷ token (Token.string (codes "article")) ∷ colon ∷ [])
+article_key = lexes_then (codes "{\"version\":") _ _ _ version_key version_number
 
 query_key : Lexes (codes ",\"query\":") (comma ∷ token (Token.string (codes "query")) ∷ colon ∷ [])
 unfolding lex content
@@ -52,12 +77,13 @@ hits_colon = hits_key
 
 abbrev front_lexemes : CitationValue → List Lexeme
 front_lexemes citation =
-    token Token.begin_object ∷ token (Token.string (codes "citation")) ∷ colon ∷ token Token.begin_object ∷ token (Token.string (codes "article")) ∷ colon
+    token Token.begin_object ∷ token (Token.string (codes "version")) ∷ colon ∷ token (Token.number (codes "1")) ∷ comma
+    ∷ token (Token.string (codes "citation")) ∷ colon ∷ token Token.begin_object ∷ token (Token.string (codes "article")) ∷ colon
     ∷ token (Token.string (text_at citation part.Article)) ∷ []
 
 lexes_front : (citation : CitationValue) → Lexes (citation_front citation) (front_lexemes citation)
 unfolding citation_front
-lexes_front citation = with_string (codes "{\"citation\":{\"article\":") (text_at citation part.Article) [] _ _ article_key nothing
+lexes_front citation = with_string (codes "{\"version\":1,\"citation\":{\"article\":") (text_at citation part.Article) [] _ _ article_key nothing
 
 -- a part behind others
 abbrev key_text : CitationPart → List ℕ
@@ -159,7 +185,7 @@ part_tokens citation (one ∷ parts) ts = Token.key (name_of one) ∷ Token.stri
 -- the tokens that an answer begins with, before others
 abbrev start_tokens : QueryFactsValue → List ℕ → List Token → List Token
 start_tokens ask refused ts =
-    Token.begin_object ∷ Token.key (codes "citation") ∷ Token.begin_object ∷ part_tokens ask.citation PARTS
+    Token.begin_object ∷ Token.key (codes "version") ∷ Token.number (codes "1") ∷ Token.key (codes "citation") ∷ Token.begin_object ∷ part_tokens ask.citation PARTS
     (Token.end_object ∷ Token.key (codes "query") ∷ Token.string ask.query ∷ Token.key (codes "refused") ∷ Token.string refused ∷ Token.key (codes "hits") ∷ ts)
 
 -- the tokens of the end of an answer

@@ -1,8 +1,8 @@
--- The answer to a query as JSON: its citation, the query that is looked up, why none is, the hits, and the titles whose date
+-- The answer to a query as JSON: the version of its form, its citation, the query that is looked up, why none is, the hits, and the titles whose date
 -- is covered and whose volume is not.
 use Rattle.std.specs.Prelude.{ℕ, List, [], ◌∷◌, ◌++◌, codes, drop}
 use Rattle.std.specs.List.{flat_map}
-use Rattle.json.specs.Json.{Json, Members, object, array, member, no_members}
+use Rattle.json.specs.Json.{Json, Members, object, array, member, no_members, number}
 use Rattle.json.specs.Value.{items_of}
 use Rattle.feed_openurl.specs.CitationParts.{name_of}
 use Rattle.feed_openurl.specs.Citations.{CitationValue, text_at}
@@ -15,9 +15,9 @@ use Rattle.node_hits.specs.QueryFacts.{QueryFactsValue}
 use Rattle.node_hits.specs.HitsJson.{also_json, also_value, hits_json, item_values, text_member, values_with}
 use Rattle.node_hits.specs.Tallies.{TallyValue}
 
--- the beginning of a citation, with its first part
+-- the version of the form of answers, and the beginning of a citation, with its first part
 unfoldable pub citation_front : CitationValue → List ℕ
-citation_front citation = joined (codes "{\"citation\":{\"article\":" ∷ json_string (text_at citation Article) ∷ [])
+citation_front citation = joined (codes "{\"version\":1,\"citation\":{\"article\":" ∷ json_string (text_at citation Article) ∷ [])
 
 -- another part
 unfoldable pub part_member : CitationValue → CitationPart → List ℕ
@@ -52,11 +52,12 @@ part_members citation (part ∷ parts) = text_member (name_of part) (text_at cit
 abbrev pub citation_value : CitationValue → Json
 citation_value citation = object (part_members citation PARTS)
 
--- the object that states an answer
+-- the object that states an answer, in the first version of its form, to which members are only added
 abbrev pub answer_value : QueryFactsValue → List ℕ → TallyValue → TallyValue → Json
 answer_value ask refused tally also = object (
-    member (codes "citation") (citation_value ask.citation)
+    member (codes "version") (number (codes "1"))
+    (member (codes "citation") (citation_value ask.citation)
     (text_member (codes "query") ask.query
     (text_member (codes "refused") refused
     (member (codes "hits") (array (items_of (item_values tally)))
-    (member (codes "also") (array (items_of (values_with also_value also))) no_members)))))
+    (member (codes "also") (array (items_of (values_with also_value also))) no_members))))))

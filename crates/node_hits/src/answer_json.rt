@@ -1,5 +1,5 @@
-//! Writes the answer to a query as JSON: its citation, the query that is looked up, why none is, the hits, and the rows
-//! whose date is covered and whose volume is not.
+//! Writes the answer to a query as JSON: the version of its form, its citation, the query that is looked up, why none
+//! is, the hits, and the rows whose date is covered and whose volume is not.
 ghost use Rattle.std.specs.Prelude.{◌≡◌, ◌++◌, OnOk};
 ghost use Rattle.std.specs.List.{flat_map};
 ghost use Rattle.node_hits.specs.AnswerJson.{also_member, answer_json, answer_start, citation_front};
@@ -15,6 +15,7 @@ use feed_openurl::{Citation, CitationPart, PARTS};
 use node_response::{Fragment, put};
 use std::alloc::AllocError;
 
+// Writes the version of the form, and the beginning of a citation.
 #[tactic(auto, unfolding(crate::specs::AnswerJson::citation_front))]
 fn put_citation_front(out: &mut Vec<u8>, citation: &Citation) -> Result<(), AllocError>
     ensures { OnOk result (out.new.items ≡ out.old.items ++ citation_front citation.now) }
@@ -22,7 +23,7 @@ fn put_citation_front(out: &mut Vec<u8>, citation: &Citation) -> Result<(), Allo
     put_all(
         out,
         &[
-            Fragment::Plain(b"{\"citation\":{\"article\":"),
+            Fragment::Plain(b"{\"version\":1,\"citation\":{\"article\":"),
             Fragment::Quoted(citation.text(CitationPart::Article).as_bytes()),
         ],
     )
@@ -99,8 +100,8 @@ fn put_also(out: &mut Vec<u8>, also: &Tally<'_>) -> Result<(), AllocError>
     put(out, b"}\n")
 }
 
-/// Writes the facts about a query, why nothing is looked up, or an empty reason, the hits that a tally shows, and the
-/// titles of another one, whose date is covered and whose volume is not.
+/// Writes the version of the form, the facts about a query, why nothing is looked up, or an empty reason, the hits that
+/// a tally shows, and the titles of another one, whose date is covered and whose volume is not.
 #[tactic(auto, unfolding(crate::specs::AnswerJson::answer_json))]
 pub fn put_answer_json(
     out: &mut Vec<u8>,
