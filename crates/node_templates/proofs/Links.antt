@@ -10,7 +10,7 @@ use Rattle.std.specs.Str.{bytes_eq, str_eq_ignore_ascii_case}
 use Rattle.node_response.specs.Escapes.{escape_byte, escaped, escaped_bytes, is_control, is_markup}
 use Rattle.node_site.specs.Hosts.{host_behind, host_of, is_link}
 use Rattle.node_site.specs.Urls.{begins_with, has_byte, is_visible, url_limit}
-use Rattle.node_templates.specs.Tags.{has_front, is_local, is_safe}
+use Rattle.node_templates.specs.Tags.{has_front, is_absolute, is_local, is_safe, Place, OwnPage, OtherPage}
 use Rattle.node_templates.proofs.PlainTexts.{as_it_is}
 
 -- a byte of a front that is not escaped in any case of letters
@@ -91,14 +91,17 @@ schemed text h = go (has_byte 92 text) (begins_with (codes "https://") text) (be
 visible_small : (b : ℕ) → is_visible b ≡ true → b < 127
 visible_small b h = grind (arith, nat_tests)
 
-pub safe-escaped : (text rest : List ℕ) → is_link text ≡ true → is_safe (escaped text ++ rest) ≡ true
-safe-escaped text rest h =
+absolute-escaped : (text rest : List ℕ) → is_link text ≡ true → is_absolute (escaped text ++ rest) ≡ true
+absolute-escaped text rest h =
     let parts = and_parts (nat_le (length text) url_limit) (list_all is_visible text && is_some (host_of text)) h in
     let more = and_parts (list_all is_visible text) (is_some (host_of text)) parts.1 in
     let whole = escaped_bytes text ++ rest in
-    ap (λ (t : List ℕ). is_safe (escaped_bytes t ++ rest)) (as_it_is is_visible visible_small text more.0)
-    ∙ or_right (is_local whole) (has_front (codes "http://") whole || has_front (codes "https://") whole)
-    (elim (or_cases (begins_with (codes "http://") text) (begins_with (codes "https://") text) (schemed text more.1)) [
+    ap (λ (t : List ℕ). is_absolute (escaped_bytes t ++ rest)) (as_it_is is_visible visible_small text more.0)
+    ∙ elim (or_cases (begins_with (codes "http://") text) (begins_with (codes "https://") text) (schemed text more.1)) [
       | inl e ↦ or_left (has_front (codes "http://") whole) (has_front (codes "https://") whole) (begins-escaped (codes "http://") text rest refl e)
       | inr e ↦ or_right (has_front (codes "http://") whole) (has_front (codes "https://") whole) (begins-escaped (codes "https://") text rest refl e)
-    ])
+    ]
+
+pub safe-escaped : (place : Place) (text rest : List ℕ) → is_link text ≡ true → is_safe place (escaped text ++ rest) ≡ true
+safe-escaped OwnPage text rest h = or_right (is_local (escaped text ++ rest)) (is_absolute (escaped text ++ rest)) (absolute-escaped text rest h)
+safe-escaped OtherPage text rest h = absolute-escaped text rest h

@@ -1,8 +1,9 @@
 -- The templates.
 use Rattle.std.specs.Prelude.{ℕ, List}
 use Rattle.node_templates.specs.Plain.{template_of}
-use Rattle.node_templates.specs.declared.citation.TheConstants.{CITED_NAMES, CITED_PLACE, CITED_WORK, NUMBER_FAULTS}
+use Rattle.node_templates.specs.declared.citation.TheConstants.{CITED_NAMES, CITED_PLACE, CITED_WORK, COINS, NUMBER_FAULTS}
 use Rattle.node_templates.specs.declared.form.TheConstants.{SEARCH_FORM, TITLES_FORM}
+use Rattle.node_templates.specs.declared.fragment.TheConstants.{FRAGMENT_END, FRAGMENT_TOP, FRAGMENT_WAYS}
 use Rattle.node_templates.specs.declared.frame.TheConstants.{ASK_AGAIN, FAULT, FOOT, NOTE, TOP}
 use Rattle.node_templates.specs.declared.lists.TheConstants.{CARD, CARDS, LEFT_OUT, PACKAGE, PACKAGES, PACKAGES_END}
 use Rattle.node_templates.specs.declared.lists.TheConstants.{TITLES_END, TITLE_CARD, WAY, WAYS, WAYS_END}
@@ -23,6 +24,7 @@ lines_of template.AskAgain = template_of ASK_AGAIN.now
 lines_of template.CitedWork = template_of CITED_WORK.now
 lines_of template.CitedPlace = template_of CITED_PLACE.now
 lines_of template.CitedNames = template_of CITED_NAMES.now
+lines_of template.Coins = template_of COINS.now
 lines_of template.Cards = template_of CARDS.now
 lines_of template.Card = template_of CARD.now
 lines_of template.LeftOut = template_of LEFT_OUT.now
@@ -35,3 +37,6 @@ lines_of template.NumberFaults = template_of NUMBER_FAULTS.now
 lines_of template.Packages = template_of PACKAGES.now
 lines_of template.Package = template_of PACKAGE.now
 lines_of template.PackagesEnd = template_of PACKAGES_END.now
+lines_of template.FragmentTop = template_of FRAGMENT_TOP.now
+lines_of template.FragmentWays = template_of FRAGMENT_WAYS.now
+lines_of template.FragmentEnd = template_of FRAGMENT_END.now

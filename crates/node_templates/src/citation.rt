@@ -35,6 +35,19 @@ pub(crate) const CITED_NAMES: &[TemplateLine] = template![
     if (Cited) ["</dl>"]
 ];
 
+/// The citation as COinS ("OpenURL COinS: A Convention to Embed Bibliographic Metadata in HTML", stable version 1.0):
+/// in the format of journals, or in that of books.
+pub(crate) const COINS: &[TemplateLine] = template![
+    if (JournalQuery) [
+        r#"<span class="Z3988" title="ctx_ver=Z39.88-2004&amp;rft_val_fmt=info%3Aofi%2Ffmt%3Akev%3Amtx%3Ajournal&amp;"#
+        {JournalQuery} r#""></span>"#
+    ]
+    if (BookQuery) [
+        r#"<span class="Z3988" title="ctx_ver=Z39.88-2004&amp;rft_val_fmt=info%3Aofi%2Ffmt%3Akev%3Amtx%3Abook&amp;"#
+        {BookQuery} r#""></span>"#
+    ]
+];
+
 /// The faults of the ISSN and of the ISBN, if they have any.
 pub(crate) const NUMBER_FAULTS: &[TemplateLine] = template![
     if (IssnFault) [

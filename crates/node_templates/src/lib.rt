@@ -57,6 +57,7 @@ macro_rules! template {
 
 mod citation;
 mod form;
+mod fragment;
 mod frame;
 mod laws;
 mod lines;
@@ -66,7 +67,7 @@ mod template;
 mod values;
 mod write;
 
-pub use laws::{pages_keep_tags, templates_are_sound};
+pub use laws::{fragments_keep_tags, pages_keep_tags, templates_are_sound};
 pub use slot::Slot;
 pub use template::Template;
 pub use values::{text_if, text_or_nothing};

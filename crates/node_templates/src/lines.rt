@@ -3,8 +3,9 @@ ghost use Rattle.std.specs.Prelude.{◌≡◌};
 ghost use Rattle.node_templates.specs.Plain.{plain_template};
 ghost use Rattle.node_templates.specs.Templates.{lines_of};
 
-use crate::citation::{CITED_NAMES, CITED_PLACE, CITED_WORK, NUMBER_FAULTS};
+use crate::citation::{CITED_NAMES, CITED_PLACE, CITED_WORK, COINS, NUMBER_FAULTS};
 use crate::form::{SEARCH_FORM, TITLES_FORM};
+use crate::fragment::{FRAGMENT_END, FRAGMENT_TOP, FRAGMENT_WAYS};
 use crate::frame::{ASK_AGAIN, FAULT, FOOT, NOTE, TOP};
 use crate::lists::{
     CARD, CARDS, LEFT_OUT, PACKAGE, PACKAGES, PACKAGES_END, TITLE_CARD, TITLES_END, WAY, WAYS,
@@ -28,6 +29,7 @@ pub(crate) fn lines_of(template: Template) -> &'static [TemplateLine]
         Template::CitedWork => CITED_WORK,
         Template::CitedPlace => CITED_PLACE,
         Template::CitedNames => CITED_NAMES,
+        Template::Coins => COINS,
         Template::Cards => CARDS,
         Template::Card => CARD,
         Template::LeftOut => LEFT_OUT,
@@ -40,5 +42,8 @@ pub(crate) fn lines_of(template: Template) -> &'static [TemplateLine]
         Template::Packages => PACKAGES,
         Template::Package => PACKAGE,
         Template::PackagesEnd => PACKAGES_END,
+        Template::FragmentTop => FRAGMENT_TOP,
+        Template::FragmentWays => FRAGMENT_WAYS,
+        Template::FragmentEnd => FRAGMENT_END,
     }
 }

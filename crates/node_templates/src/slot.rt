@@ -40,6 +40,9 @@ pub enum Slot {
     Doi,
     PmidLink,
     Pmid,
+    /// The citation as the query of an OpenURL. At most one has a value.
+    JournalQuery,
+    BookQuery,
     /// The name of a package and the title of a row; the link to an article with that to the page of its row, or else
     /// the link to the page alone; and the host of the platform.
     Package,

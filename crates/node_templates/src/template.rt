@@ -53,6 +53,8 @@ pub enum Template {
     CitedWork,
     CitedPlace,
     CitedNames,
+    /// The citation for programs that collect citations, if there is one.
+    Coins,
     /// The beginning of a list of cards, if it has any.
     Cards,
     /// The card of a hit.
@@ -74,4 +76,9 @@ pub enum Template {
     Packages,
     Package,
     PackagesEnd,
+    /// A fragment of a page of another site up to and including its heading, the beginning of its list of the library's
+    /// links, if it has any, and the end of that list and of the fragment.
+    FragmentTop,
+    FragmentWays,
+    FragmentEnd,
 }
