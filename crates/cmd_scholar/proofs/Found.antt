@@ -1,48 +1,26 @@
 -- A reader finds the title and the ISSNs of a row in its item.
-use Rattle.std.proofs.Common.{◌≡◌, ℕ, List, [], ◌∷◌, ◌++◌, Option, Some, None, ℤ, refl, sym, ap, ◌∙◌, inl, inr, append_assoc, codes, map}
+use Rattle.std.proofs.Common.{◌≡◌, ℕ, List, [], ◌∷◌, ◌++◌, Option, Some, None, ℤ, refl, ap, ◌∙◌, inl, inr, append_assoc, codes, map}
 use Rattle.std.specs.Prelude.{slice_range}
 use Rattle.std.specs.Fmt.{decimal}
 use Rattle.std.specs.Option.{option_and_then}
 use Rattle.std.proofs.lemmas.Bool.{cases_Bool}
-use Rattle.std.proofs.lemmas.List.{append-nil}
 use Rattle.feed_dates.specs.Days.{date_of_day}
 use Rattle.feed_answer.specs.declared.embargo.Embargo.{Embargo}
 use Rattle.feed_answer.specs.declared.wall.Span.{Span}
 use Rattle.feed_kbart.specs.Identifiers.{online_issn, print_issn}
 use Rattle.feed_kbart.specs.RowValue.{RowValue}
-use Rattle.cmd_scholar.specs.Characters.{allowed, bytes_marks, text_marks}
-use Rattle.cmd_scholar.specs.Elements.{leaf, date_marks, dated, day_marks}
+use Rattle.feed_xml.specs.Characters.{allowed, bytes_marks}
+use Rattle.feed_xml.specs.Elements.{leaf}
+use Rattle.cmd_scholar.specs.Elements.{date_marks, dated, day_marks}
 use Rattle.cmd_scholar.specs.Embargoes.{embargo_marks, has_span, span_days, span_marks, spans_marks}
 use Rattle.cmd_scholar.specs.Items.{coverage_marks, item_with}
 use Rattle.cmd_scholar.specs.Laws.{HasRow, ItemHasRow}
 use Rattle.cmd_scholar.specs.Laws as law
-use Rattle.cmd_scholar.specs.Marks.{Mark, opened, closed, byte, element}
+use Rattle.feed_xml.specs.Marks.{Mark, opened, closed, byte, element}
 use Rattle.cmd_scholar.specs.Fragments.{issn_marks}
-use Rattle.cmd_scholar.specs.Reading.{begun_text, leaf_texts, leaf_texts_in}
+use Rattle.feed_xml.specs.Reading.{leaf_texts, leaf_texts_in}
+use Rattle.feed_xml.proofs.Found.{IsOther, Skips, found_leaf, skips_append, skips_bytes, skips_element, skips_leaf}
 use Rattle.cmd_scholar.specs.declared.names.TheConstants.{ITEM, ITEM_END, TITLE, ISSN, COVERAGE, FROM, TO, YEAR, MONTH, DAY, EMBARGO, HIDDEN_DAYS, OPEN_DAYS}
-
--- marks have no element with the name, wherever they are
-abbrev Skips : List ℕ → List Mark → Type 0
-Skips name marks = (rest : List Mark) → leaf_texts_in name (marks ++ rest) None ≡ leaf_texts_in name rest None
-
-skips_append : (name : List ℕ) (xs ys : List Mark) → Skips name xs → Skips name ys → Skips name (xs ++ ys)
-skips_append name xs ys one two rest = ap (λ t. leaf_texts_in name t None) (append_assoc xs ys rest) ∙ one (ys ++ rest) ∙ two rest
-
-skips_bytes : (name bytes : List ℕ) → Skips name (bytes_marks bytes)
-skips_bytes name [] rest = refl
-skips_bytes name (b ∷ bytes) rest = skips_bytes name bytes rest
-
--- an element has another name
-abbrev IsOther : List ℕ → List ℕ → Type 0
-IsOther name tag = begun_text name tag ≡ None
-
-skips_element : (name tag end : List ℕ) (content : List Mark) → IsOther name tag → Skips name content → Skips name (element tag end content)
-skips_element name tag end content other skips rest =
-    ap (leaf_texts_in name ((content ++ closed end ∷ []) ++ rest)) other
-    ∙ ap (λ t. leaf_texts_in name t None) (append_assoc content (closed end ∷ []) rest) ∙ skips (closed end ∷ rest)
-
-skips_leaf : (name other text : List ℕ) → IsOther name other → Skips name (leaf other text)
-skips_leaf name other text is = skips_element name other other (text_marks text) is (skips_bytes name (allowed text))
 
 -- the name is that of no element of a coverage
 record IsOutside (name : List ℕ) : Type 0 where
@@ -96,17 +74,6 @@ skips_coverage name embargo row is =
 skips_issn : (name : List ℕ) (issn : Option (List ℕ)) → IsOther name ISSN.now → Skips name (issn_marks issn)
 skips_issn name None differs rest = refl
 skips_issn name (Some issn) differs rest = skips_leaf name ISSN.now issn differs rest
-
--- the text of an element is collected
-collected : (name end done bytes : List ℕ) (rest : List Mark)
-    → leaf_texts_in name ((bytes_marks bytes ++ closed end ∷ []) ++ rest) (Some done) ≡ (done ++ bytes) ∷ leaf_texts_in name rest None
-collected name end done [] rest = ap (λ t. t ∷ leaf_texts_in name rest None) (sym (append-nil done))
-collected name end done (b ∷ bytes) rest =
-    collected name end (done ++ b ∷ []) bytes rest ∙ ap (λ t. t ∷ leaf_texts_in name rest None) (append_assoc done (b ∷ []) bytes)
-
-found_leaf : (name text : List ℕ) (rest : List Mark) → begun_text name name ≡ Some [] → leaf_texts_in name (leaf name text ++ rest) None ≡ allowed text ∷ leaf_texts_in name rest None
-found_leaf name text rest is =
-    ap (leaf_texts_in name ((text_marks text ++ closed name ∷ []) ++ rest)) is ∙ collected name name [] (allowed text) rest
 
 -- the end of an item
 abbrev after : List Mark

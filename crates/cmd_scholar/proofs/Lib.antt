@@ -1,7 +1,4 @@
 pub mod Written
-pub mod TextsWritten
-pub mod CharactersAllowed
-pub mod MarksRead
 pub mod Structure
 pub mod Found
 pub mod SpansCounted

@@ -1,78 +1,25 @@
 -- The tags of an export are proper and balanced.
-use Rattle.std.proofs.Common.{◌≡◌, ℕ, List, [], ◌∷◌, ◌++◌, Bool, true, Option, Some, None, ℤ, Result, Ok, Err, refl, sym, ap, ◌∙◌, inl, inr, append_assoc}
-use Rattle.std.specs.Prelude.{◌&&◌, slice_range}
-use Rattle.std.specs.Fmt.{decimal}
-use Rattle.std.specs.List.{flat_map, list_all}
+use Rattle.std.proofs.Common.{◌≡◌, ℕ, List, [], ◌∷◌, ◌++◌, true, Option, Some, None, ℤ, Result, Ok, Err, refl, inl, inr}
+use Rattle.std.specs.Prelude.{slice_range}
+use Rattle.std.specs.List.{flat_map}
 use Rattle.std.specs.Option.{option_and_then}
-use Rattle.std.specs.Str.{bytes_eq}
 use Rattle.std.proofs.lemmas.Bool.{cases_Bool}
-use Rattle.std.proofs.lemmas.List.{append-nil}
 use Rattle.feed_dates.specs.Days.{date_of_day}
 use Rattle.feed_answer.specs.declared.embargo.Embargo.{Embargo}
 use Rattle.feed_answer.specs.declared.wall.Span.{Span}
 use Rattle.feed_kbart.specs.Identifiers.{online_issn, print_issn}
 use Rattle.feed_kbart.specs.RowValue.{RowValue}
 use Rattle.cmd_scholar.specs.declared.item.LeftOut.{LeftOut}
-use Rattle.cmd_scholar.specs.Characters.{allowed, bytes_marks, text_marks}
-use Rattle.cmd_scholar.specs.Elements.{leaf, number_leaf, date_marks, dated, day_marks}
+use Rattle.feed_xml.specs.Characters.{bytes_marks}
+use Rattle.feed_xml.specs.Elements.{leaf}
+use Rattle.cmd_scholar.specs.Elements.{date_marks, dated, day_marks}
 use Rattle.cmd_scholar.specs.Embargoes.{embargo_marks, has_span, span_days, span_marks, spans_marks}
 use Rattle.cmd_scholar.specs.Items.{content_marks, coverage_marks, embargo_in, holdings_marks, item_by, item_marks}
-use Rattle.cmd_scholar.specs.Marks.{Mark, opened, closed, byte, element, xml_text}
+use Rattle.feed_xml.specs.Marks.{byte, xml_text}
 use Rattle.cmd_scholar.specs.Fragments.{issn_marks}
-use Rattle.cmd_scholar.specs.Reading.{is_balanced, is_balanced_in, tag_name, xml_marks}
+use Rattle.feed_xml.specs.Reading.{is_balanced, xml_marks}
 use Rattle.cmd_scholar.specs.declared.names.TheConstants.{HOLDINGS, ITEM, ITEM_END, TITLE, ISSN, COVERAGE, FROM, TO, YEAR, MONTH, DAY, EMBARGO, HIDDEN_DAYS, OPEN_DAYS}
-use Rattle.cmd_scholar.proofs.MarksRead.{Proper, is_proper, marks_read}
-use Rattle.cmd_scholar.proofs.Written.{both}
-
--- the tags of marks are proper, and balanced wherever they are
-record Good (marks : List Mark) : Type 0 where
-  proper : Proper marks
-  balanced : (rest : List Mark) (names : List (List ℕ)) → is_balanced_in (marks ++ rest) names ≡ is_balanced_in rest names
-
-good_nothing : Good []
-good_nothing = record { proper = refl; balanced = λ rest names. refl }
-
-all_append : (xs ys : List Mark) → Proper xs → Proper ys → Proper (xs ++ ys)
-all_append [] ys one two = two
-all_append (x ∷ xs) ys one two = let parts = both (is_proper x) (list_all is_proper xs) one in rw (parts.0, all_append xs ys parts.1 two) refl
-
-good_append : (xs ys : List Mark) → Good xs → Good ys → Good (xs ++ ys)
-good_append xs ys one two = record {
-  proper = all_append xs ys one.proper two.proper;
-  balanced = λ rest names. ap (λ t. is_balanced_in t names) (append_assoc xs ys rest) ∙ one.balanced (ys ++ rest) names ∙ two.balanced rest names;
-}
-
-bytes_proper : (bytes : List ℕ) → Proper (bytes_marks bytes)
-bytes_proper [] = refl
-bytes_proper (b ∷ bytes) = bytes_proper bytes
-
-bytes_balanced : (bytes : List ℕ) (rest : List Mark) (names : List (List ℕ)) → is_balanced_in (bytes_marks bytes ++ rest) names ≡ is_balanced_in rest names
-bytes_balanced [] rest names = refl
-bytes_balanced (b ∷ bytes) rest names = bytes_balanced bytes rest names
-
-good_bytes : (bytes : List ℕ) → Good (bytes_marks bytes)
-good_bytes bytes = record { proper = bytes_proper bytes; balanced = bytes_balanced bytes }
-
--- a start tag and an end tag fit each other
-abbrev are_tags : List ℕ → List ℕ → Bool
-are_tags tag name = is_proper (opened tag) && (is_proper (closed name) && bytes_eq (tag_name tag) name)
-
-good_element : (tag name : List ℕ) (content : List Mark) → are_tags tag name ≡ true → Good content → Good (element tag name content)
-good_element tag name content tags good =
-    let parts = both (is_proper (opened tag)) (is_proper (closed name) && bytes_eq (tag_name tag) name) tags in
-    let ends = both (is_proper (closed name)) (bytes_eq (tag_name tag) name) parts.1 in
-    let end : Proper (closed name ∷ []) = rw ends.0 refl in
-    record {
-      proper = rw (parts.0, all_append content (closed name ∷ []) good.proper end) refl;
-      balanced = λ rest names. ap (λ t. is_balanced_in t (tag_name tag ∷ names)) (append_assoc content (closed name ∷ []) rest)
-          ∙ good.balanced (closed name ∷ rest) (tag_name tag ∷ names) ∙ rw ends.1 refl;
-    }
-
-good_leaf : (name text : List ℕ) → are_tags name name ≡ true → Good (leaf name text)
-good_leaf name text tags = good_element name name (text_marks text) tags (good_bytes (allowed text))
-
-good_number : (name : List ℕ) (n : ℕ) → are_tags name name ≡ true → Good (number_leaf name n)
-good_number name n tags = good_element name name (bytes_marks (decimal n)) tags (good_bytes (decimal n))
+use Rattle.feed_xml.proofs.Structure.{Good, are_tags, good_append, good_balanced, good_bytes, good_element, good_leaf, good_line, good_nothing, good_number, good_read}
 
 good_date : (date : List ℕ) → Good (date_marks date)
 good_date date =
@@ -120,10 +67,6 @@ good_content embargo row =
     (good_issn (print_issn row.identifiers))
     (good_append (issn_marks (online_issn row.identifiers)) (coverage_marks embargo row) (good_issn (online_issn row.identifiers)) (good_coverage embargo row)))
 
-good_line : (tag name : List ℕ) (content : List Mark) → are_tags tag name ≡ true → Good content → Good (element tag name content ++ byte 10 ∷ [])
-good_line tag name content tags good =
-    good_append (element tag name content) (byte 10 ∷ []) (good_element tag name content tags good) (good_bytes (10 ∷ []))
-
 good_item_by : (embargo : Result Embargo LeftOut) (row : RowValue) → Good (item_by embargo row)
 good_item_by (Ok embargo) row = good_line ITEM.now ITEM_END.now (content_marks embargo row) refl (good_content embargo row)
 good_item_by (Err why) row = good_nothing
@@ -139,9 +82,8 @@ good_holdings rows =
 
 -- a reader gets the export back
 pub export_read : (rows : List RowValue) → xml_marks (xml_text (holdings_marks rows)) ≡ Some (holdings_marks rows)
-export_read rows = marks_read (holdings_marks rows) (good_holdings rows).proper
+export_read rows = good_read (holdings_marks rows) (good_holdings rows)
 
 -- and its tags are balanced
 pub export_balanced : (rows : List RowValue) → is_balanced (holdings_marks rows) ≡ true
-export_balanced rows =
-    ap (λ t. is_balanced_in t []) (sym (append-nil (holdings_marks rows))) ∙ (good_holdings rows).balanced [] []
+export_balanced rows = good_balanced (holdings_marks rows) (good_holdings rows)

@@ -1,19 +1,10 @@
--- Elements that have a text or a number alone, and the days of a coverage.
+-- The elements of the days of a coverage.
 use Rattle.std.specs.Prelude.{ℕ, List, [], ◌++◌, slice_range, Option, Some, None, ℤ}
-use Rattle.std.specs.Fmt.{decimal}
 use Rattle.std.specs.Option.{option_and_then}
 use Rattle.feed_dates.specs.Days.{date_of_day}
-use Rattle.cmd_scholar.specs.Marks.{Mark, element}
-use Rattle.cmd_scholar.specs.Characters.{bytes_marks, text_marks}
+use Rattle.feed_xml.specs.Elements.{leaf}
+use Rattle.feed_xml.specs.Marks.{Mark, element}
 use Rattle.cmd_scholar.specs.declared.names.TheConstants.{YEAR, MONTH, DAY}
-
--- an element with a text alone
-abbrev pub leaf : List ℕ → List ℕ → List Mark
-leaf name text = element name name (text_marks text)
-
--- an element with a number alone
-abbrev pub number_leaf : List ℕ → ℕ → List Mark
-number_leaf name n = element name name (bytes_marks (decimal n))
 
 -- the year, the month and the day of a date, YYYY-MM-DD
 abbrev pub date_marks : List ℕ → List Mark

@@ -3,8 +3,8 @@ use Rattle.std.specs.Prelude.{ℕ, ◌*◌, ◌||◌, Bool, if◌then◌else◌,
 use Rattle.feed_answer.specs.declared.embargo.Embargo.{Embargo}
 use Rattle.feed_answer.specs.declared.wall.Span.{Span}
 use Rattle.feed_answer.specs.declared.wall.Span.TheVariants.{Days, Months, Years}
-use Rattle.cmd_scholar.specs.Elements.{number_leaf}
-use Rattle.cmd_scholar.specs.Marks.{Mark, element}
+use Rattle.feed_xml.specs.Elements.{number_leaf}
+use Rattle.feed_xml.specs.Marks.{Mark, element}
 use Rattle.cmd_scholar.specs.declared.names.TheConstants.{EMBARGO, HIDDEN_DAYS, OPEN_DAYS}
 
 -- the most days that a span may have: a month has at most 31, and a year at most 366

@@ -1,9 +1,10 @@
 -- The fragments of an item.
 use Rattle.std.specs.Prelude.{ℕ, List, [], ◌∷◌, Option, Some, None}
-use Rattle.cmd_scholar.specs.Characters.{text_marks}
-use Rattle.cmd_scholar.specs.Elements.{leaf, day_marks}
+use Rattle.feed_xml.specs.Characters.{text_marks}
+use Rattle.feed_xml.specs.Elements.{leaf}
+use Rattle.cmd_scholar.specs.Elements.{day_marks}
 use Rattle.cmd_scholar.specs.Embargoes.{embargo_marks}
-use Rattle.cmd_scholar.specs.Marks.{Mark, opened, closed, xml_text}
+use Rattle.feed_xml.specs.Marks.{Mark, opened, closed, xml_text}
 use Rattle.cmd_scholar.specs.declared.names.TheConstants.{ISSN}
 use Rattle.cmd_scholar.specs.declared.fragment.ScholarFragment.{ScholarFragment}
 use Rattle.cmd_scholar.specs.declared.fragment.ScholarFragment.TheVariants as of

@@ -7,13 +7,15 @@ use Rattle.feed_kbart.specs.Identifiers.{kind, online_issn, print_issn}
 use Rattle.feed_kbart.specs.RowValue.{RowValue}
 use Rattle.feed_kbart.specs.declared.identifiers.Kind.{Kind}
 use Rattle.feed_kbart.specs.declared.identifiers.Kind.TheVariants as of
-use Rattle.cmd_scholar.specs.Elements.{leaf, day_marks}
+use Rattle.feed_xml.specs.Elements.{leaf}
+use Rattle.cmd_scholar.specs.Elements.{day_marks}
 use Rattle.cmd_scholar.specs.Embargoes.{embargo_marks}
-use Rattle.cmd_scholar.specs.Marks.{Mark, byte, closed, element, mark_text, opened, xml_text}
+use Rattle.feed_xml.specs.Marks.{Mark, byte, closed, element, mark_text, opened, xml_text}
 use Rattle.cmd_scholar.specs.Fragments.{issn_marks}
 use Rattle.cmd_scholar.specs.declared.item.LeftOut.{LeftOut}
 use Rattle.cmd_scholar.specs.declared.item.LeftOut.TheVariants as left
-use Rattle.cmd_scholar.specs.declared.names.TheConstants.{DECLARATION, HOLDINGS, ITEM, ITEM_END, TITLE, COVERAGE, FROM, TO}
+use Rattle.feed_xml.specs.declared.tags.TheConstants.{DECLARATION}
+use Rattle.cmd_scholar.specs.declared.names.TheConstants.{HOLDINGS, ITEM, ITEM_END, TITLE, COVERAGE, FROM, TO}
 
 -- the embargo that is read, if it has the form
 abbrev pub embargo_read : Option Embargo → Result Embargo LeftOut

@@ -1,5 +1,5 @@
 -- Laws of the export.
-use Rattle.std.specs.Prelude.{◌≡◌, ◌<◌, ◌++◌, ℕ, List, [], ◌∷◌, true, false, All, Option, Some, None, map, ℤ, pos, ◌+ℤ◌, ◌≤ℤ◌, ◌<ℤ◌, codes}
+use Rattle.std.specs.Prelude.{◌≡◌, ◌<◌, ◌++◌, ℕ, List, [], ◌∷◌, true, Option, Some, None, map, ℤ, pos, ◌+ℤ◌, ◌≤ℤ◌, ◌<ℤ◌, codes}
 use Rattle.std.specs.List.{flat_map}
 use Rattle.feed_answer.specs.Embargo.{start}
 use Rattle.feed_answer.specs.Today.{TodayValue, IsDayOfMonth}
@@ -8,11 +8,11 @@ use Rattle.feed_answer.specs.declared.wall.Span.{Span}
 use Rattle.feed_answer.specs.declared.wall.Span.TheVariants.{Days, Months, Years}
 use Rattle.feed_kbart.specs.Identifiers.{online_issn, print_issn}
 use Rattle.feed_kbart.specs.RowValue.{RowValue}
-use Rattle.cmd_scholar.specs.Characters.{allowed, is_control}
+use Rattle.feed_xml.specs.Characters.{allowed}
 use Rattle.cmd_scholar.specs.Embargoes.{span_days}
 use Rattle.cmd_scholar.specs.Items.{end_text, export_text, holdings_marks, item_text, item_with, start_text}
-use Rattle.cmd_scholar.specs.Marks.{xml_text}
-use Rattle.cmd_scholar.specs.Reading.{is_balanced, leaf_texts, xml_marks}
+use Rattle.feed_xml.specs.Marks.{xml_text}
+use Rattle.feed_xml.specs.Reading.{is_balanced, leaf_texts, xml_marks}
 
 -- the beginning, the items and the end are the export
 abbrev pub ExportIsWritten : Type 0
@@ -26,14 +26,6 @@ ExportReadsBack = (rows : List RowValue) → xml_marks (xml_text (holdings_marks
 -- each end tag of the export closes the innermost element
 abbrev pub ExportIsBalanced : Type 0
 ExportIsBalanced = (rows : List RowValue) → is_balanced (holdings_marks rows) ≡ true
-
--- a text has no control character that XML does not have
-abbrev pub HasNoControls : Type 0
-HasNoControls = (text : List ℕ) → All (λ b. is_control b ≡ false) (allowed text)
-
--- a text of the characters that XML has is not changed again
-abbrev pub AllowedIsItself : Type 0
-AllowedIsItself = (text : List ℕ) → allowed (allowed text) ≡ allowed text
 
 -- the identifiers that there are, print first
 abbrev pub both : Option (List ℕ) → Option (List ℕ) → List (List ℕ)

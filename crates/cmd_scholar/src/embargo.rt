@@ -1,11 +1,11 @@
 //! The element of an embargo, whose lengths are days.
 ghost use Rattle.std.specs.Prelude.{◌≡◌, ◌++◌, OnOk};
 ghost use Rattle.cmd_scholar.specs.Embargoes.{embargo_marks, has_span, span_days, span_marks, spans_marks};
-ghost use Rattle.cmd_scholar.specs.Marks.{xml_text};
+ghost use Rattle.feed_xml.specs.Marks.{xml_text};
 
 use crate::names::{EMBARGO, HIDDEN_DAYS, OPEN_DAYS};
-use crate::tags::{put_closed, put_number_leaf, put_opened};
 use feed_answer::{Embargo, Span};
+use feed_xml::{put_closed, put_number_leaf, put_opened};
 use std::alloc::AllocError;
 
 // Returns the most days that a span may have: a month has 31, and a year 366.

@@ -3,17 +3,16 @@ ghost use Rattle.std.specs.Prelude.{◌≡◌, ◌++◌, OnOk};
 ghost use Rattle.std.specs.Option.{option_and_then};
 ghost use Rattle.feed_dates.specs.Days.{date_of_day};
 ghost use Rattle.cmd_scholar.specs.Elements.{date_marks, dated, day_marks};
-ghost use Rattle.cmd_scholar.specs.Marks.{xml_text};
+ghost use Rattle.feed_xml.specs.Marks.{xml_text};
 ghost use Rattle.cmd_scholar.specs.Fragments.{issn_marks};
 
-use crate::characters::put_text;
 use crate::embargo::put_embargo;
 use crate::names::{DAY, ISSN, MONTH, YEAR};
-use crate::tags::{put_closed, put_leaf, put_opened};
 use feed_answer::Embargo;
 use feed_bytes::PutFragment;
 use feed_dates::write_date;
 use feed_identifiers::Issn;
+use feed_xml::{put_closed, put_leaf, put_opened, put_text};
 use std::alloc::AllocError;
 
 /// A fragment of an item.

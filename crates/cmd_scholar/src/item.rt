@@ -1,7 +1,7 @@
 //! The item of a row.
 ghost use Rattle.std.specs.Prelude.{◌≡◌, ◌++◌, OnOk, count_by};
 ghost use Rattle.cmd_scholar.specs.Items.{embargo_in, is_left_out, item_text, item_with, left_out};
-ghost use Rattle.cmd_scholar.specs.Marks.{xml_text};
+ghost use Rattle.feed_xml.specs.Marks.{xml_text};
 
 use crate::fragment::ScholarFragment;
 use crate::names::{COVERAGE, FROM, ITEM, ITEM_END, TITLE, TO};

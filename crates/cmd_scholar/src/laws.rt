@@ -1,6 +1,6 @@
 //! Laws of the export, each stated as the contract of a function with an empty body.
-ghost use Rattle.cmd_scholar.specs.Laws.{AllowedIsItself, ExportIsBalanced, ExportIsWritten, ExportReadsBack};
-ghost use Rattle.cmd_scholar.specs.Laws.{HasNoControls, ItemHasRow, SpansAreCounted};
+ghost use Rattle.cmd_scholar.specs.Laws.{ExportIsBalanced, ExportIsWritten, ExportReadsBack};
+ghost use Rattle.cmd_scholar.specs.Laws.{ItemHasRow, SpansAreCounted};
 
 /// The beginning, the items of rows and the end, written one after another, are the export of the rows.
 pub fn export_is_written()
@@ -16,16 +16,6 @@ pub fn export_reads_back()
 /// Each end tag of the export closes the innermost element that is open, and none is open at the end.
 pub fn export_is_balanced()
     ensures { ExportIsBalanced }
-{}
-
-/// A text has no control character but tab, LF and CR, as XML 1.0 requires.
-pub fn allowed_has_no_controls()
-    ensures { HasNoControls }
-{}
-
-/// A text of characters that XML 1.0 has is written as it is: U+FFFD replaces the others alone.
-pub fn allowed_is_itself()
-    ensures { AllowedIsItself }
 {}
 
 /// A reader finds in an item the title of its row, once, and each ISSN of the row.

@@ -2,18 +2,15 @@
 //! its ISSNs, its coverage and its embargo.
 #![tactic(auto)]
 
-mod characters;
 mod embargo;
 mod fragment;
 mod item;
 mod laws;
 mod names;
-mod tags;
 mod writing;
 
 pub use item::{LeftOut, count_left_out, left_out, put_item};
 pub use laws::{
-    allowed_has_no_controls, allowed_is_itself, export_is_balanced, export_is_written,
-    export_reads_back, item_has_row, spans_are_counted,
+    export_is_balanced, export_is_written, export_reads_back, item_has_row, spans_are_counted,
 };
 pub use writing::{write_end, write_items, write_start};

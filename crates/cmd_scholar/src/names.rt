@@ -1,8 +1,5 @@
 //! The names of the elements, in one table. They are those of the programme's page, from memory.
 
-/// The XML declaration, which comes before the root element.
-pub(crate) const DECLARATION: &[u8] = b"<?xml version=\"1.0\" encoding=\"UTF-8\"?>\n";
-
 /// The root element.
 pub(crate) const HOLDINGS: &[u8] = b"institutional_holdings";
 

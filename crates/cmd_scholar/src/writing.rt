@@ -5,9 +5,9 @@ ghost use Rattle.std.specs.List.{flat_map};
 ghost use Rattle.cmd_scholar.specs.Items.{end_text, item_text, start_text};
 
 use crate::item::put_item;
-use crate::names::{DECLARATION, HOLDINGS};
-use crate::tags::{put_closed, put_opened};
+use crate::names::HOLDINGS;
 use feed_kbart::Row;
+use feed_xml::{DECLARATION, put_closed, put_opened};
 use std::alloc::{AllocError, Global};
 use std::io;
 use std::io::Write;

@@ -2,7 +2,7 @@ use Rattle.std.proofs.Common.{◌++◌, ap, ◌∙◌, sym}
 use Rattle.std.proofs.lemmas.List.{append-nil}
 use Rattle.std.proofs.lemmas.Result.{on_ok_weaker}
 use Rattle.cmd_scholar.specs.Items.{item_by, item_text}
-use Rattle.cmd_scholar.specs.Marks.{xml_text}
+use Rattle.feed_xml.specs.Marks.{xml_text}
 use Rattle.cmd_scholar.proofs.item.put_item.Goals as goal
 
 pub returns-in-Ok : goal.returns-in-Ok

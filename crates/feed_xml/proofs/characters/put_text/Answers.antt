@@ -1,10 +1,10 @@
 use Rattle.std.proofs.Common.{◌+◌, ◌++◌, drop, get_or}
 use Rattle.std.specs.List.{flat_map}
 use Rattle.std.proofs.lemmas.List.{drop_all, drop_more}
-use Rattle.cmd_scholar.specs.Characters.{allowed}
-use Rattle.cmd_scholar.specs.Marks.{escape_byte}
-use Rattle.cmd_scholar.proofs.TextsWritten.{all_written, byte_written}
-use Rattle.cmd_scholar.proofs.characters.put_text.Goals as goal
+use Rattle.feed_xml.specs.Characters.{allowed}
+use Rattle.feed_xml.specs.Marks.{escape_byte}
+use Rattle.feed_xml.proofs.TextsWritten.{all_written, byte_written}
+use Rattle.feed_xml.proofs.characters.put_text.Goals as goal
 
 pub loop-byte-preserved : goal.loop-byte-preserved
 loop-byte-preserved c =

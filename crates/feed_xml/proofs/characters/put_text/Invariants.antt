@@ -1,9 +1,9 @@
 use Rattle.std.proofs.Common.{◌≡◌, ◌++◌, drop}
 use Rattle.std.specs.List.{flat_map}
-use Rattle.cmd_scholar.specs.Characters.{allowed}
-use Rattle.cmd_scholar.specs.Marks.{escape_byte}
-use Rattle.cmd_scholar.proofs.TextsWritten.{with_rest}
-use Rattle.cmd_scholar.proofs.characters.put_text.Given as goal
+use Rattle.feed_xml.specs.Characters.{allowed}
+use Rattle.feed_xml.specs.Marks.{escape_byte}
+use Rattle.feed_xml.proofs.TextsWritten.{with_rest}
+use Rattle.feed_xml.proofs.characters.put_text.Given as goal
 
 -- what is written, with what is left, is the whole
 abbrev pub invariant-loop-byte : goal.invariant-loop-byte

@@ -1,9 +1,9 @@
 -- How a reader of XML decodes tags and character data (XML 1.0, sections 2.4, 3.1 and 4.6).
 use Rattle.std.specs.Prelude.{ℕ, ◌==◌, ◌||◌, ◌&&◌, not, Bool, true, false, if◌then◌else◌, List, [], ◌∷◌, ◌++◌, codes, Option, Some, None, option_map}
-use Rattle.std.specs.List.{take_while}
+use Rattle.std.specs.List.{list_all, take_while}
 use Rattle.std.specs.Option.{option_and_then}
 use Rattle.std.specs.Str.{bytes_eq}
-use Rattle.cmd_scholar.specs.Marks.{Mark, opened, closed, byte}
+use Rattle.feed_xml.specs.Marks.{Mark, opened, closed, byte}
 
 -- the character of a reference, by the text between `&` and `;`
 abbrev pub referred : List ℕ → Option ℕ
@@ -60,6 +60,17 @@ read_from (reference name) (b ∷ text) =
 -- reads a text
 abbrev pub xml_marks : List ℕ → Option (List Mark)
 xml_marks text = read_from between text
+
+-- neither `<` nor `>`
+abbrev pub is_unangled : ℕ → Bool
+is_unangled b = not (b == 60) && not (b == 62)
+
+-- a tag has no `<` or `>`, and a start tag begins with another byte than `/`
+abbrev pub is_proper : Mark → Bool
+is_proper (opened []) = false
+is_proper (opened (b ∷ tag)) = not (b == 47) && (is_unangled b && list_all is_unangled tag)
+is_proper (closed name) = list_all is_unangled name
+is_proper (byte b) = true
 
 -- the name of a start tag, before its attributes
 abbrev pub tag_name : List ℕ → List ℕ

@@ -4,9 +4,9 @@ use Rattle.std.specs.Prelude.{◌==◌, All}
 use Rattle.std.proofs.lemmas.Bool.{cases_Bool}
 use Rattle.std.proofs.lemmas.Bool.Decides.{nat_tests}
 use Rattle.std.proofs.lemmas.List.Elements.{All-from_recursion, All-append}
-use Rattle.cmd_scholar.specs.Characters.{allowed, allowed_byte, allowed_from, is_control, is_last, place_after}
-use Rattle.cmd_scholar.specs.declared.characters.Place.{Place}
-use Rattle.cmd_scholar.specs.declared.characters.Place.TheVariants.{Outside, First, Second}
+use Rattle.feed_xml.specs.Characters.{allowed, allowed_byte, allowed_from, is_control, is_last, place_after}
+use Rattle.feed_xml.specs.declared.characters.Place.{Place}
+use Rattle.feed_xml.specs.declared.characters.Place.TheVariants.{Outside, First, Second}
 
 abbrev Uncontrolled : ℕ → Type 0
 Uncontrolled b = is_control b ≡ false

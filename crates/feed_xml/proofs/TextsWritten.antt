@@ -3,10 +3,10 @@ use Rattle.std.proofs.Common.{◌≡◌, ℕ, List, [], ◌∷◌, ◌++◌, sym
 use Rattle.std.specs.List.{flat_map}
 use Rattle.std.proofs.lemmas.Grind.{flat_map-append}
 use Rattle.std.proofs.lemmas.List.{append-nil}
-use Rattle.cmd_scholar.specs.Characters.{allowed, allowed_byte, allowed_from, place_after, text_marks}
-use Rattle.cmd_scholar.specs.Marks.{escape_byte, xml_text}
-use Rattle.cmd_scholar.specs.declared.characters.Place.{Place}
-use Rattle.cmd_scholar.proofs.Written.{bytes_text}
+use Rattle.feed_xml.specs.Characters.{allowed, allowed_byte, allowed_from, place_after, text_marks}
+use Rattle.feed_xml.specs.Marks.{escape_byte, xml_text}
+use Rattle.feed_xml.specs.declared.characters.Place.{Place}
+use Rattle.feed_xml.proofs.Written.{bytes_text}
 
 -- what is written with what is left
 abbrev pub with_rest : List ℕ → Place → List ℕ → List ℕ

@@ -1,8 +1,8 @@
 -- The characters of a text that XML 1.0 has (section 2.2), in UTF-8.
 use Rattle.std.specs.Prelude.{ℕ, ◌==◌, ◌&&◌, ◌||◌, not, nat_lt, Bool, false, if◌then◌else◌, List, [], ◌∷◌, ◌++◌, map}
-use Rattle.cmd_scholar.specs.Marks.{Mark, byte}
-use Rattle.cmd_scholar.specs.declared.characters.Place.{Place}
-use Rattle.cmd_scholar.specs.declared.characters.Place.TheVariants.{Outside, First, Second}
+use Rattle.feed_xml.specs.Marks.{Mark, byte}
+use Rattle.feed_xml.specs.declared.characters.Place.{Place}
+use Rattle.feed_xml.specs.declared.characters.Place.TheVariants.{Outside, First, Second}
 
 -- a control character that XML does not have: below U+0020, and no tab, LF or CR
 abbrev pub is_control : ℕ → Bool

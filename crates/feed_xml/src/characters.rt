@@ -1,8 +1,8 @@
 //! Writes the character data of an element: escaped, and with U+FFFD for each character that XML 1.0 does not have.
 ghost use Rattle.std.specs.Prelude.{◌≡◌, ◌++◌, OnOk};
 ghost use Rattle.std.specs.List.{flat_map};
-ghost use Rattle.cmd_scholar.specs.Characters.{allowed_byte, is_control, is_last, place_after, text_marks};
-ghost use Rattle.cmd_scholar.specs.Marks.{escape_byte, xml_text};
+ghost use Rattle.feed_xml.specs.Characters.{allowed_byte, is_control, is_last, place_after, text_marks};
+ghost use Rattle.feed_xml.specs.Marks.{escape_byte, xml_text};
 
 use std::alloc::AllocError;
 
@@ -76,7 +76,7 @@ fn put_allowed_byte(out: &mut Vec<u8>, place: Place, byte: u8) -> Result<(), All
 }
 
 /// Writes a text as character data.
-pub(crate) fn put_text(out: &mut Vec<u8>, text: &[u8]) -> Result<(), AllocError>
+pub fn put_text(out: &mut Vec<u8>, text: &[u8]) -> Result<(), AllocError>
     ensures { OnOk result (out.new.items ≡ out.old.items ++ xml_text (text_marks text.now)) }
 {
     let mut place = Place::Outside;

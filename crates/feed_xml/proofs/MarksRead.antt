@@ -4,21 +4,10 @@ use Rattle.std.specs.Prelude.{◌==◌, ◌&&◌, not}
 use Rattle.std.specs.List.{list_all}
 use Rattle.std.proofs.lemmas.Bool.{cases_Bool, eqb-true}
 use Rattle.std.proofs.lemmas.List.{append-nil}
-use Rattle.cmd_scholar.specs.Marks.{Mark, opened, closed, byte, escape_byte, mark_text, xml_text}
-use Rattle.cmd_scholar.specs.Reading.{is_angle, read_from, with_mark, xml_marks}
-use Rattle.cmd_scholar.specs.Reading as place
-use Rattle.cmd_scholar.proofs.Written.{both}
-
--- neither `<` nor `>`
-abbrev pub is_unangled : ℕ → Bool
-is_unangled b = not (b == 60) && not (b == 62)
-
--- a tag has no `<` or `>`, and a start tag begins with another byte than `/`
-abbrev pub is_proper : Mark → Bool
-is_proper (opened []) = false
-is_proper (opened (b ∷ tag)) = not (b == 47) && (is_unangled b && list_all is_unangled tag)
-is_proper (closed name) = list_all is_unangled name
-is_proper (byte b) = true
+use Rattle.feed_xml.specs.Marks.{Mark, opened, closed, byte, escape_byte, mark_text, xml_text}
+use Rattle.feed_xml.specs.Reading.{is_proper, is_unangled, read_from, with_mark, xml_marks}
+use Rattle.feed_xml.specs.Reading as place
+use Rattle.feed_xml.proofs.Written.{both}
 
 not_true : (b : Bool) → not b ≡ true → b ≡ false
 not_true false holds = refl

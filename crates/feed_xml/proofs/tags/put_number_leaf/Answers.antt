@@ -1,6 +1,6 @@
 use Rattle.std.proofs.lemmas.Result.{on_ok_weaker}
-use Rattle.cmd_scholar.proofs.Written.{number_written}
-use Rattle.cmd_scholar.proofs.tags.put_number_leaf.Goals as goal
+use Rattle.feed_xml.proofs.Written.{number_written}
+use Rattle.feed_xml.proofs.tags.put_number_leaf.Goals as goal
 
 pub returns : goal.returns
 returns c =
