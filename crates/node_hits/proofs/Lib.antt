@@ -15,3 +15,8 @@ pub mod LooksPlaced
 pub mod TitlesAsked
 pub mod LinksKept
 pub mod SoleHits
+pub mod SfxStructure
+pub mod SfxFound
+pub mod SfxTargets
+pub mod SfxWritten
+pub mod SfxSteps

@@ -14,3 +14,5 @@ pub mod AnswerJson
 pub mod Lookups
 pub mod Laws
 pub mod Sfx
+pub mod SfxTexts
+pub mod SfxLaws

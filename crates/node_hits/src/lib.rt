@@ -1,5 +1,5 @@
 //! The hits of a query in the releases of a node: what the query asks for, how many hits there are, the first ones, and
-//! the best link among them; and how they are written as text and as JSON.
+//! the best link among them; and how they are written as text, as JSON and as SFX replies.
 #![tactic(auto)]
 
 mod answer_json;
@@ -19,6 +19,9 @@ mod received_openurl;
 mod row_places;
 mod search;
 mod sfx;
+mod sfx_laws;
+mod sfx_names;
+mod sfx_target;
 mod shown;
 mod tally;
 mod top;
@@ -39,5 +42,9 @@ pub use rank::{is_abstracts, is_free, is_full_text, is_selection};
 pub use ranked_hit::RankedHit;
 pub use received_openurl::ReceivedOpenUrl;
 pub use search::{Scope, Search};
-pub use sfx::put_no_targets;
+pub use sfx::{put_no_targets, put_sfx};
+pub use sfx_laws::{
+    full_texts_are_alone, reply_has_targets, sfx_is_balanced, sfx_reads_back,
+    targets_are_hits_and_links, targets_are_links,
+};
 pub use tally::Tally;

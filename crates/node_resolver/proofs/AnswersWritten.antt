@@ -5,10 +5,14 @@ use Rattle.feed_answer.specs.Today.{TodayValue}
 use Rattle.feed_openurl.specs.declared.fault.OpenUrlFault.{OpenUrlFault}
 use Rattle.node_site.specs.Site as site_file
 use Rattle.node_hits.specs.Lookups.{asked_of}
-use Rattle.node_hits.specs.Searches.{SearchValue}
+use Rattle.node_hits.specs.Searches.{SearchValue, with_title_id}
+use Rattle.node_hits.specs.Sfx.{sfx_reply}
+use Rattle.node_site.specs.Requests.{CitedTitleValue}
+use Rattle.node_request.specs.SfxQueries.{sfx_options_in}
+use Rattle.node_request.specs.declared.sfx_query.SfxOptions.{SfxOptions}
 use Rattle.feed_releases.specs.Actives.{ActiveValue}
 use Rattle.node_request.specs.declared.representation.Representation.{Representation}
-use Rattle.node_request.specs.declared.representation.Representation.TheVariants.{Text, Json, Html}
+use Rattle.node_request.specs.declared.representation.Representation.TheVariants.{Text, Json, Html, Sfx}
 use Rattle.std.specs.Option.{option_map_or}
 use Rattle.node_response.specs.Responses.{ResponseValue, redirect_to}
 use Rattle.node_response.specs.declared.status.Status.{Status}
@@ -90,6 +94,18 @@ unfolding answers_body
 page_answered representation text ask search actives old new chosen read is =
     is ∙ ap (λ (a : QueryFactsValue). old ++ hits_page actives.library text a (tally_among search actives) (also_among search actives) (others_among search actives)) read
     ∙ ap (λ (r : Representation). old ++ answers_body r text search actives) (sym chosen)
+
+pub sfx_written : (options : SfxOptions) (text : List ℕ) (site : site_file.SiteValue) (search : SearchValue) (actives : Sited) (running : RunningValue) (cited : CitedTitleValue)
+    (old new : List ℕ) → options ≡ sfx_options_in text → site ≡ actives.library → running ≡ with_looks no_hits (looks_among search actives)
+    → cited ≡ with_title_id [] search.cited → new ≡ old ++ sfx_reply options site (tally_from running) cited
+    → new ≡ old ++ answers_body Sfx text search actives
+unfolding answers_body
+sfx_written options text site search actives running cited old new read of made cites is =
+    is ∙ ap (λ (o : SfxOptions). old ++ sfx_reply o site (tally_from running) cited) read
+    ∙ ap (λ (s : site_file.SiteValue). old ++ sfx_reply (sfx_options_in text) s (tally_from running) cited) of
+    ∙ ap (λ (r : RunningValue). old ++ sfx_reply (sfx_options_in text) actives.library (tally_from r) cited) made
+    ∙ ap (λ (t : TallyValue). old ++ sfx_reply (sfx_options_in text) actives.library t cited) (tally_is (looks_among search actives))
+    ∙ ap (λ (c : CitedTitleValue). old ++ sfx_reply (sfx_options_in text) actives.library (tally_among search actives) c) cites
 
 -- the address that follows from a tally, by the site of its search
 pub target_made : (site : site_file.SiteValue) (search : SearchValue) (actives : Sited) (running : RunningValue) → site ≡ actives.library

@@ -182,7 +182,8 @@ route_located route.Home head path query actives = plain
 route_located route.Status head path query actives = plain
 route_located route.Resolve head path query actives = resolve_located (representation_of route.Resolve query head) query actives
 route_located route.Package head path query actives =
-    package_located (representation_of route.Package query head) query actives (error_response actives.library query status.NotFound (representation_of route.Package query head) advice.NoList (codes "NoRelease"))
+    package_located (representation_of route.Package query head) query actives
+    (error_response actives.library query status.NotFound (representation_of route.Package query head) advice.NoList (codes "NoRelease"))
     (position (is_of (package_in path)) actives.actives) plain
 route_located route.Go head path query actives = go_located (accepted_representation head) query actives
 route_located route.Titles head path query actives =

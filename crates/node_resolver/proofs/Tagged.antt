@@ -111,5 +111,6 @@ pub known_validated : (head : RequestHead) (tag : List ℕ) (max_age : ℕ) (bod
 known_validated head tag max_age body actives reply representation is has tags tagged holds named wants answered given =
     let true_tag : is_tagged head ≡ true = sym tagged ∙ tags in
     given ∙ ap (not_modified tag max_age) wants
-    ∙ known_response (is_tagged head) (has_tag tag head) tag max_age (representation_of (route_of head) (query_in (origin_form head.target)) head) (untagged_response head body actives) true_tag (sym named ∙ holds)
+    ∙ known_response (is_tagged head) (has_tag tag head) tag max_age (representation_of (route_of head) (query_in (origin_form head.target)) head)
+    (untagged_response head body actives) true_tag (sym named ∙ holds)
     (answered true_tag body)

@@ -8,14 +8,15 @@ use Rattle.feed_answer.specs.QueryValue.{QueryValue}
 use Rattle.feed_releases.specs.Actives.{ActiveValue}
 use Rattle.node_request.specs.declared.representation.Representation.{Representation}
 use Rattle.node_request.specs.declared.representation.Representation.TheVariants.{Text, Json, Html, Fragment, Sfx}
+use Rattle.node_request.specs.SfxQueries.{sfx_options_in}
 use Rattle.node_hits.specs.Hits.{ReleaseHitValue}
 use Rattle.node_hits.specs.Looks.{found_in, looks_in}
 use Rattle.node_hits.specs.AnswerJson.{answer_json}
 use Rattle.node_hits.specs.QueryFacts.{ask_of}
-use Rattle.node_hits.specs.Searches.{SearchValue, in_scope}
+use Rattle.node_hits.specs.Searches.{SearchValue, in_scope, with_title_id}
 use Rattle.node_hits.specs.declared.search.Scope.TheVariants as scope
 use Rattle.node_hits.specs.HitsText.{release_text}
-use Rattle.node_hits.specs.Sfx.{no_targets}
+use Rattle.node_hits.specs.Sfx.{sfx_reply}
 use Rattle.node_hits.specs.Tallies.{TallyValue, tally_of}
 use Rattle.node_pages.specs.HitsPage.{hits_page}
 use Rattle.node_response.specs.Tags.{SiteValue}
@@ -110,4 +111,5 @@ answers_body Html text search actives =
     hits_page actives.library text (ask_of text) (tally_among search actives) (also_among search actives) (others_among search actives)
 answers_body Fragment text search actives =
     hits_page actives.library text (ask_of text) (tally_among search actives) (also_among search actives) (others_among search actives)
-answers_body Sfx text search actives = no_targets
+answers_body Sfx text search actives =
+    sfx_reply (sfx_options_in text) actives.library (tally_among search actives) (with_title_id [] search.cited)

@@ -1,7 +1,7 @@
 //! Counts the hits of a query in the active releases on a day, and writes the body that lists them.
 ghost use Rattle.std.specs.Prelude.{◌≡◌, ◌++◌, IfOk, OnOk};
 ghost use Rattle.node_hits.specs.Tallying.{no_hits, with_looks};
-ghost use Rattle.node_request.specs.declared.representation.Representation.TheVariants.{Json, Html};
+ghost use Rattle.node_request.specs.declared.representation.Representation.TheVariants.{Json, Html, Sfx};
 ghost use Rattle.node_resolver.specs.Answers.{also_beside, answers_body, has_both, is_placed, looks_among};
 ghost use Rattle.node_resolver.specs.Answers.{others_beside, release_looks, sited_in};
 ghost use Rattle.node_resolver.specs.AnswerTexts.{texts_from};
@@ -10,11 +10,10 @@ use crate::context::Context;
 use feed_answer::Query;
 use feed_releases::ActiveRelease;
 use node_hits::{
-    LibraryRelease, Lookup, ReceivedOpenUrl, Search, Tally, put_answer_json, put_no_targets,
-    put_release,
+    LibraryRelease, Lookup, ReceivedOpenUrl, Search, Tally, put_answer_json, put_release, put_sfx,
 };
 use node_pages::{Tallies, put_hits_page};
-use node_request::Representation;
+use node_request::{Representation, sfx_options_in};
 use std::alloc::{AllocError, Global};
 
 fn add_release<'a>(
@@ -175,6 +174,22 @@ fn put_page<'a>(
     put_hits_page(alloc, out, context.library(), query.pairs(), &ask, &found)
 }
 
+// Writes the hits of highest rank and the links of the library as the reply of SFX.
+fn put_targets(
+    out: &mut Vec<u8>,
+    query: &ReceivedOpenUrl<'_>,
+    context: &Context<'_>,
+    lookup: &Lookup<'_>,
+    hits: &Tally<'_>,
+) -> Result<(), AllocError>
+    requires { hits.now ≡ with_looks no_hits (looks_among lookup.now (sited_in context.now)) }
+    ensures { OnOk result (out.new.items
+        ≡ out.old.items ++ answers_body Sfx query.now.text.now lookup.now (sited_in context.now)) }
+{
+    let options = sfx_options_in(query.text);
+    put_sfx(out, options, context.library(), hits, &lookup.cited(b""))
+}
+
 /// Writes the answer of the given releases to a query, from the tally of its hits: the hits as text, or what it asks
 /// and the hits of highest rank as JSON or as a page.
 pub(crate) fn put_counted<'a>(
@@ -195,7 +210,7 @@ pub(crate) fn put_counted<'a>(
         Representation::Json => put_json(alloc, out, query, context, lookup, &hits),
         Representation::Html => put_page(alloc, out, query, context, lookup, hits),
         Representation::Fragment => put_page(alloc, out, query, context, lookup, hits),
-        Representation::Sfx => put_no_targets(out),
+        Representation::Sfx => put_targets(out, query, context, lookup, &hits),
     }
 }
 
