@@ -11,7 +11,7 @@ OUT = out
 SOURCES = crates.txt $(shell find crates -name out -prune -o \( -name '*.rt' -o -name '*.antt' \) -print)
 DOC = share/doc/kbfeed
 PAGES = README.md CHANGELOG.md LICENSE SECURITY.md $(wildcard docs/*.md docs/*.svg docs/*.png samples/*.script samples/*.transcript \
-	samples/lists/* samples/fleet/* samples/vendor/*)
+	samples/lists/* samples/fleet/* samples/vendor/* samples/discovery/*)
 # The scripts to install as programs, each with its place below PREFIX.
 SCRIPTS = samples/fleet/feed:bin/kbfeed-feed samples/fleet/node-restart:bin/kbfeed-node-restart \
 	tools/statistics:bin/kbfeed-statistics tools/convert/kbfeed-convert:bin/kbfeed-convert \
@@ -116,7 +116,7 @@ uninstall:
 	@for place in bin/kbfeed $(foreach file,$(SCRIPTS) $(UNITS) $(DATA),$(lastword $(subst :, ,$(file)))); do \
 		rm -f "$(INTO)/$$place" || exit; \
 	done
-	@for folder in $(foreach folder,samples/lists samples/fleet samples/vendor samples docs,$(DOC)/$(folder)) $(DOC) \
+	@for folder in $(foreach folder,samples/lists samples/fleet samples/vendor samples/discovery samples docs,$(DOC)/$(folder)) $(DOC) \
 		share/kbfeed/kbfeed_convert share/kbfeed/kbfeed_collect share/kbfeed; do rmdir "$(INTO)/$$folder" 2> /dev/null; done; true
 
 deb: $(PROGRAM)

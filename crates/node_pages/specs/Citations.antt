@@ -1,5 +1,5 @@
 -- The beginning of a page with the citation of a query.
-use Rattle.std.specs.Prelude.{ℕ, ◌&&◌, ◌||◌, ◌==◌, Bool, not, if◌then◌else◌, List, [], ◌∷◌, ◌++◌, codes, unwrap_or}
+use Rattle.std.specs.Prelude.{ℕ, ◌||◌, ◌==◌, Bool, not, if◌then◌else◌, List, [], ◌∷◌, ◌++◌, codes, unwrap_or}
 use Rattle.std.specs.List.{list_all}
 use Rattle.std.specs.Char.{is_ascii_alphanumeric}
 use Rattle.feed_answer.specs.Pairs.{is_empty}
@@ -7,11 +7,12 @@ use Rattle.feed_openurl.specs.Citations.{text_at}
 use Rattle.feed_openurl.specs.declared.citation_part.CitationPart.TheVariants as part
 use Rattle.node_site.specs.Articles.{doi_link}
 use Rattle.node_site.specs.Site as site_file
-use Rattle.node_hits.specs.QueryFacts.{QueryFactsValue, is_blank}
+use Rattle.node_hits.specs.QueryFacts.{QueryFactsValue}
 use Rattle.node_templates.specs.Values.{text_if}
 use Rattle.node_templates.specs.Pages.{Part, with_values}
 use Rattle.node_templates.specs.declared.slot.Slot.TheVariants as slot
 use Rattle.node_templates.specs.declared.template.Template.TheVariants as template
+use Rattle.node_pages.specs.Coins.{coins_parts, is_cited}
 use Rattle.node_pages.specs.SearchForms.{isbn_in, issn_in}
 use Rattle.node_pages.specs.declared.citation.TheConstants.{CITED_TOP}
 
@@ -24,7 +25,7 @@ is_plain b = is_ascii_alphanumeric b || is_mark b
 
 -- the value of the slot of a citation that has any part
 abbrev pub cited_mark : List (List ℕ × List ℕ) → QueryFactsValue → List ℕ
-cited_mark pairs ask = text_if (not (is_blank ask.citation && is_empty (issn_in pairs) && is_empty (isbn_in pairs))) (codes "cited")
+cited_mark pairs ask = text_if (is_cited pairs ask) (codes "cited")
 
 -- the heading of the page, and what is cited, with its numbers
 unfoldable pub work_parts : List ℕ → List (List ℕ × List ℕ) → QueryFactsValue → List Part
@@ -70,6 +71,7 @@ names_with pairs ask address =
 abbrev pub names_parts : site_file.SiteValue → List (List ℕ × List ℕ) → QueryFactsValue → List Part
 names_parts site pairs ask = names_with pairs ask (doi_address site (text_at ask.citation part.Doi))
 
--- a page with this heading, up to and including the citation
+-- a page with this heading, up to and including the citation for readers and for programs
 unfoldable pub cited_top : site_file.SiteValue → List ℕ → List (List ℕ × List ℕ) → QueryFactsValue → List Part
-cited_top site heading pairs ask = work_parts heading pairs ask ++ (place_parts ask ++ names_parts site pairs ask)
+cited_top site heading pairs ask =
+    work_parts heading pairs ask ++ (place_parts ask ++ (names_parts site pairs ask ++ coins_parts pairs ask))

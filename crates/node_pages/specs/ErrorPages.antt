@@ -13,6 +13,7 @@ use Rattle.node_response.specs.declared.status.Status.{Status}
 use Rattle.node_site.specs.declared.text_table.Text.{Text}
 use Rattle.node_site.specs.declared.text_table.Text.TheVariants as text
 use Rattle.node_hits.specs.Sfx.{no_targets}
+use Rattle.node_pages.specs.Fragments.{error_fragment}
 use Rattle.node_pages.specs.SearchForms.{form_end}
 use Rattle.node_pages.specs.declared.error_page.TheConstants.{ERROR_PAGE}
 
@@ -25,12 +26,12 @@ error_parts site pairs advice name =
 unfoldable pub error_page : site_file.SiteValue → List (List ℕ × List ℕ) → Text → List ℕ → List ℕ
 error_page site pairs advice name = page_text site (error_parts site pairs advice name)
 
--- the name of an error as text and as JSON, its page, and the reply of SFX without a target
+-- the name of an error as text and as JSON, its page, its fragment, and the reply of SFX without a target
 unfoldable pub error_body : site_file.SiteValue → List ℕ → Representation → Text → List ℕ → List ℕ
 error_body site query representation.Text advice name = fault_body representation.Text name
 error_body site query representation.Json advice name = fault_body representation.Json name
 error_body site query representation.Html advice name = error_page site (form.parse query) advice name
-error_body site query representation.Fragment advice name = fault_body representation.Fragment name
+error_body site query representation.Fragment advice name = error_fragment site name
 error_body site query representation.Sfx advice name = no_targets
 
 -- the response to a request that is not answered

@@ -4,7 +4,7 @@ use Rattle.std.specs.List.{list_all}
 use Rattle.node_templates.specs.Filled.{is_filled}
 use Rattle.node_templates.specs.Laws.{page_html}
 use Rattle.node_templates.specs.Pages.{Part, page_text}
-use Rattle.node_templates.specs.Tags.{HasTagsOf}
+use Rattle.node_templates.specs.Tags.{HasTagsOf, OtherPage, OwnPage, Place}
 use Rattle.node_site.specs.declared.text_table.Text.{Text}
 use Rattle.feed_releases.specs.Actives.{ActiveValue}
 use Rattle.node_site.specs.Site as site_file
@@ -16,6 +16,8 @@ use Rattle.node_titles.specs.Walks.{WalkValue}
 use Rattle.node_pages.specs.Cards.{card_parts}
 use Rattle.node_pages.specs.Citations.{cited_top}
 use Rattle.node_pages.specs.ErrorPages.{error_page, error_parts}
+use Rattle.node_pages.specs.Fragments.{error_fragment, error_fragment_parts, fragment_end, fragment_of_hits, fragment_of_nothing, fragment_start}
+use Rattle.node_pages.specs.Fragments.{nothing_fragment_parts}
 use Rattle.node_pages.specs.HitsPage.{hits_end, hits_start, page_of_hits}
 use Rattle.node_pages.specs.HomePage.{form_page, home_page, package_parts}
 use Rattle.node_pages.specs.QueryRefusals.{nothing_parts, page_of_nothing}
@@ -41,12 +43,21 @@ pub record SlotsAreGiven : Type 0 where
   pub title : (site : site_file.SiteValue) (entry : EntryValue) → are_filled (titles.title_card site entry) ≡ true
   pub titles_end : (asked : List ℕ) (walk : WalkValue) → are_filled (titles.titles_end asked walk) ≡ true
   pub item : (site : site_file.SiteValue) (active : ActiveValue) → are_filled (package_parts site active) ≡ true
+  pub fragment_start : (site : site_file.SiteValue) (tally : TallyValue) (is_none : Bool) → are_filled (fragment_start site tally is_none) ≡ true
+  pub fragment_end : (site : site_file.SiteValue) (pairs : List (List ℕ × List ℕ)) (ask : QueryFactsValue) (tally : TallyValue) (is_none : Bool)
+      → are_filled (fragment_end site pairs ask tally is_none) ≡ true
+  pub nothing_fragment : (site : site_file.SiteValue) (pairs : List (List ℕ × List ℕ)) (ask : QueryFactsValue)
+      → are_filled (nothing_fragment_parts site pairs ask) ≡ true
+  pub error_fragment : (site : site_file.SiteValue) (name : List ℕ) → are_filled (error_fragment_parts site name) ≡ true
 
--- a page of templates, which has their tags alone
-pub record HasItsTags (site : site_file.SiteValue) (page : List ℕ) : Type 0 where
+-- a page of templates, or a fragment, which has their tags alone
+pub record HasPlacedTags (place : Place) (site : site_file.SiteValue) (page : List ℕ) : Type 0 where
   pub parts : List Part
   pub text : page ≡ page_text site parts
-  pub tags : HasTagsOf (page_html site parts) page
+  pub tags : HasTagsOf place (page_html site parts) page
+
+abbrev pub HasItsTags : site_file.SiteValue → List ℕ → Type 0
+HasItsTags site page = HasPlacedTags OwnPage site page
 
 -- whatever a list, a query or a site file says, each page has the tags of its templates alone, and its addresses are
 -- safe
@@ -61,3 +72,12 @@ pub record PagesHaveTheirTags : Type 0 where
   pub titles_form : (site : site_file.SiteValue) (heading note name : List ℕ)
       → HasItsTags site (titles.titles_form_page site heading note name)
   pub titles : (site : site_file.SiteValue) (asked : List ℕ) (walk : WalkValue) → HasItsTags site (titles.titles_page site asked walk)
+
+-- whatever they say, a fragment has neither a form, nor a style, nor a script, and no attribute but the class, the language
+-- and the address of an element. Each address is one of `http` or of `https`, so that it is the same in each page
+pub record FragmentsSuitOtherPages : Type 0 where
+  pub hits : (site : site_file.SiteValue) (pairs : List (List ℕ × List ℕ)) (ask : QueryFactsValue) (tally also others : TallyValue)
+      → HasPlacedTags OtherPage site (fragment_of_hits site pairs ask tally also others)
+  pub nothing : (site : site_file.SiteValue) (pairs : List (List ℕ × List ℕ)) (ask : QueryFactsValue)
+      → HasPlacedTags OtherPage site (fragment_of_nothing site pairs ask)
+  pub error : (site : site_file.SiteValue) (name : List ℕ) → HasPlacedTags OtherPage site (error_fragment site name)

@@ -8,11 +8,13 @@ pub mod Coverage
 pub mod Openings
 pub mod Headings
 pub mod Cards
+pub mod Coins
 pub mod Citations
 pub mod HitsPage
 pub mod HomePage
-pub mod ErrorPages
 pub mod NumberFaults
+pub mod Fragments
+pub mod ErrorPages
 pub mod QueryRefusals
 pub mod Titles
 pub mod TitlesPage

@@ -24,6 +24,7 @@ use Rattle.node_templates.specs.declared.slot.Slot.TheVariants as slot
 use Rattle.node_site.specs.declared.text_table.Text.TheVariants as page
 use Rattle.node_pages.specs.Citations.{cited_top}
 use Rattle.node_pages.specs.ErrorPages.{error_response}
+use Rattle.node_pages.specs.Fragments.{nothing_fragment}
 use Rattle.node_pages.specs.HomePage.{form_page}
 use Rattle.node_pages.specs.NumberFaults.{fault_words}
 use Rattle.node_pages.specs.SearchForms.{form_end, isbn_in, issn_in}
@@ -81,8 +82,8 @@ nothing_json ask why = answer_json ask (reason_text why) (tally_of []) (tally_of
 -- the body for such an OpenURL, by whether its citation names a work
 unfoldable pub numberless_body : site_file.SiteValue → List ℕ → Bool → Representation → QueryFactsValue → OpenUrlFault → List ℕ
 numberless_body site query named Html ask why = nothing_page site query ask
+numberless_body site query named Fragment ask why = nothing_fragment site query ask
 numberless_body site query named Sfx ask why = no_targets
-numberless_body site query named Fragment ask why = fault_body Fragment (reason_text why)
 numberless_body site query true Text ask why = nothing_text why
 numberless_body site query true Json ask why = nothing_json ask why
 numberless_body site query false Text ask why = fault_body Text (reason_text why)

@@ -82,10 +82,10 @@ end_members row = coverage_members (days_words row) (volumes_words row) (title_t
 unfoldable pub title_object : EntryValue → List ℕ
 title_object entry = release_members entry.name ++ (row_members entry.row ++ end_members entry.row)
 
--- the text that is asked for, and the place of the first row
+-- the version of the form of answers, the text that is asked for, and the place of the first row
 unfoldable pub ask_members : TitleSearchValue → List ℕ
 ask_members ask = joined (
-    codes "{\"q\":" ∷ json_string ask.text ∷ codes ",\"start\":" ∷ decimal ask.start ∷ codes ",\"titles\":" ∷ [])
+    codes "{\"version\":1,\"q\":" ∷ json_string ask.text ∷ codes ",\"start\":" ∷ decimal ask.start ∷ codes ",\"titles\":" ∷ [])
 
 -- the place where the next walk begins, or `null`
 abbrev pub next_value : Option ℕ → List ℕ

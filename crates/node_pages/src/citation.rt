@@ -6,10 +6,11 @@ ghost use Rattle.feed_openurl.specs.Citations.{text_at};
 ghost use Rattle.node_pages.specs.Citations.{cited_mark, cited_top, doi_address, is_mark, is_plain, names_parts};
 ghost use Rattle.node_pages.specs.Citations.{names_with, place_parts, work_parts};
 
+use crate::coins::{is_cited, put_coins};
 use crate::form::{isbn_in, issn_in};
 use feed_answer::Pair;
 use feed_openurl::CitationPart;
-use node_hits::{QueryFacts, is_blank};
+use node_hits::QueryFacts;
 use node_site::{SiteFile, doi_link};
 use node_templates::{Slot, Template, put_page, text_if};
 use std::alloc::{AllocError, Global};
@@ -46,10 +47,7 @@ fn cited<'q>(ask: &QueryFacts<'q>, part: CitationPart) -> &'q [u8]
 fn cited_mark(pairs: &[Pair<'_>], ask: &QueryFacts<'_>) -> &'static [u8]
     ensures { result.now ≡ cited_mark pairs.now ask.now }
 {
-    let is_uncited = is_blank(ask.citation)
-        && issn_in(pairs).is_empty()
-        && isbn_in(pairs).is_empty();
-    text_if(!is_uncited, b"cited")
+    text_if(is_cited(pairs, ask), b"cited")
 }
 
 // Writes the beginning of the page, and the cited work with its numbers.
@@ -159,7 +157,7 @@ fn put_names(
 }
 
 /// Writes the beginning of a page with this heading, and the citation of a query with its ISSN and its ISBN, if there
-/// is anything in it.
+/// is anything in it, for readers and for programs.
 #[tactic(auto, unfolding(node_templates::specs::Pages::page_text, crate::specs::Citations::cited_top))]
 pub(crate) fn put_cited_top(
     out: &mut Vec<u8>,
@@ -173,5 +171,6 @@ pub(crate) fn put_cited_top(
 {
     put_work(out, site, heading, pairs, ask)?;
     put_place(out, site, ask)?;
-    put_names(out, site, pairs, ask)
+    put_names(out, site, pairs, ask)?;
+    put_coins(out, site, pairs, ask)
 }

@@ -3,6 +3,7 @@ ghost use Rattle.std.specs.Prelude.{◌≡◌, ◌++◌, IfOk, OnOk};
 ghost use Rattle.node_pages.specs.ErrorPages.{error_body, error_page, error_response};
 
 use crate::form::put_form_end;
+use crate::fragment::put_error_fragment;
 use crate::openurl_text::OpenUrlText;
 use feed_answer::{Pair, decode_pairs};
 use node_hits::put_no_targets;
@@ -62,15 +63,15 @@ fn put_error(
             let pairs = decode_pairs(alloc, asked.text)?;
             put_error_page(out, site, &pairs, advice, name)
         }
+        Representation::Fragment => put_error_fragment(out, site, name),
         Representation::Sfx => put_no_targets(out),
-        Representation::Text | Representation::Json | Representation::Fragment => {
-            put_fault(out, asked.representation, name)
-        }
+        Representation::Text | Representation::Json => put_fault(out, asked.representation, name),
     }
 }
 
 /// Returns the response to a request that is not answered: the name of the error as text or as JSON, or a page of the
-/// library that says what the reader may do, with a form that has what the query has for its fields.
+/// library that says what the reader may do, with a form that has what the query has for its fields. A fragment has
+/// the name of the error.
 ///
 /// # Errors
 ///

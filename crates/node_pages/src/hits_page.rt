@@ -33,16 +33,17 @@ pub struct Tallies<'a> {
 // The statement about the hits, and the beginning of their list.
 const LIST_START: [Template; 2] = [Template::Note, Template::Cards];
 
-fn is_none(found: &Tallies<'_>) -> bool
+/// Returns whether no card is shown.
+pub(crate) fn is_none(found: &Tallies<'_>) -> bool
     ensures { result
         ≡ is_none (tally_from found.now.hits) (tally_from found.now.also) (tally_from found.now.others) }
 {
     found.hits.count() == 0 && (found.also.count() == 0 && found.others.count() == 0)
 }
 
-// Returns what is said if all rows were looked at, and none is a hit: that no holdings match, or that the library has
-// the titles only for another date or volume.
-fn note_of(tally: &Tally<'_>, is_none: bool) -> Option<Text>
+/// Returns what is said if all rows were looked at, and none is a hit: that no holdings match, or that the library has
+/// the titles only for another date or volume.
+pub(crate) fn note_of(tally: &Tally<'_>, is_none: bool) -> Option<Text>
     ensures { result ≡ note_of (tally_from tally.now) is_none }
 {
     if !tally.is_whole() || tally.count() != 0 {
@@ -98,9 +99,9 @@ pub(crate) fn digits_of(alloc: Global, number: Option<usize>) -> Result<Vec<u8>,
     Ok(digits)
 }
 
-// Writes the end of the list, and how many hits are left out.
+/// Writes the end of the list, and how many hits are left out.
 #[tactic(auto, unfolding(crate::specs::HitsPage::list_end))]
-fn put_list_end(
+pub(crate) fn put_list_end(
     alloc: Global,
     out: &mut Vec<u8>,
     site: &SiteFile,

@@ -1,5 +1,5 @@
 //! Laws of the pages, each stated as the contract of a function with an empty body.
-ghost use Rattle.node_pages.specs.Laws.{PagesHaveTheirTags, SlotsAreGiven};
+ghost use Rattle.node_pages.specs.Laws.{FragmentsSuitOtherPages, PagesHaveTheirTags, SlotsAreGiven};
 
 /// States that each slot of a template has a value in each page, but for the fields of the empty form.
 pub fn slots_are_given()
@@ -10,4 +10,10 @@ pub fn slots_are_given()
 /// or a site file says.
 pub fn pages_have_their_tags()
     ensures { PagesHaveTheirTags }
+{}
+
+/// States that each fragment has the tags of its templates alone, whatever a list, a query or a site file says. It has
+/// neither a form, nor a style, nor a script, and each of its addresses is one of `http` or of `https`.
+pub fn fragments_suit_other_pages()
+    ensures { FragmentsSuitOtherPages }
 {}

@@ -1,15 +1,17 @@
 //! The pages that a reader of a resolver sees, each as a list of templates with values for their slots: the citation of
 //! a query with a card for each hit, the forms, and the packages; and the responses to requests that are not answered,
-//! to queries for which nothing is looked up, and to queries for titles.
+//! to queries for which nothing is looked up, and to queries for titles; and fragments for pages of other sites.
 #![tactic(auto)]
 
 mod card;
 mod citation;
+mod coins;
 mod coverage;
 mod dates;
 mod embargo;
 mod error_page;
 mod form;
+mod fragment;
 mod heading;
 mod hits_page;
 mod home_page;
@@ -25,9 +27,10 @@ mod ways;
 
 pub use card::Fit;
 pub use error_page::error_response;
+pub use fragment::put_hits_fragment;
 pub use hits_page::{Tallies, put_hits_page};
 pub use home_page::put_home_page;
-pub use laws::{pages_have_their_tags, slots_are_given};
+pub use laws::{fragments_suit_other_pages, pages_have_their_tags, slots_are_given};
 pub use openurl_text::OpenUrlText;
 pub use refusals::unasked_response;
 pub use titles_page::titles_response;

@@ -10,6 +10,7 @@ ghost use Rattle.node_templates.specs.Pages.{page_text};
 use crate::citation::put_cited_top;
 use crate::error_page::error_response;
 use crate::form::{isbn_in, issn_in, put_form_end};
+use crate::fragment::put_nothing_fragment;
 use crate::home_page::form_response;
 use crate::number_faults::{NumberKind, fault_words};
 use crate::openurl_text::OpenUrlText;
@@ -160,6 +161,7 @@ fn put_numberless(
     let named = names_work(ask.citation);
     match query.representation {
         Representation::Html => put_nothing(alloc, out, site, query.pairs(), ask),
+        Representation::Fragment => put_nothing_fragment(alloc, out, site, query.pairs(), ask),
         Representation::Sfx => put_no_targets(out),
         Representation::Text if named => put_text(out, reason),
         Representation::Json if named => put_json(alloc, out, ask, reason),

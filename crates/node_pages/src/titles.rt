@@ -289,7 +289,7 @@ fn put_ask_members(out: &mut Vec<u8>, ask: &TitleSearch) -> Result<(), AllocErro
     put_all(
         out,
         &[
-            Fragment::Plain(b"{\"q\":"),
+            Fragment::Plain(b"{\"version\":1,\"q\":"),
             Fragment::Quoted(ask.text()),
             Fragment::Plain(b",\"start\":"),
             Fragment::Number(u64::from(ask.start())),
@@ -316,7 +316,8 @@ fn put_next_member(out: &mut Vec<u8>, next: Option<usize>) -> Result<(), AllocEr
     put(out, b"}\n")
 }
 
-/// Writes the rows that a walk found as JSON, with what was asked for, and the place where the next walk begins.
+/// Writes the rows that a walk found as JSON, with the version of the form, what was asked for, and the place where the
+/// next walk begins.
 #[tactic(auto, unfolding(crate::specs::Titles::titles_json))]
 pub(crate) fn put_titles_json(
     out: &mut Vec<u8>,

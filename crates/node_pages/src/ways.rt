@@ -36,8 +36,9 @@ fn put_way(out: &mut Vec<u8>, site: &SiteFile, link: &LibraryLink<'_>) -> Result
     )
 }
 
+/// Writes the links as items of a list.
 #[tactic(auto, unfolding(node_templates::specs::Pages::page_text))]
-fn put_items(
+pub(crate) fn put_items(
     out: &mut Vec<u8>,
     site: &SiteFile,
     links: &[LibraryLink<'_>],

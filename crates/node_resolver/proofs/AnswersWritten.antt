@@ -12,7 +12,7 @@ use Rattle.node_request.specs.SfxQueries.{sfx_options_in}
 use Rattle.node_request.specs.declared.sfx_query.SfxOptions.{SfxOptions}
 use Rattle.feed_releases.specs.Actives.{ActiveValue}
 use Rattle.node_request.specs.declared.representation.Representation.{Representation}
-use Rattle.node_request.specs.declared.representation.Representation.TheVariants.{Text, Json, Html, Sfx}
+use Rattle.node_request.specs.declared.representation.Representation.TheVariants.{Text, Json, Html, Fragment, Sfx}
 use Rattle.std.specs.Option.{option_map_or}
 use Rattle.node_response.specs.Responses.{ResponseValue, redirect_to}
 use Rattle.node_response.specs.declared.status.Status.{Status}
@@ -26,6 +26,7 @@ use Rattle.node_hits.proofs.Tallies.{tally_is}
 use Rattle.node_resolver.specs.Answers.{Sited, also_among, also_beside, release_looks, looks_among, others_among, others_beside, tally_among, texts_behind, answers_body}
 use Rattle.node_resolver.specs.AnswerTexts.{texts_from}
 use Rattle.node_resolver.specs.Responses.{query_response, target_in, target_of}
+use Rattle.node_pages.specs.Fragments.{hits_fragment}
 use Rattle.node_pages.specs.HitsPage.{hits_page}
 
 abbrev after : List (Option ReleaseHitValue) → RunningValue
@@ -67,24 +68,29 @@ json_answered representation text ask search actives old new chosen read is =
     is ∙ ap (λ (a : QueryFactsValue). old ++ answer_json a [] (tally_among search actives) (also_among search actives)) read
     ∙ ap (λ (r : Representation). old ++ answers_body r text search actives) (sym chosen)
 
-pub page_written : (text : List ℕ) (site : site_file.SiteValue) (ask : QueryFactsValue) (search : SearchValue) (actives : Sited) (running also others : RunningValue) (count : ℕ) (old new : List ℕ)
+-- what shows the tallies of a query to the readers of a site
+abbrev pub Shows : Type 0
+Shows = site_file.SiteValue → QueryFactsValue → TallyValue → TallyValue → TallyValue → List ℕ
+
+pub shown_written : (shows : Shows) (site : site_file.SiteValue) (ask : QueryFactsValue) (search : SearchValue) (actives : Sited)
+    (running also others : RunningValue) (count : ℕ) (old new : List ℕ)
     → site ≡ actives.library → running ≡ with_looks no_hits (looks_among search actives) → also ≡ with_looks no_hits (also_beside search actives)
     → count ≡ (tally_from running).count → others ≡ with_looks no_hits (others_beside count search actives)
-    → new ≡ old ++ hits_page site text ask (tally_from running) (tally_from also) (tally_from others)
-    → new ≡ old ++ hits_page actives.library text ask (tally_among search actives) (also_among search actives) (others_among search actives)
-page_written text site ask search actives running also others count old new of made dated counts beside is =
+    → new ≡ old ++ shows site ask (tally_from running) (tally_from also) (tally_from others)
+    → new ≡ old ++ shows actives.library ask (tally_among search actives) (also_among search actives) (others_among search actives)
+shown_written shows site ask search actives running also others count old new of made dated counts beside is =
     let tally : TallyValue = tally_among search actives in
     let covered : TallyValue = also_among search actives in
     let counted_is : count ≡ tally.count =
     counts ∙ ap (λ (r : RunningValue). (tally_from r).count) made ∙ ap (λ (t : TallyValue). t.count) (tally_is (looks_among search actives)) in
-    is ∙ ap (λ (s : site_file.SiteValue). old ++ hits_page s text ask (tally_from running) (tally_from also) (tally_from others)) of
-    ∙ ap (λ (r : RunningValue). old ++ hits_page actives.library text ask (tally_from r) (tally_from also) (tally_from others)) made
-    ∙ ap (λ (t : TallyValue). old ++ hits_page actives.library text ask t (tally_from also) (tally_from others)) (tally_is (looks_among search actives))
-    ∙ ap (λ (r : RunningValue). old ++ hits_page actives.library text ask tally (tally_from r) (tally_from others)) dated
-    ∙ ap (λ (t : TallyValue). old ++ hits_page actives.library text ask tally t (tally_from others)) (tally_is (also_beside search actives))
-    ∙ ap (λ (r : RunningValue). old ++ hits_page actives.library text ask tally covered (tally_from r)) beside
-    ∙ ap (λ (t : TallyValue). old ++ hits_page actives.library text ask tally covered t) (tally_is (others_beside count search actives))
-    ∙ ap (λ n. old ++ hits_page actives.library text ask tally covered (tally_of (others_beside n search actives))) counted_is
+    is ∙ ap (λ (s : site_file.SiteValue). old ++ shows s ask (tally_from running) (tally_from also) (tally_from others)) of
+    ∙ ap (λ (r : RunningValue). old ++ shows actives.library ask (tally_from r) (tally_from also) (tally_from others)) made
+    ∙ ap (λ (t : TallyValue). old ++ shows actives.library ask t (tally_from also) (tally_from others)) (tally_is (looks_among search actives))
+    ∙ ap (λ (r : RunningValue). old ++ shows actives.library ask tally (tally_from r) (tally_from others)) dated
+    ∙ ap (λ (t : TallyValue). old ++ shows actives.library ask tally t (tally_from others)) (tally_is (also_beside search actives))
+    ∙ ap (λ (r : RunningValue). old ++ shows actives.library ask tally covered (tally_from r)) beside
+    ∙ ap (λ (t : TallyValue). old ++ shows actives.library ask tally covered t) (tally_is (others_beside count search actives))
+    ∙ ap (λ n. old ++ shows actives.library ask tally covered (tally_of (others_beside n search actives))) counted_is
 
 pub page_answered : (representation : Representation) (text : List ℕ) (ask : QueryFactsValue) (search : SearchValue) (actives : Sited) (old new : List ℕ)
     → representation ≡ Html → ask ≡ ask_of text
@@ -106,6 +112,15 @@ sfx_written options text site search actives running cited old new read of made 
     ∙ ap (λ (r : RunningValue). old ++ sfx_reply (sfx_options_in text) actives.library (tally_from r) cited) made
     ∙ ap (λ (t : TallyValue). old ++ sfx_reply (sfx_options_in text) actives.library t cited) (tally_is (looks_among search actives))
     ∙ ap (λ (c : CitedTitleValue). old ++ sfx_reply (sfx_options_in text) actives.library (tally_among search actives) c) cites
+
+pub fragment_answered : (representation : Representation) (text : List ℕ) (ask : QueryFactsValue) (search : SearchValue) (actives : Sited) (old new : List ℕ)
+    → representation ≡ Fragment → ask ≡ ask_of text
+    → new ≡ old ++ hits_fragment actives.library text ask (tally_among search actives) (also_among search actives) (others_among search actives)
+    → new ≡ old ++ answers_body representation text search actives
+unfolding answers_body
+fragment_answered representation text ask search actives old new chosen read is =
+    is ∙ ap (λ (a : QueryFactsValue). old ++ hits_fragment actives.library text a (tally_among search actives) (also_among search actives) (others_among search actives)) read
+    ∙ ap (λ (r : Representation). old ++ answers_body r text search actives) (sym chosen)
 
 -- the address that follows from a tally, by the site of its search
 pub target_made : (site : site_file.SiteValue) (search : SearchValue) (actives : Sited) (running : RunningValue) → site ≡ actives.library

@@ -18,6 +18,7 @@ use Rattle.node_hits.specs.declared.search.Scope.TheVariants as scope
 use Rattle.node_hits.specs.HitsText.{release_text}
 use Rattle.node_hits.specs.Sfx.{sfx_reply}
 use Rattle.node_hits.specs.Tallies.{TallyValue, tally_of}
+use Rattle.node_pages.specs.Fragments.{hits_fragment}
 use Rattle.node_pages.specs.HitsPage.{hits_page}
 use Rattle.node_response.specs.Tags.{SiteValue}
 
@@ -110,6 +111,6 @@ answers_body Json text search actives = answer_json (ask_of text) [] (tally_amon
 answers_body Html text search actives =
     hits_page actives.library text (ask_of text) (tally_among search actives) (also_among search actives) (others_among search actives)
 answers_body Fragment text search actives =
-    hits_page actives.library text (ask_of text) (tally_among search actives) (also_among search actives) (others_among search actives)
+    hits_fragment actives.library text (ask_of text) (tally_among search actives) (also_among search actives) (others_among search actives)
 answers_body Sfx text search actives =
     sfx_reply (sfx_options_in text) actives.library (tally_among search actives) (with_title_id [] search.cited)

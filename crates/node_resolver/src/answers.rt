@@ -1,7 +1,7 @@
 //! Counts the hits of a query in the active releases on a day, and writes the body that lists them.
 ghost use Rattle.std.specs.Prelude.{◌≡◌, ◌++◌, IfOk, OnOk};
 ghost use Rattle.node_hits.specs.Tallying.{no_hits, with_looks};
-ghost use Rattle.node_request.specs.declared.representation.Representation.TheVariants.{Json, Html, Sfx};
+ghost use Rattle.node_request.specs.declared.representation.Representation.TheVariants.{Json, Html, Fragment, Sfx};
 ghost use Rattle.node_resolver.specs.Answers.{also_beside, answers_body, has_both, is_placed, looks_among};
 ghost use Rattle.node_resolver.specs.Answers.{others_beside, release_looks, sited_in};
 ghost use Rattle.node_resolver.specs.AnswerTexts.{texts_from};
@@ -12,7 +12,7 @@ use feed_releases::ActiveRelease;
 use node_hits::{
     LibraryRelease, Lookup, ReceivedOpenUrl, Search, Tally, put_answer_json, put_release, put_sfx,
 };
-use node_pages::{Tallies, put_hits_page};
+use node_pages::{Tallies, put_hits_fragment, put_hits_page};
 use node_request::{Representation, sfx_options_in};
 use std::alloc::{AllocError, Global};
 
@@ -190,6 +190,26 @@ fn put_targets(
     put_sfx(out, options, context.library(), hits, &lookup.cited(b""))
 }
 
+// Writes the hits of a page, and the same other rows, as a fragment for a page of another site.
+fn put_fragment<'a>(
+    alloc: Global,
+    out: &mut Vec<u8>,
+    query: &ReceivedOpenUrl<'_>,
+    context: &Context<'a>,
+    lookup: &Lookup<'_>,
+    hits: Tally<'a>,
+) -> Result<(), AllocError>
+    requires { hits ≡ with_looks no_hits (looks_among lookup.now (sited_in context.now)) }
+    ensures { OnOk result (out.new.items
+        ≡ out.old.items ++ answers_body Fragment query.now.text.now lookup.now (sited_in context.now)) }
+{
+    let ask = query.ask(alloc)?;
+    let also = also_beside(alloc, context, lookup)?;
+    let others = others_beside(alloc, context, lookup, hits.count())?;
+    let found = Tallies { hits, also, others };
+    put_hits_fragment(alloc, out, context.library(), query.pairs(), &ask, &found)
+}
+
 /// Writes the answer of the given releases to a query, from the tally of its hits: the hits as text, or what it asks
 /// and the hits of highest rank as JSON or as a page.
 pub(crate) fn put_counted<'a>(
@@ -209,7 +229,7 @@ pub(crate) fn put_counted<'a>(
         Representation::Text => put_texts(alloc, out, context, lookup),
         Representation::Json => put_json(alloc, out, query, context, lookup, &hits),
         Representation::Html => put_page(alloc, out, query, context, lookup, hits),
-        Representation::Fragment => put_page(alloc, out, query, context, lookup, hits),
+        Representation::Fragment => put_fragment(alloc, out, query, context, lookup, hits),
         Representation::Sfx => put_targets(out, query, context, lookup, &hits),
     }
 }

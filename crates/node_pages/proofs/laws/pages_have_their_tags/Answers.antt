@@ -2,7 +2,7 @@ use Rattle.std.proofs.Common.{◌≡◌, ℕ, List, refl, sym, subst}
 use Rattle.node_templates.proofs.Keeping.{page_keeps}
 use Rattle.node_templates.specs.Laws.{page_html}
 use Rattle.node_templates.specs.Pages.{Part, page_text, with_values}
-use Rattle.node_templates.specs.Tags.{HasTagsOf}
+use Rattle.node_templates.specs.Tags.{HasTagsOf, OwnPage}
 use Rattle.node_site.specs.Site as site_file
 use Rattle.node_pages.specs.ErrorPages.{error_page, error_parts}
 use Rattle.node_pages.specs.HitsPage.{hits_parts, page_of_hits}
@@ -18,7 +18,7 @@ of : (site : site_file.SiteValue) (page : List ℕ) (parts : List Part) → page
 of site page parts same = record {
   parts = parts;
   text = same;
-  tags = subst (HasTagsOf (page_html site parts)) (sym same) (page_keeps site parts);
+  tags = subst (HasTagsOf OwnPage (page_html site parts)) (sym same) (page_keeps site parts);
 }
 
 pub returns : goal.returns
