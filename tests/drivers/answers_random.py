@@ -7,7 +7,9 @@ answers_random.py ask ADDR [--cases N] [--seed N]
 `make` writes lists into a folder, and the site file site.toml beside it. `ask` sends requests to a node that has them:
 each answer in JSON has to match the schema of samples/discovery, with no member that the schema does not describe. Each
 query of /resolve is also asked for as a fragment, which may have only the elements and attributes that are documented,
-and links of http or https. Prints how many answers of each kind there were, and each one that differs."""
+and links of http or https; and as the reply of SFX, which has to have the links of the hits in JSON, in their order,
+and with `svc.fulltext=yes` those of open full texts alone. Prints how many answers of each kind there were, and each
+one that differs."""
 import argparse
 import collections
 import html.parser
@@ -17,6 +19,7 @@ import pathlib
 import random
 import sys
 import urllib.parse
+import xml.etree.ElementTree
 
 import jsonschema
 
@@ -179,6 +182,7 @@ class Asker:
             self.count(answer)
         if path.startswith("/resolve"):
             self.ask_fragment(target, path, pairs)
+            self.ask_sfx(target, path, pairs, answer.get("hits", []))
 
     def count(self, answer):
         for key, is_so in (("with hits", answer["hits"]), ("with also", answer["also"]), ("refused", answer["refused"]),
@@ -191,6 +195,22 @@ class Asker:
         wrong = Fragment(body.decode("utf-8")).wrong
         if wrong or kind != "text/html; charset=utf-8" or status not in (200, 400, 404):
             self.differs(target, f"fragment: {status} {kind} {wrong}")
+
+    def ask_sfx(self, target, path, pairs, hits):
+        linked = [it for it in hits if it.get("host")]
+        alone = [("sfx.response_type", "multi_obj_xml"), ("svc.fulltext", "yes")]
+        for more, wanted in (([("format", "sfx")], linked), (alone, [it for it in linked if is_open(it)])):
+            _, kind, body = self.answer(path, [*pairs, *more])
+            self.counts["replies of SFX"] += 1
+            targets = xml.etree.ElementTree.fromstring(body).findall("ctx_obj/ctx_obj_targets/target")
+            found = [it.findtext("target_url") for it in targets if it.findtext("service_type") != "getWebService"]
+            if kind != "application/xml; charset=utf-8" or found != [it["article"] or it["url"] for it in wanted]:
+                self.differs(target, f"SFX: {kind} {found[:3]}")
+
+
+def is_open(hit):
+    """Returns whether a hit in JSON has full text that is open to readers."""
+    return hit["availability"] != "embargoed" and hit["depth"] != "abstracts"
 
 
 def main():
