@@ -6,8 +6,8 @@ use Rattle.feed_names.specs.ReleaseName.{Name, IsEarlier}
 use Rattle.feed_model.specs.declared.state.State.{State}
 use Rattle.feed_model.specs.declared.state.State.TheVariants.{Staged, Broken, Active}
 use Rattle.feed_model.specs.History.{Piece, History, Answer, is_taken, IsGood, IsActive, IsPassed, IsHeld}
-use Rattle.feed_model.specs.Reply.{IsRight}
-use Rattle.feed_model.specs.Content.{Part, Record, Content, record_of, IsState, IsRecord, IsContent}
+use Rattle.feed_model.specs.Reply.{IsRightWith}
+use Rattle.feed_model.specs.Content.{Part, Record, Content, record_of, IsState, IsRecord, IsContentWithin}
 use Rattle.feed_model.specs.Change.{grown, changed, is_earlier, without_earlier}
 use Rattle.feed_model.proofs.Names.{name_by, name_cases, package_name_cases, day_cases, earlier_is, earlier_not}
 use Rattle.feed_model.proofs.Lookups.{record_of-changed, record_of-changed_here, record_of-without_earlier}
@@ -18,7 +18,7 @@ use Rattle.feed_model.proofs.Tests.{of_record, record_good}
 use Rattle.feed_model.proofs.Growth.{Keeps, keeps_but, grown_bytes, no_reason}
 
 -- where n isn't passed, no good release of its package is later
-pub none_later : (c : Content) (h : History) → IsContent c h → (n m : Name) → (IsPassed h n → ⊥) → m.package_name ≡ n.package_name → IsGood h m → m.day ≤ℤ n.day
+pub none_later : {most : ℕ} (c : Content) (h : History) → IsContentWithin most c h → (n m : Name) → (IsPassed h n → ⊥) → m.package_name ≡ n.package_name → IsGood h m → m.day ≤ℤ n.day
 none_later c h is n m ahead same g = by (day_cases m.day n.day)
   where
     by : (m.day ≤ℤ n.day) ⊎ (n.day <ℤ m.day) → m.day ≤ℤ n.day
@@ -28,9 +28,9 @@ none_later c h is n m ahead same g = by (day_cases m.day n.day)
         let r = record_good c h is m g free in
         absurd (ahead (m, r.3, (sym same, lt)))
 
-pub activate_moves : (c : Content) (h : History) (n : Name) (f : ℕ) (t : Option ℕ) (b : List ℕ) (a : Answer) (r : Record) (ps : List Part)
-    → Keeps c h n f b r ps → is_taken a ≡ true → IsRight h (Piece n f t b) a → IsGood ((Piece n f t b, a) ∷ h) n
-    → IsContent (without_earlier n (changed n (grown ps Active) c)) ((Piece n f t b, a) ∷ h)
+pub activate_moves : {most : ℕ} (c : Content) (h : History) (n : Name) (f : ℕ) (t : Option ℕ) (b : List ℕ) (a : Answer) (r : Record) (ps : List Part)
+    → Keeps most c h n f b r ps → is_taken a ≡ true → IsRightWith most h (Piece n f t b) a → IsGood ((Piece n f t b, a) ∷ h) n
+    → IsContentWithin most (without_earlier n (changed n (grown ps Active) c)) ((Piece n f t b, a) ∷ h)
 activate_moves c h n f t b a r ps keeps taken right good = record {
   legal = (right, keeps.content.legal);
   distinct = distinct-without_earlier n (changed n (grown ps Active) c) (distinct-changed n (grown ps Active) (λ x. refl) c keeps.content.distinct);

@@ -7,7 +7,7 @@ use Rattle.std.proofs.lemmas.Map.Views.{list_any-from_Contains, Contains-from_an
 use Rattle.feed_names.specs.ReleaseName.{Name, name_eq}
 use Rattle.feed_model.specs.History.{History, IsHeld}
 use Rattle.feed_model.specs.Reply.{HoldsNumber}
-use Rattle.feed_model.specs.Content.{Record, Content, record_of, names, IsRecord, IsContent}
+use Rattle.feed_model.specs.Content.{Record, Content, record_of, names, IsRecord, IsContentWithin}
 use Rattle.feed_model.proofs.Names.{name_is, name_laws}
 
 same_test : (a b : Bool) → (a ≡ true → b ≡ true) → (b ≡ true → a ≡ true) → a ≡ b
@@ -35,7 +35,7 @@ pub length_names : (c : Content) → length (names c) ≡ length c
 length_names [] = refl
 length_names (x ∷ xs) = omega (arith, length_names xs)
 
-pub counted : (c : Content) (h : History) → IsContent c h → HoldsNumber h (length c)
+pub counted : {most : ℕ} (c : Content) (h : History) → IsContentWithin most c h → HoldsNumber h (length c)
 counted c h is = (names c, is.distinct, λ n. (there n, back n), length_names c)
   where
     there : (n : Name) → IsHeld h n → Contains (names c) n

@@ -9,23 +9,23 @@ use Rattle.feed_model.specs.declared.reply.Reply.TheVariants as replies
 use Rattle.feed_model.specs.declared.reply.Refusal.TheVariants as refusals
 use Rattle.feed_model.specs.File.{fault_of}
 use Rattle.feed_model.specs.History.{Event, Offered, Piece, Lost, History, Answer, or_else, byte_at, size_of, kept, IsFile, IsPassed, IsHeld, Reports}
-use Rattle.feed_model.specs.Reply.{Case, HoldsNumber, Differs, IsKept, Stores, kept_with, missing_below, verdict, max_file, max_held, IsRightWithin, IsRight, IsLegalWithin, IsLegal}
-use Rattle.feed_model.specs.Content.{Record, Content, names, record_of, byte_in, IsText, IsState, IsReason, IsRecord, IsContent}
+use Rattle.feed_model.specs.Reply.{Case, HoldsNumber, Differs, IsKept, Stores, kept_with, missing_below, verdict, limits_of, max_held, Limits, IsRightWithin, IsRight, IsLegalWithin, IsLegal}
+use Rattle.feed_model.specs.Content.{Record, Content, names, record_of, byte_in, IsText, IsState, IsReason, IsRecord, IsContent, within}
 use Rattle.feed_model.specs.Sound.{Explains}
-use Rattle.feed_model.specs.Earlier.{earlier_limit, is_refused, without_refused, IsEarlierRecord, IsEarlierContent, IsExplained, AreExplained, IsSameRelease}
+use Rattle.feed_model.specs.Earlier.{earlier_limits, is_refused, without_refused, IsEarlierRecord, IsEarlierContent, IsExplained, AreExplained, IsSameRelease}
 use Rattle.feed_model.proofs.Goods.{same_back, active_same, passed_same, held_same, IsStill, file_there, file_back_again, goods_still}
 use Rattle.feed_model.proofs.Arrivals.{missing_same}
 
 -- Steps that add nothing.
 
-still_self : (h : History) → IsStill h h
+pub still_self : (h : History) → IsStill h h
 still_self h = record { size = λ n. refl; bytes = λ n place. refl }
 
 still_back : (h k : History) → IsStill h k → IsStill k h
 still_back h k s = record { size = λ n. sym (s.size n); bytes = λ n place. sym (s.bytes n place) }
 
 -- the same step after histories that say the same
-still_step : (h k : History) (e : Event) (a : Answer) → IsStill h k → IsStill ((e, a) ∷ h) ((e, a) ∷ k)
+pub still_step : (h k : History) (e : Event) (a : Answer) → IsStill h k → IsStill ((e, a) ∷ h) ((e, a) ∷ k)
 still_step h k (Offered m x) a s = record { size = size; bytes = s.bytes }
   where
     size : (n : Name) → size_of ((Offered m x, a) ∷ k) n ≡ size_of ((Offered m x, a) ∷ h) n
@@ -74,7 +74,7 @@ not_moves same = (λ f q. f (same.1 q), λ f p. f (same.0 p))
 passed_moves : (h k : History) → IsStill h k → (n : Name) → (IsPassed h n ↔ IsPassed k n)
 passed_moves h k s n = (passed_same h k (goods_still h k s) n, passed_same k h (same_back h k (goods_still h k s)) n)
 
-held_moves : (h k : History) → IsStill h k → (n : Name) → (IsHeld h n ↔ IsHeld k n)
+pub held_moves : (h k : History) → IsStill h k → (n : Name) → (IsHeld h n ↔ IsHeld k n)
 held_moves h k s n = (held_same h k (goods_still h k s) n (sym (s.size n)), held_same k h (same_back h k (goods_still h k s)) n (s.size n))
 
 number_there : (h k : History) → IsStill h k → (i : ℕ) → HoldsNumber h i → HoldsNumber k i
@@ -116,11 +116,11 @@ stores_there h k s n first bytes a (inl (size, sized, judged)) = inl (size, s.si
     by (inl (some, e)) = inl (subst (λ (m : ℕ). 0 < m) same some, e ∙ ap (λ m. Ok (replies.Stored m)) same)
     by (inr (none, (text, len, at, e))) = inr ((λ some. none (subst (λ (m : ℕ). 0 < m) (sym same) some)), (text, len, (λ place lt. with_moves h k s n first bytes place ∙ at place lt), e))
 
-right_still : (limit : ℕ) (h k : History) (e : Event) (a : Answer) → IsStill h k → IsRightWithin limit h e a → IsRightWithin limit k e a
+pub right_still : (limit : Limits) (h k : History) (e : Event) (a : Answer) → IsStill h k → IsRightWithin limit h e a → IsRightWithin limit k e a
 right_still limit h k (Offered n size) a s right =
     case_moves alike (λ e. e) (case_moves (passed_moves h k s n) (λ e. e)
     (case_moves (held_moves h k s n) (case_moves (sized_moves h k s n size) (λ e. e) (λ e. e))
-    (case_moves (number_moves h k s max_held) (λ e. e) (λ e. e)))) right
+    (case_moves (number_moves h k s limit.held) (λ e. e) (λ e. e)))) right
 right_still limit h k (Piece n first total bytes) a s right =
     let t = still_back h k s in
     case_moves alike (λ e. e) (case_moves (passed_moves h k s n) (λ e. e)
@@ -133,19 +133,19 @@ right_still limit h k (Piece n first total bytes) a s right =
 right_still limit h k (Lost n) a s right = right
 
 -- an answer that was right under the earlier limit, and was not a refusal as too large, is right now
-right_now : (h : History) (e : Event) (a : Answer) → is_refused (e, a) ≡ false → IsRightWithin earlier_limit h e a → IsRight h e a
+right_now : (h : History) (e : Event) (a : Answer) → is_refused (e, a) ≡ false → IsRightWithin earlier_limits h e a → IsRight h e a
 right_now h (Offered n size) a other (inl (past, e)) = absurd (let u : is_refused (Offered n size, a) ≡ true = ap (λ (x : Answer). is_refused (Offered n size, x)) e in cc)
 right_now h (Offered n size) a other (inr (within, rest)) = inr ((λ past. within (omega (arith, past))), rest)
 right_now h (Piece n first total bytes) a other right = right
 right_now h (Lost n) a other right = right
 
-pub legal_now : (h : History) → IsLegalWithin earlier_limit h → IsLegal (without_refused h)
+pub legal_now : (h : History) → IsLegalWithin earlier_limits h → IsLegal (without_refused h)
 legal_now [] legal = tt
 legal_now ((e, a) ∷ h) legal = by (is_refused (e, a)) refl (legal_now h legal.1)
   where
     by : (x : Bool) → is_refused (e, a) ≡ x → IsLegal (without_refused h) → IsLegal (without_refused ((e, a) ∷ h))
     by true is rest = rw is rest
-    by false is rest = rw is (right_still max_file h (without_refused h) e a (still_without h) (right_now h e a is legal.0), rest)
+    by false is rest = rw is (right_still (limits_of max_held) h (without_refused h) e a (still_without h) (right_now h e a is legal.0), rest)
 
 -- The records.
 
@@ -166,7 +166,7 @@ reason_of_file k n s size bytes Staged is = is
 reason_of_file k n s size bytes Active is = is
 reason_of_file k n s size bytes Broken is = (is.0, file_of_parts k n s is.0 size bytes is.1, is.2)
 
-state_still : (h k : History) → IsStill h k → (n : Name) (state : State) → IsState h n state → IsState k n state
+pub state_still : (h k : History) → IsStill h k → (n : Name) (state : State) → IsState h n state → IsState k n state
 state_still h k s n Staged lacks = λ w. lacks (w.0, file_back_again h k s n w.0 w.1)
 state_still h k s n Active active = active_same h k (goods_still h k s) n active
 state_still h k s n Broken bad = (bad.0, file_there h k s n bad.0 bad.1, bad.2)
@@ -200,7 +200,7 @@ each_now h k still n (r ∷ rs) (s ∷ ss) all is = by (name_eq r.name n) refl i
     by true here found again = rw (same, here) (record_now h k still n r s all.0 (rw here at found))
     by false here found again = rw (same, here) (again (rw here at found))
 
-pub contents : (c d : Content) (h : History) → IsEarlierContent c h → AreExplained c d → IsContent d (without_refused h)
+pub contents : (c d : Content) (h : History) → IsEarlierContent c h → AreExplained c d → IsContent (within max_held d) (without_refused h)
 contents c d h is all = record {
   legal = legal_now h is.legal;
   distinct = rw (names_same c d all) is.distinct;
@@ -209,23 +209,23 @@ contents c d h is all = record {
 
 -- the facts that stay the same
 
+pub same_release : (h k : History) → IsStill h k → (n : Name) → IsSameRelease h k n
+same_release h k s n = record {
+  size = s.size n;
+  bytes = s.bytes n;
+  file = λ text. (file_there h k s n text, file_back_again h k s n text);
+  held = held_moves h k s n;
+}
+
 pub release_same : (h : History) (n : Name) → IsSameRelease h (without_refused h) n
-release_same h n =
-    let s = still_without h in
-    record {
-      size = s.size n;
-      bytes = s.bytes n;
-      file = λ text. (file_there h (without_refused h) s n text, file_back_again h (without_refused h) s n text);
-      held = held_moves h (without_refused h) s n;
-    }
+release_same h n = same_release h (without_refused h) (still_without h) n
 
 report_there : (h k : History) → IsStill h k → (package_name : List ℕ) (o : Option Name) → Reports h package_name o → Reports k package_name o
 report_there h k s package_name None none = λ m same good. none m same ((goods_still h k s).back m good)
 report_there h k s package_name (Some n) is = (is.0, active_same h k (goods_still h k s) n is.1)
 
+pub same_reports : (h k : History) → IsStill h k → (package_name : List ℕ) (o : Option Name) → (Reports h package_name o ↔ Reports k package_name o)
+same_reports h k s package_name o = (report_there h k s package_name o, report_there k h (still_back h k s) package_name o)
+
 pub report_same : (h : History) (package_name : List ℕ) (o : Option Name) → (Reports h package_name o ↔ Reports (without_refused h) package_name o)
-report_same h package_name o = (
-  report_there h (without_refused h) (still_without h) package_name o,
-  report_there (without_refused h) h (still_back h (without_refused h) (still_without h))
-      package_name o,
-)
+report_same h package_name o = same_reports h (without_refused h) (still_without h) package_name o

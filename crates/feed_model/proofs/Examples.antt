@@ -7,7 +7,7 @@ use Rattle.feed_model.specs.declared.reply.Refusal.TheVariants as refusals
 use Rattle.feed_model.specs.declared.state.State.TheVariants.{Staged, Broken, Active}
 use Rattle.feed_model.specs.History.{Offered, Piece, Lost, History, size_of, kept, IsFile, IsWhole, IsPassed, IsHeld}
 use Rattle.feed_model.specs.Reply.{missing_below, IsRightWithin, IsRight, history_after}
-use Rattle.feed_model.specs.Earlier.{earlier_limit, without_refused}
+use Rattle.feed_model.specs.Earlier.{earlier_limits, without_refused}
 use Rattle.feed_model.specs.Content.{Part, Record, record_of, byte_in, AreParts}
 use Rattle.feed_model.specs.Change.{Pieces, merged, new_record, without_earlier, after}
 
@@ -122,7 +122,7 @@ too_large : IsRight begun (Offered february 268435457) (Err refusals.TooLarge)
 too_large = inl (omega arith, refl)
 
 -- a file of 64 MiB and a byte was too large at first, and is so no more
-was_too_large : IsRightWithin earlier_limit begun (Offered february 67108865) (Err refusals.TooLarge)
+was_too_large : IsRightWithin earlier_limits begun (Offered february 67108865) (Err refusals.TooLarge)
 was_too_large = inl (omega arith, refl)
 
 is_too_large_no_more : ¬ (IsRight begun (Offered february 67108865) (Err refusals.TooLarge))

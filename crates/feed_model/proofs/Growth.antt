@@ -5,8 +5,8 @@ use Rattle.feed_kbart.specs.declared.fault.BadFile.{BadFile}
 use Rattle.feed_model.specs.declared.state.State.{State}
 use Rattle.feed_model.specs.declared.state.State.TheVariants.{Staged}
 use Rattle.feed_model.specs.History.{Piece, History, Answer, is_taken, or_else, byte_at, kept, IsWhole, IsGood, IsHeld}
-use Rattle.feed_model.specs.Reply.{IsRight, kept_with}
-use Rattle.feed_model.specs.Content.{Part, Record, Content, record_of, byte_in, AreParts, IsState, IsReason, IsRecord, IsContent}
+use Rattle.feed_model.specs.Reply.{IsRightWith, kept_with}
+use Rattle.feed_model.specs.Content.{Part, Record, Content, record_of, byte_in, AreParts, IsState, IsReason, IsRecord, IsContentWithin}
 use Rattle.feed_model.specs.Change.{merged, grown, broken_with, changed}
 use Rattle.feed_model.proofs.Names.{name_self, name_apart, name_cases}
 use Rattle.feed_model.proofs.Goods.{SameGood, held_same}
@@ -16,8 +16,8 @@ use Rattle.feed_model.proofs.Others.{SameBut, goods_but, each_same}
 use Rattle.feed_model.proofs.Tests.{of_record}
 
 -- A piece of n is kept: its record is staged, and the new parts have what the piece adds.
-pub record Keeps (c : Content) (h : History) (n : Name) (first : ℕ) (bytes : List ℕ) (r : Record) (ps : List Part) : Type 0 where
-  pub content : IsContent c h
+pub record Keeps (most : ℕ) (c : Content) (h : History) (n : Name) (first : ℕ) (bytes : List ℕ) (r : Record) (ps : List Part) : Type 0 where
+  pub content : IsContentWithin most c h
   pub found : record_of c n ≡ Some r
   pub staged : r.state ≡ Staged
   pub parts : AreParts (merged r.parts ps)
@@ -41,12 +41,12 @@ keeps_but h n f t b a = record { size = λ m apart. refl; bytes = bytes }
         by true s = rw (s, off) refl
         by false s = rw s refl
 
-pub grown_bytes : (c : Content) (h : History) (n : Name) (f : ℕ) (t : Option ℕ) (b : List ℕ) (a : Answer) (r : Record) (ps : List Part) → Keeps c h n f b r ps → is_taken a ≡ true
+pub grown_bytes : {most : ℕ} (c : Content) (h : History) (n : Name) (f : ℕ) (t : Option ℕ) (b : List ℕ) (a : Answer) (r : Record) (ps : List Part) → Keeps most c h n f b r ps → is_taken a ≡ true
     → (place : ℕ) → byte_in (merged r.parts ps) place ≡ kept ((Piece n f t b, a) ∷ h) n place
 grown_bytes c h n f t b a r ps k taken place = k.new place ∙ ap (λ o. or_else o (byte_at f b place)) ((of_record c h n r k.content k.found).bytes place) ∙ sym (kept_here h n f t b a taken place)
 
 -- staged, it was not good before
-pub not_before : (c : Content) (h : History) (n : Name) (r : Record) → IsContent c h → record_of c n ≡ Some r → r.state ≡ Staged → (IsWhole h n → ⊥)
+pub not_before : {most : ℕ} (c : Content) (h : History) (n : Name) (r : Record) → IsContentWithin most c h → record_of c n ≡ Some r → r.state ≡ Staged → (IsWhole h n → ⊥)
 not_before c h n r is found staged = let s = (of_record c h n r is found).state in subst (IsState h n) staged s
 
 -- a change that keeps name and size, and adds the parts
@@ -62,14 +62,14 @@ pub broken_is : (ps : List Part) (why : BadFile) (r : Record) → IsGrown ps (br
 broken_is ps why r = record { name = λ x. refl; size = refl; parts = refl }
 
 -- staged, it has no reason
-pub no_reason : (c : Content) (h : History) (n : Name) (r : Record) → IsContent c h → record_of c n ≡ Some r → r.state ≡ Staged → r.reason ≡ None
+pub no_reason : {most : ℕ} (c : Content) (h : History) (n : Name) (r : Record) → IsContentWithin most c h → record_of c n ≡ Some r → r.state ≡ Staged → r.reason ≡ None
 no_reason c h n r is found staged = let x = (of_record c h n r is found).reason in subst (λ (s : State). IsReason h n s r.reason) staged x
 
 -- It isn't good afterwards: nothing else changes.
-pub piece_moves : (c : Content) (h : History) (n : Name) (f : ℕ) (t : Option ℕ) (b : List ℕ) (a : Answer) (r : Record) (ps : List Part) (grow : Record → Record)
-    → IsGrown ps grow r → Keeps c h n f b r ps → is_taken a ≡ true → IsRight h (Piece n f t b) a
+pub piece_moves : {most : ℕ} (c : Content) (h : History) (n : Name) (f : ℕ) (t : Option ℕ) (b : List ℕ) (a : Answer) (r : Record) (ps : List Part) (grow : Record → Record)
+    → IsGrown ps grow r → Keeps most c h n f b r ps → is_taken a ≡ true → IsRightWith most h (Piece n f t b) a
     → (IsGood ((Piece n f t b, a) ∷ h) n → ⊥) → IsState ((Piece n f t b, a) ∷ h) n (grow r).state → IsReason ((Piece n f t b, a) ∷ h) n (grow r).state (grow r).reason
-    → IsContent (changed n grow c) ((Piece n f t b, a) ∷ h)
+    → IsContentWithin most (changed n grow c) ((Piece n f t b, a) ∷ h)
 piece_moves c h n f t b a r ps grow grows keeps taken right now state reason = record {
   legal = (right, keeps.content.legal);
   distinct = distinct-changed n grow grows.name c keeps.content.distinct;

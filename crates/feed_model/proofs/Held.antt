@@ -11,7 +11,7 @@ use Rattle.feed_names.specs.ReleaseName.{Name, name_eq}
 use Rattle.feed_kbart.specs.declared.fault.BadFile.{BadFile}
 use Rattle.feed_model.specs.File.{fault_of}
 use Rattle.feed_model.specs.History.{Offered, Piece, Lost, History, Answer, is_noted, is_taken, byte_at, kept, IsFile, IsWhole, IsGood, IsPassed, IsHeld}
-use Rattle.feed_model.specs.Reply.{IsLegal, Stores, HoldsNumber, kept_with, missing_below, max_held}
+use Rattle.feed_model.specs.Reply.{IsLegalWith, Stores, HoldsNumber, kept_with, missing_below}
 use Rattle.feed_model.proofs.Names.{name_is, name_cases, name_not, name_laws, package_name_cases, day_cases}
 use Rattle.feed_model.proofs.Goods.{SameGood, same_back, passed_same, held_same, IsStill, goods_still}
 use Rattle.feed_model.proofs.Legal.{nothing_kept}
@@ -117,15 +117,16 @@ held_before_piece h n first total bytes a taken is m held = (held.0, λ p. held.
     by (inr bad) p = passed_same h k (goods_but n h k but before bad) m p
 
 -- A release that is recorded: what else is held after it was held before.
-held_before_offer : (h : History) (n : Name) (size : ℕ) (a : Answer) → IsLegal h → is_noted a ≡ true → IsNoted h n size → (m : Name) → m ≢ n → IsHeld ((Offered n size, a) ∷ h) m
+held_before_offer : (most : ℕ) (h : History) (n : Name) (size : ℕ) (a : Answer) → IsLegalWith most h → is_noted a ≡ true → IsNoted most h n size → (m : Name) → m ≢ n
+    → IsHeld ((Offered n size, a) ∷ h) m
     → IsHeld h m
-held_before_offer h n size a legal noted is m apart held = held_same k h (same_back h k goods) m (added_size n m size a h noted apart) held
+held_before_offer most h n size a legal noted is m apart held = held_same k h (same_back h k goods) m (added_size n m size a h noted apart) held
   where
     k : History
     k = (Offered n size, a) ∷ h
 
     bare : (place : ℕ) → kept h n place ≡ None
-    bare place = nothing_kept h legal n (unsized h n size is) place
+    bare place = nothing_kept most h legal n (unsized h n size is) place
 
     but : SameBut n h k
     but = record { size = λ x off. added_size n x size a h noted off; bytes = λ x off place. refl }
@@ -141,7 +142,7 @@ held_before_offer h n size a legal noted is m apart held = held_same k h (same_b
 
 -- Distinct names, all of them held.
 
-abbrev AreHeld : History → List Name → Type 0
+abbrev pub AreHeld : History → List Name → Type 0
 AreHeld h ns = AllByRecursion (IsHeld h) ns
 
 abbrev others : Name → List Name → List Name
@@ -207,21 +208,21 @@ held_in h (x ∷ xs) held m e = by (name_eq m x) refl (held_in h xs held.1 m)
     by false t again = again (rw t at e)
 
 -- as many as may be held are all that are held
-all_held : (h : History) (ns : List Name) → ((ms : List Name) → IsDistinct name_eq ms → AreHeld h ms → length ms ≤ max_held) → IsDistinct name_eq ns → AreHeld h ns
-    → length ns ≡ max_held → HoldsNumber h max_held
-all_held h ns most d held full = (ns, d, λ m. (there m, λ has. held_in h ns held m (list_any-from_Contains name_laws m ns has)), full)
+all_held : (most : ℕ) (h : History) (ns : List Name) → ((ms : List Name) → IsDistinct name_eq ms → AreHeld h ms → length ms ≤ most) → IsDistinct name_eq ns → AreHeld h ns
+    → length ns ≡ most → HoldsNumber h most
+all_held most h ns few d held full = (ns, d, λ m. (there m, λ has. held_in h ns held m (list_any-from_Contains name_laws m ns has)), full)
   where
     there : (m : Name) → IsHeld h m → Contains ns m
     there m is = by (list_any (name_eq m) ns) refl
       where
         by : (b : Bool) → list_any (name_eq m) ns ≡ b → Contains ns m
         by true e = Contains-from_any name_is m ns e
-        by false e = absurd (omega (arith, most (m ∷ ns) (IsDistinct-cons name_eq m ns (apart_from m ns e) d) (is, held)))
+        by false e = absurd (omega (arith, few (m ∷ ns) (IsDistinct-cons name_eq m ns (apart_from m ns e) d) (is, held)))
 
-pub held_limit : (h : History) → IsLegal h → (ns : List Name) → IsDistinct name_eq ns → AreHeld h ns → length ns ≤ max_held
-held_limit [] legal [] d held = omega arith
-held_limit [] legal (x ∷ xs) d held = absurd (let u : false ≡ true = held.0.0 in cc)
-held_limit ((Offered n size, a) ∷ h) legal ns d held = by (is_noted a) refl (held_limit h legal.1)
+pub held_limit : (most : ℕ) (h : History) → IsLegalWith most h → (ns : List Name) → IsDistinct name_eq ns → AreHeld h ns → length ns ≤ most
+held_limit most [] legal [] d held = omega arith
+held_limit most [] legal (x ∷ xs) d held = absurd (let u : false ≡ true = held.0.0 in cc)
+held_limit most ((Offered n size, a) ∷ h) legal ns d held = by (is_noted a) refl (held_limit most h legal.1)
   where
     k : History
     k = (Offered n size, a) ∷ h
@@ -229,18 +230,18 @@ held_limit ((Offered n size, a) ∷ h) legal ns d held = by (is_noted a) refl (h
     still : is_noted a ≡ false → IsStill h k
     still out = record { size = λ m. rw out refl; bytes = λ m place. refl }
 
-    room : (is_noted a ≡ true) → ((ms : List Name) → IsDistinct name_eq ms → AreHeld h ms → length ms ≤ max_held) → AreHeld h (others n ns)
-        → (length (others n ns) ≡ max_held) ⊎ (length (others n ns) < max_held) → length ns ≤ max_held
-    room noted most before (inl full) = absurd ((noted_by h n size a noted legal.0).room (all_held h (others n ns) most (distinct-others n ns d) before full))
-    room noted most before (inr less) = omega (arith, length-others n ns d)
+    room : (is_noted a ≡ true) → ((ms : List Name) → IsDistinct name_eq ms → AreHeld h ms → length ms ≤ most) → AreHeld h (others n ns)
+        → (length (others n ns) ≡ most) ⊎ (length (others n ns) < most) → length ns ≤ most
+    room noted few before (inl full) = absurd ((noted_by most h n size a noted legal.0).room (all_held most h (others n ns) few (distinct-others n ns d) before full))
+    room noted few before (inr less) = omega (arith, length-others n ns d)
 
-    by : (b : Bool) → is_noted a ≡ b → ((ms : List Name) → IsDistinct name_eq ms → AreHeld h ms → length ms ≤ max_held) → length ns ≤ max_held
-    by true noted most =
-        let before : AreHeld h (others n ns) = held-others h k n (held_before_offer h n size a legal.1 noted (noted_by h n size a noted legal.0)) ns held in
-        let le : length (others n ns) ≤ max_held = most (others n ns) (distinct-others n ns d) before in
-        room noted most before (grind (arith, le))
-    by false out most = most ns d (held_back h k (λ m is. held_same k h (same_back h k (goods_still h k (still out))) m ((still out).size m) is) ns held)
-held_limit ((Piece n first total bytes, a) ∷ h) legal ns d held = by (is_taken a) refl (held_limit h legal.1 ns d)
+    by : (b : Bool) → is_noted a ≡ b → ((ms : List Name) → IsDistinct name_eq ms → AreHeld h ms → length ms ≤ most) → length ns ≤ most
+    by true noted few =
+        let before : AreHeld h (others n ns) = held-others h k n (held_before_offer most h n size a legal.1 noted (noted_by most h n size a noted legal.0)) ns held in
+        let le : length (others n ns) ≤ most = few (others n ns) (distinct-others n ns d) before in
+        room noted few before (grind (arith, le))
+    by false out few = few ns d (held_back h k (λ m is. held_same k h (same_back h k (goods_still h k (still out))) m ((still out).size m) is) ns held)
+held_limit most ((Piece n first total bytes, a) ∷ h) legal ns d held = by (is_taken a) refl (held_limit most h legal.1 ns d)
   where
     k : History
     k = (Piece n first total bytes, a) ∷ h
@@ -248,9 +249,9 @@ held_limit ((Piece n first total bytes, a) ∷ h) legal ns d held = by (is_taken
     still : is_taken a ≡ false → IsStill h k
     still out = record { size = λ m. refl; bytes = λ m place. rw out refl }
 
-    by : (b : Bool) → is_taken a ≡ b → (AreHeld h ns → length ns ≤ max_held) → length ns ≤ max_held
-    by true taken most = most (held_back h k (held_before_piece h n first total bytes a taken (taken_by h n first total bytes a taken legal.0)) ns held)
-    by false out most = most (held_back h k (λ m is. held_same k h (same_back h k (goods_still h k (still out))) m refl is) ns held)
-held_limit ((Lost n, a) ∷ h) legal ns d held =
-    held_limit h legal.1 ns d (held_back h ((Lost n, a) ∷ h) (λ m is. held_same ((Lost n, a) ∷ h) h
+    by : (b : Bool) → is_taken a ≡ b → (AreHeld h ns → length ns ≤ most) → length ns ≤ most
+    by true taken few = few (held_back h k (held_before_piece h n first total bytes a taken (taken_by most h n first total bytes a taken legal.0)) ns held)
+    by false out few = few (held_back h k (λ m is. held_same k h (same_back h k (goods_still h k (still out))) m refl is) ns held)
+held_limit most ((Lost n, a) ∷ h) legal ns d held =
+    held_limit most h legal.1 ns d (held_back h ((Lost n, a) ∷ h) (λ m is. held_same ((Lost n, a) ∷ h) h
     (same_back h ((Lost n, a) ∷ h) (goods_still h ((Lost n, a) ∷ h) (record { size = λ x. refl; bytes = λ x place. refl }))) m refl is) ns held)

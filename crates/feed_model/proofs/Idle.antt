@@ -4,8 +4,8 @@ use Rattle.feed_names.specs.ReleaseName.{Name}
 use Rattle.feed_model.specs.declared.state.State.{State}
 use Rattle.feed_model.specs.declared.state.State.TheVariants.{Staged, Broken, Active}
 use Rattle.feed_model.specs.History.{Event, Offered, Piece, Lost, History, Answer, is_noted, is_taken, size_of, kept, IsHeld}
-use Rattle.feed_model.specs.Reply.{IsRight}
-use Rattle.feed_model.specs.Content.{Record, Content, record_of, IsState, IsRecord, IsContent}
+use Rattle.feed_model.specs.Reply.{IsRightWith}
+use Rattle.feed_model.specs.Content.{Record, Content, record_of, IsState, IsRecord, IsContentWithin, within}
 use Rattle.feed_model.specs.Handles.{Handles}
 use Rattle.feed_model.proofs.Goods.{SameGood, same_back, active_same, held_same, IsStill, file_there, file_back_again, goods_still, reason_there}
 
@@ -19,7 +19,8 @@ kept_idle h (Offered m s) a out n place = refl
 kept_idle h (Piece m f t b) a out n place = rw out refl
 kept_idle h (Lost m) a out n place = refl
 
-pub idle : (c : Content) (h : History) (e : Event) (a : Answer) → IsContent c h → is_noted a ≡ false → is_taken a ≡ false → IsRight h e a → IsContent c ((e, a) ∷ h)
+pub idle : {most : ℕ} (c : Content) (h : History) (e : Event) (a : Answer) → IsContentWithin most c h → is_noted a ≡ false → is_taken a ≡ false → IsRightWith most h e a
+    → IsContentWithin most c ((e, a) ∷ h)
 idle c h e a is noted taken right = record { legal = (right, is.legal); distinct = is.distinct; each = λ n. by n (record_of c n) (is.each n) }
   where
     k : History
@@ -48,5 +49,6 @@ idle c h e a is noted taken right = record { legal = (right, is.legal); distinct
         state Broken b = (b.0, file_there h k still n b.0 b.1, b.2)
 
 -- so it leaves the content as it was
-pub unchanged : (c : Content) (e : Event) (a : Answer) → is_noted a ≡ false → is_taken a ≡ false → ((h : History) → IsContent c h → IsRight h e a) → Handles c e a c
+pub unchanged : {most : ℕ} (c : Content) (e : Event) (a : Answer) → is_noted a ≡ false → is_taken a ≡ false → ((h : History) → IsContentWithin most c h → IsRightWith most h e a)
+    → Handles (within most c) e a (within most c)
 unchanged c e a noted taken right = λ h is. (right h is, idle c h e a is noted taken (right h is))

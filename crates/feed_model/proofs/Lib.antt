@@ -25,3 +25,4 @@ pub mod Held
 pub mod Soundness
 pub mod Examples
 pub mod Earlier
+pub mod Larger

@@ -3,7 +3,7 @@ use Rattle.std.proofs.Common.{◌≡◌, ◌<◌, ◌≤◌, ◌+◌, ℕ, Bool,
 use Rattle.std.specs.Prelude.{IsSomeAnd}
 use Rattle.feed_names.specs.ReleaseName.{Name, name_eq}
 use Rattle.feed_model.specs.History.{Offered, Piece, Lost, History, Answer, is_noted, is_taken, or_else, byte_at, size_of, kept, IsPassed, IsHeld}
-use Rattle.feed_model.specs.Reply.{IsRight, IsLegal, IsKept, Stores, HoldsNumber, max_file, max_held}
+use Rattle.feed_model.specs.Reply.{IsRightWith, IsLegalWith, IsKept, Stores, HoldsNumber, max_file}
 use Rattle.feed_model.proofs.Names.{name_is}
 use Rattle.feed_model.proofs.Legal.{nothing_kept}
 use Rattle.feed_model.proofs.Bytes.{byte_at-within}
@@ -22,11 +22,11 @@ pub record IsTaken (h : History) (n : Name) (first : ℕ) (bytes : List ℕ) (a 
   pub stores : Stores h n first bytes a
 
 -- what is known of a release that is recorded
-pub record IsNoted (h : History) (n : Name) (size : ℕ) : Type 0 where
+pub record IsNoted (most : ℕ) (h : History) (n : Name) (size : ℕ) : Type 0 where
   pub small : size ≤ max_file
   pub ahead : ¬ (IsPassed h n)
   pub out : ¬ (IsHeld h n)
-  pub room : ¬ (HoldsNumber h max_held)
+  pub room : ¬ (HoldsNumber h most)
 
 held_by : (h : History) (n : Name) → ¬ (IsPassed h n) → ¬ (¬ (IsHeld h n)) → IsHeld h n
 held_by h n ahead held = (by (size_of h n) refl, ahead)
@@ -35,31 +35,31 @@ held_by h n ahead held = (by (size_of h n) refl, ahead)
     by None e = absurd (held (λ x. let u : false ≡ true = subst IsSome e x.0 in absurd (cc)))
     by (Some size) e = refl
 
-pub taken_by : (h : History) (n : Name) (first : ℕ) (total : Option ℕ) (bytes : List ℕ) (a : Answer) → is_taken a ≡ true → IsRight h (Piece n first total bytes) a
+pub taken_by : (most : ℕ) (h : History) (n : Name) (first : ℕ) (total : Option ℕ) (bytes : List ℕ) (a : Answer) → is_taken a ≡ true → IsRightWith most h (Piece n first total bytes) a
     → IsTaken h n first bytes a
-taken_by h n first total bytes a taken (inl x) = untaken a _ taken x.1 refl
-taken_by h n first total bytes a taken (inr (x, inl y)) = untaken a _ taken y.1 refl
-taken_by h n first total bytes a taken (inr (x, inr (y, inl z))) = untaken a _ taken z.1 refl
-taken_by h n first total bytes a taken (inr (x, inr (y, inr (z, inl w)))) = untaken a _ taken w.1 refl
-taken_by h n first total bytes a taken (inr (x, inr (y, inr (z, inr (w, inl v))))) = untaken a _ taken v.1 refl
-taken_by h n first total bytes a taken (inr (x, inr (y, inr (z, inr (w, inr (v, inl u)))))) = untaken a _ taken u.1 refl
-taken_by h n first total bytes a taken (inr (x, inr (y, inr (z, inr (w, inr (v, inr (u, inl p))))))) = untaken a _ taken p.1 refl
-taken_by h n first total bytes a taken (inr (x, inr (y, inr (z, inr (w, inr (v, inr (u, inr (p, s)))))))) = record { held = held_by h n y z; within = v; new = p; stores = s }
+taken_by most h n first total bytes a taken (inl x) = untaken a _ taken x.1 refl
+taken_by most h n first total bytes a taken (inr (x, inl y)) = untaken a _ taken y.1 refl
+taken_by most h n first total bytes a taken (inr (x, inr (y, inl z))) = untaken a _ taken z.1 refl
+taken_by most h n first total bytes a taken (inr (x, inr (y, inr (z, inl w)))) = untaken a _ taken w.1 refl
+taken_by most h n first total bytes a taken (inr (x, inr (y, inr (z, inr (w, inl v))))) = untaken a _ taken v.1 refl
+taken_by most h n first total bytes a taken (inr (x, inr (y, inr (z, inr (w, inr (v, inl u)))))) = untaken a _ taken u.1 refl
+taken_by most h n first total bytes a taken (inr (x, inr (y, inr (z, inr (w, inr (v, inr (u, inl p))))))) = untaken a _ taken p.1 refl
+taken_by most h n first total bytes a taken (inr (x, inr (y, inr (z, inr (w, inr (v, inr (u, inr (p, s)))))))) = record { held = held_by h n y z; within = v; new = p; stores = s }
 
-pub noted_by : (h : History) (n : Name) (size : ℕ) (a : Answer) → is_noted a ≡ true → IsRight h (Offered n size) a → IsNoted h n size
-noted_by h n size a noted (inl x) = unnoted a _ noted x.1 refl
-noted_by h n size a noted (inr (x, inl y)) = unnoted a _ noted y.1 refl
-noted_by h n size a noted (inr (x, inr (y, inl (z, inl w)))) = unnoted a _ noted w.1 refl
-noted_by h n size a noted (inr (x, inr (y, inl (z, inr w)))) = unnoted a _ noted w.1 refl
-noted_by h n size a noted (inr (x, inr (y, inr (z, inl w)))) = unnoted a _ noted w.1 refl
-noted_by h n size a noted (inr (x, inr (y, inr (z, inr (w, v))))) = record { small = least (grind arith); ahead = y; out = z; room = w }
+pub noted_by : (most : ℕ) (h : History) (n : Name) (size : ℕ) (a : Answer) → is_noted a ≡ true → IsRightWith most h (Offered n size) a → IsNoted most h n size
+noted_by most h n size a noted (inl x) = unnoted a _ noted x.1 refl
+noted_by most h n size a noted (inr (x, inl y)) = unnoted a _ noted y.1 refl
+noted_by most h n size a noted (inr (x, inr (y, inl (z, inl w)))) = unnoted a _ noted w.1 refl
+noted_by most h n size a noted (inr (x, inr (y, inl (z, inr w)))) = unnoted a _ noted w.1 refl
+noted_by most h n size a noted (inr (x, inr (y, inr (z, inl w)))) = unnoted a _ noted w.1 refl
+noted_by most h n size a noted (inr (x, inr (y, inr (z, inr (w, v))))) = record { small = least (grind arith); ahead = y; out = z; room = w }
   where
     least : (size ≤ max_file) ⊎ (max_file < size) → size ≤ max_file
     least (inl le) = le
     least (inr lt) = absurd (x lt)
 
 -- before it was recorded it had no size
-pub unsized : (h : History) (n : Name) (size : ℕ) → IsNoted h n size → size_of h n ≡ None
+pub unsized : {most : ℕ} (h : History) (n : Name) (size : ℕ) → IsNoted most h n size → size_of h n ≡ None
 unsized h n size noted = by (size_of h n) refl
   where
     by : (o : Option ℕ) → size_of h n ≡ o → o ≡ None
@@ -67,30 +67,30 @@ unsized h n size noted = by (size_of h n) refl
     by (Some s) e = absurd (noted.out (subst IsSome (sym e) refl, noted.ahead))
 
 -- no size is above the limit
-pub size_limit : (h : History) → IsLegal h → (n : Name) (size : ℕ) → size_of h n ≡ Some size → size ≤ max_file
-size_limit [] legal n size e = absurd (cc)
-size_limit ((Offered m s, a) ∷ h) legal n size e = by (is_noted a) (name_eq m n) refl refl (size_limit h legal.1 n size)
+pub size_limit : (most : ℕ) (h : History) → IsLegalWith most h → (n : Name) (size : ℕ) → size_of h n ≡ Some size → size ≤ max_file
+size_limit most [] legal n size e = absurd (cc)
+size_limit most ((Offered m s, a) ∷ h) legal n size e = by (is_noted a) (name_eq m n) refl refl (size_limit most h legal.1 n size)
   where
     by : (x y : Bool) → is_noted a ≡ x → name_eq m n ≡ y → (size_of h n ≡ Some size → size ≤ max_file) → size ≤ max_file
-    by true true noted same again = let u : Some s ≡ Some size = rw (noted, same) at e in let v : s ≡ size = cc in omega (arith, v, (noted_by h m s a noted legal.0).small)
+    by true true noted same again = let u : Some s ≡ Some size = rw (noted, same) at e in let v : s ≡ size = cc in omega (arith, v, (noted_by most h m s a noted legal.0).small)
     by true false noted same again = again (rw (noted, same) at e)
     by false y noted same again = again (rw noted at e)
-size_limit ((Piece m f t b, a) ∷ h) legal n size e = size_limit h legal.1 n size e
-size_limit ((Lost m, a) ∷ h) legal n size e = size_limit h legal.1 n size e
+size_limit most ((Piece m f t b, a) ∷ h) legal n size e = size_limit most h legal.1 n size e
+size_limit most ((Lost m, a) ∷ h) legal n size e = size_limit most h legal.1 n size e
 
 -- no byte is kept past the end of a file
-pub kept_inside : (h : History) → IsLegal h → (n : Name) (size place : ℕ) → size_of h n ≡ Some size → IsSome (kept h n place) → place < size
-kept_inside [] legal n size place e s = absurd (cc)
-kept_inside ((Offered m x, a) ∷ h) legal n size place e s = by (is_noted a) (name_eq m n) refl refl (λ before. kept_inside h legal.1 n size place before s)
+pub kept_inside : (most : ℕ) (h : History) → IsLegalWith most h → (n : Name) (size place : ℕ) → size_of h n ≡ Some size → IsSome (kept h n place) → place < size
+kept_inside most [] legal n size place e s = absurd (cc)
+kept_inside most ((Offered m x, a) ∷ h) legal n size place e s = by (is_noted a) (name_eq m n) refl refl (λ before. kept_inside most h legal.1 n size place before s)
   where
     by : (u v : Bool) → is_noted a ≡ u → name_eq m n ≡ v → (size_of h n ≡ Some size → place < size) → place < size
     by true true noted same again =
-        let before : size_of h n ≡ None = subst (λ (y : Name). size_of h y ≡ None) (name_is m n same) (unsized h m x (noted_by h m x a noted legal.0)) in
-        let none : kept h n place ≡ None = nothing_kept h legal.1 n before place in
+        let before : size_of h n ≡ None = subst (λ (y : Name). size_of h y ≡ None) (name_is m n same) (unsized h m x (noted_by most h m x a noted legal.0)) in
+        let none : kept h n place ≡ None = nothing_kept most h legal.1 n before place in
         absurd (let w : false ≡ true = subst IsSome none s in cc)
     by true false noted same again = again (rw (noted, same) at e)
     by false v noted same again = again (rw noted at e)
-kept_inside ((Piece m f t b, a) ∷ h) legal n size place e s = by (is_taken a) (name_eq m n) refl refl (kept_inside h legal.1 n size place e)
+kept_inside most ((Piece m f t b, a) ∷ h) legal n size place e s = by (is_taken a) (name_eq m n) refl refl (kept_inside most h legal.1 n size place e)
   where
     inside : (o : Option ℕ) → o ≡ Some size → ¬ (IsSomeAnd o (λ x. x < f + length b)) → place < f + length b → place < size
     inside None u within lt = absurd (cc)
@@ -112,7 +112,7 @@ kept_inside ((Piece m f t b, a) ∷ h) legal n size place e s = by (is_taken a) 
     by true true taken same again =
         let now : IsSome (or_else (kept h n place) (byte_at f b place)) = rw (taken, same) at s in
         pick (either (kept h n place) (byte_at f b place) now) again (subst (λ (y : Name). ¬ (IsSomeAnd (size_of h y) (λ x. x < f + length b))) (name_is m n same)
-        (taken_by h m f t b a taken legal.0).within)
+        (taken_by most h m f t b a taken legal.0).within)
     by true false taken same again = again (rw (taken, same) at s)
     by false v taken same again = again (rw taken at s)
-kept_inside ((Lost m, a) ∷ h) legal n size place e s = kept_inside h legal.1 n size place e s
+kept_inside most ((Lost m, a) ∷ h) legal n size place e s = kept_inside most h legal.1 n size place e s

@@ -5,8 +5,8 @@ use Rattle.std.proofs.lemmas.Bool.Decides.{nat_tests}
 use Rattle.feed_names.specs.ReleaseName.{Name, name_eq}
 use Rattle.feed_model.specs.File.{fault_of}
 use Rattle.feed_model.specs.History.{Offered, History, Answer, is_noted, size_of, kept, IsFile, IsGood, IsPassed, IsHeld}
-use Rattle.feed_model.specs.Reply.{IsRight}
-use Rattle.feed_model.specs.Content.{Content, record_of, IsState, IsReason, IsRecord, IsContent}
+use Rattle.feed_model.specs.Reply.{IsRightWith}
+use Rattle.feed_model.specs.Content.{Content, record_of, IsState, IsReason, IsRecord, IsContentWithin}
 use Rattle.feed_model.specs.Change.{new_record, insert_record}
 use Rattle.feed_model.proofs.Names.{name_self, name_apart, name_cases}
 use Rattle.feed_model.proofs.Goods.{SameGood, same_back, passed_same}
@@ -28,9 +28,9 @@ pub only_empty : (n : Name) (h : History) → ((place : ℕ) → kept h n place 
 only_empty n h bare [] f = refl
 only_empty n h bare (x ∷ xs) f = absurd (let e : None ≡ Some x = sym (bare 0) ∙ f.1 0 (omega arith) in cc)
 
-pub add_moves : (c : Content) (h : History) (n : Name) (size : ℕ) (r : Answer) → IsContent c h → record_of c n ≡ None → (¬ (IsPassed h n)) → is_noted r ≡ true
-    → IsRight h (Offered n size) r → IsContent (insert_record (new_record n size) c) ((Offered n size, r) ∷ h)
-add_moves c h n size r is free ahead noted right = record {
+pub add_moves : {most : ℕ} (c : Content) (h : History) (n : Name) (size : ℕ) (r : Answer) → IsContentWithin most c h → record_of c n ≡ None → (¬ (IsPassed h n)) → is_noted r ≡ true
+    → IsRightWith most h (Offered n size) r → IsContentWithin most (insert_record (new_record n size) c) ((Offered n size, r) ∷ h)
+add_moves {most = most} c h n size r is free ahead noted right = record {
   legal = (right, is.legal);
   distinct = distinct-insert_record (new_record n size) c free is.distinct;
   each = λ m. by m (name_cases m n);
@@ -47,7 +47,7 @@ add_moves c h n size r is free ahead noted right = record {
     unsized (Some s) e = absurd (out (subst IsSome (sym e) refl, ahead))
 
     bare : (place : ℕ) → kept h n place ≡ None
-    bare place = nothing_kept h is.legal n (unsized (size_of h n) refl) place
+    bare place = nothing_kept most h is.legal n (unsized (size_of h n) refl) place
 
     but : SameBut n h k
     but = record { size = λ m apart. added_size n m size r h noted apart; bytes = λ m apart place. refl }

@@ -4,21 +4,23 @@ use Rattle.std.proofs.lemmas.Int.{ints}
 use Rattle.feed_names.specs.ReleaseName.{Name}
 use Rattle.feed_model.specs.declared.state.State.TheVariants.{Active}
 use Rattle.feed_model.specs.History.{History, IsFile, IsGood, IsActive, IsPassed, Reports}
-use Rattle.feed_model.specs.Content.{Record, Content, record_of, byte_in, IsState, IsContent}
+use Rattle.feed_model.specs.Content.{Record, Content, record_of, byte_in, IsState, IsContentWithin}
 use Rattle.feed_model.proofs.Names.{name_by}
 use Rattle.feed_model.proofs.Lookups.{name-record_of, record_of-own}
 use Rattle.feed_model.proofs.Tests.{of_record, record_good, not_passed_active}
 
-active_by : (c : Content) (h : History) (r : Record) → IsContent c h → record_of c r.name ≡ Some r → r.state ≡ Active → IsActive h r.name
+active_by : {most : ℕ} (c : Content) (h : History) (r : Record) → IsContentWithin most c h → record_of c r.name ≡ Some r → r.state ≡ Active → IsActive h r.name
 active_by c h r is found active = subst (IsState h r.name) active (of_record c h r.name r is found).state
 
 -- an active record of the package
-pub report_some : (c : Content) (h : History) (package_name : List ℕ) (r : Record) → IsContent c h → record_of c r.name ≡ Some r → r.state ≡ Active → r.name.package_name ≡ package_name
+pub report_some : {most : ℕ} (c : Content) (h : History) (package_name : List ℕ) (r : Record) → IsContentWithin most c h → record_of c r.name ≡ Some r → r.state ≡ Active
+    → r.name.package_name ≡ package_name
     → Reports h package_name (Some r.name)
 report_some c h package_name r is found active same = (same, active_by c h r is found active)
 
 -- no active record of the package
-pub report_none : (c : Content) (h : History) (package_name : List ℕ) → IsContent c h → ((a : Record) → record_of c a.name ≡ Some a → a.state ≡ Active → a.name.package_name ≢ package_name)
+pub report_none : {most : ℕ} (c : Content) (h : History) (package_name : List ℕ) → IsContentWithin most c h
+    → ((a : Record) → record_of c a.name ≡ Some a → a.state ≡ Active → a.name.package_name ≢ package_name)
     → Reports h package_name None
 report_none c h package_name is none = λ m same good. latest m same good (λ p. latest p.0 (sym p.2.0 ∙ same) p.1.0 (not_passed_active h p.0 p.1))
   where
@@ -28,7 +30,7 @@ report_none c h package_name is none = λ m same good. latest m same good (λ p.
         none r.0 (record_of-own c m r.0 r.1) r.2 (ap (λ (x : Name). x.package_name) (name-record_of c m r.0 r.1) ∙ same)
 
 -- the bytes of a record that has all of them are its file
-pub file_of_record : (c : Content) (h : History) (r : Record) (text : List ℕ) → IsContent c h → record_of c r.name ≡ Some r → length text ≡ r.size
+pub file_of_record : {most : ℕ} (c : Content) (h : History) (r : Record) (text : List ℕ) → IsContentWithin most c h → record_of c r.name ≡ Some r → length text ≡ r.size
     → ((place : ℕ) → place < r.size → byte_in r.parts place ≡ slice_get text place) → IsFile h r.name text
 file_of_record c h r text is found len at =
     let x = of_record c h r.name r is found in

@@ -3,7 +3,7 @@ use Rattle.std.proofs.Common.{◌≡◌, ◌<◌, ◌+◌, ◌++◌, ℕ, List, 
 use Rattle.std.proofs.lemmas.List.{take_more, length-append}
 use Rattle.feed_model.specs.History.{Event, Answer, History}
 use Rattle.feed_model.specs.Reply.{history_after}
-use Rattle.feed_model.specs.Content.{Content, IsContent}
+use Rattle.feed_model.specs.Content.{Recorded, IsContent}
 use Rattle.feed_model.specs.Handles.{Handles, Runs}
 
 pub history_after-push : (h : History) (events : List Event) (answers : List Answer) (event : Event) (answer : Answer) → length events ≡ length answers
@@ -14,7 +14,7 @@ history_after-push h (x ∷ xs) [] event answer same = absurd (omega arith)
 history_after-push h (x ∷ xs) (b ∷ bs) event answer same = history_after-push ((x, b) ∷ h) xs bs event answer (omega arith)
 
 -- one step more
-pub run_push : (c m c' : Content) (events : List Event) (answers : List Answer) (event : Event) (answer : Answer) → Runs c events answers m → Handles m event answer c'
+pub run_push : (c m c' : Recorded) (events : List Event) (answers : List Answer) (event : Event) (answer : Answer) → Runs c events answers m → Handles m event answer c'
     → Runs c (events ++ event ∷ []) (answers ++ answer ∷ []) c'
 run_push c m c' events answers event answer runs step = record {
   each = omega (arith, length-append events (event ∷ []), length-append answers (answer ∷ []), runs.each);
@@ -26,7 +26,7 @@ map-push told [] x = refl
 map-push told (y ∷ ys) x = ap (λ zs. told y ∷ zs) (map-push told ys x)
 
 -- the same in a loop over elements that stand for the events
-pub run_more : {X : Type 0} (told : X → Event) (c m c' : Content) (xs : List X) (i : ℕ) (x : X) (answers more : List Answer) (answer : Answer)
+pub run_more : {X : Type 0} (told : X → Event) (c m c' : Recorded) (xs : List X) (i : ℕ) (x : X) (answers more : List Answer) (answer : Answer)
     → i < length xs → x ≡ get_or xs i x → more ≡ answers ++ answer ∷ [] → Runs c (map told (take i xs)) answers m → Handles m (told x) answer c'
     → Runs c (map told (take (i + 1) xs)) more c'
 run_more told c m c' xs i x answers more answer lt at is runs step =

@@ -9,7 +9,7 @@ use Rattle.feed_model.specs.declared.state.State.{State}
 use Rattle.feed_model.specs.declared.state.State.TheVariants.{Staged, Broken, Active}
 use Rattle.feed_model.specs.History.{History, IsFile, IsHeld}
 use Rattle.feed_model.specs.Reply.{missing_below}
-use Rattle.feed_model.specs.Content.{Record, Content, names, byte_in, IsText, IsState, IsReason, IsRecord, IsContent}
+use Rattle.feed_model.specs.Content.{Record, Content, names, byte_in, IsText, IsState, IsReason, IsRecord, IsContentWithin, within}
 use Rattle.feed_model.specs.Handles.{HasLaterActive}
 use Rattle.feed_model.specs.Sound.{IsStateOf, Explains, IsSoundRecord, IsSound}
 use Rattle.feed_model.proofs.Counting.{length_names}
@@ -76,29 +76,29 @@ explained h n r x Staged o is = is
 explained h n r x Active o is = is
 explained h n r x Broken o is = (is.0, text_by h n r is.0 x is.1, is.2)
 
-sound_by : (c : Content) (h : History) (n : Name) (r : Record) → IsContent c h → IsRecord h n r → IsSoundRecord r
-sound_by c h n r is x = record {
-  size = size_limit h is.legal n r.size x.size;
+sound_by : {most : ℕ} (c : Content) (h : History) (n : Name) (r : Record) → IsContentWithin most c h → IsRecord h n r → IsSoundRecord r
+sound_by {most = most} c h n r is x = record {
+  size = size_limit most h is.legal n r.size x.size;
   parts = x.parts;
-  inside = within_by 0 r.size r.parts x.parts (λ place s. kept_inside h is.legal n r.size place x.size (subst IsSome (x.bytes place) s));
+  inside = within_by 0 r.size r.parts x.parts (λ place s. kept_inside most h is.legal n r.size place x.size (subst IsSome (x.bytes place) s));
   state = is_recorded_as h n r x r.state x.state;
   reason = explained h n r x r.state r.reason x.reason;
 }
 
-each_sound : (c : Content) (h : History) → IsContent c h → All IsSoundRecord c
+each_sound : {most : ℕ} (c : Content) (h : History) → IsContentWithin most c h → All IsSoundRecord c
 each_sound c h is = λ k d lt. sound_by c h (get_or c k d).name (get_or c k d) is (of_record c h (get_or c k d).name (get_or c k d) is (record_of-at c k d is.distinct lt))
 
 names_held : (h : History) (rs : Content) → ((k : ℕ) (d : Record) → k < length rs → IsHeld h (get_or rs k d).name) → AllByRecursion (IsHeld h) (names rs)
 names_held h [] held = tt
 names_held h (x ∷ xs) held = (held 0 x (omega arith), names_held h xs (λ k d lt. held (suc k) d (omega arith)))
 
-pub sound_content : (c : Content) (h : History) → IsContent c h → IsSound c
-sound_content c h is = record {
+pub sound_content : {most : ℕ} (c : Content) (h : History) → IsContentWithin most c h → IsSound (within most c)
+sound_content {most = most} c h is = record {
   distinct = is.distinct;
   few = omega (
     arith,
     length_names c,
-    held_limit h is.legal (names c) is.distinct
+    held_limit most h is.legal (names c) is.distinct
         (names_held h c (λ k d lt. (of_record c h (get_or c k d).name (get_or c k d) is (record_of-at c k d is.distinct lt)).held)),
   );
   each = each_sound c h is;
@@ -106,6 +106,6 @@ sound_content c h is = record {
 }
 
 -- nothing is kept
-pub sound_empty : IsSound []
+pub sound_empty : {most : ℕ} → IsSound (within most [])
 unfolding IsDistinct
 sound_empty = record { distinct = tt; few = omega arith; each = All-nil IsSoundRecord; current = All-nil (λ r. ¬ (HasLaterActive [] r.name)) }

@@ -7,7 +7,7 @@ use Rattle.feed_model.specs.declared.state.State.{State}
 use Rattle.feed_model.specs.declared.state.State.TheVariants.{Staged, Broken, Active}
 use Rattle.feed_model.specs.File.{fault_of}
 use Rattle.feed_model.specs.History.{History, IsFile, IsGood, IsBad, IsActive, IsPassed, IsHeld}
-use Rattle.feed_model.specs.Content.{Record, Content, record_of, IsState, IsRecord, IsContent}
+use Rattle.feed_model.specs.Content.{Record, Content, record_of, IsState, IsRecord, IsContentWithin}
 use Rattle.feed_model.specs.Change.{NoneIsLater}
 use Rattle.feed_model.specs.Handles.{HasLaterActive}
 use Rattle.feed_model.proofs.Lookups.{name-record_of, record_of-own}
@@ -40,7 +40,7 @@ state_good h n Staged g w = absurd (w (g.0, g.1))
 state_good h n Active g w = refl
 state_good h n Broken g w = absurd (good_not_bad h n g w)
 
-pub record_good : (c : Content) (h : History) → IsContent c h → (n : Name) → IsGood h n → ((IsPassed h n) → ⊥) → (x : Record) × (record_of c n ≡ Some x) × (x.state ≡ Active)
+pub record_good : {most : ℕ} (c : Content) (h : History) → IsContentWithin most c h → (n : Name) → IsGood h n → ((IsPassed h n) → ⊥) → (x : Record) × (record_of c n ≡ Some x) × (x.state ≡ Active)
     × IsActive h n
 record_good c h is n g ahead = by (record_of c n) refl (is.each n)
   where
@@ -48,18 +48,18 @@ record_good c h is n g ahead = by (record_of c n) refl (is.each n)
     by None e out = absurd (out (subst IsSome (sym g.1.0) refl, ahead))
     by (Some x) e r = let s = state_good h n x.state g r.state in (x, e, s, subst (IsState h n) s r.state)
 
-pub of_record : (c : Content) (h : History) (n : Name) (r : Record) → IsContent c h → record_of c n ≡ Some r → IsRecord h n r
+pub of_record : {most : ℕ} (c : Content) (h : History) (n : Name) (r : Record) → IsContentWithin most c h → record_of c n ≡ Some r → IsRecord h n r
 of_record c h n r is found = let e = is.each n in rw found at e
 
-pub not_held : (c : Content) (h : History) (n : Name) → IsContent c h → record_of c n ≡ None → ¬ (IsHeld h n)
+pub not_held : {most : ℕ} (c : Content) (h : History) (n : Name) → IsContentWithin most c h → record_of c n ≡ None → ¬ (IsHeld h n)
 not_held c h n is free = let e = is.each n in rw free at e
 
 -- a later record that is active says that the release is passed
-pub passed_by : (c : Content) (h : History) (n : Name) → IsContent c h → HasLaterActive c n → IsPassed h n
+pub passed_by : {most : ℕ} (c : Content) (h : History) (n : Name) → IsContentWithin most c h → HasLaterActive c n → IsPassed h n
 passed_by c h n is p = (p.0.name, subst (IsState h p.0.name) p.2 (of_record c h p.0.name p.0 is p.1).state, p.3)
 
 -- and else it is not passed
-pub not_passed_by : (c : Content) (h : History) (n : Name) → IsContent c h → NoneIsLater c n → ¬ (IsPassed h n)
+pub not_passed_by : {most : ℕ} (c : Content) (h : History) (n : Name) → IsContentWithin most c h → NoneIsLater c n → ¬ (IsPassed h n)
 not_passed_by c h n is free p =
     let r = record_good c h is p.0 p.1.0 (not_passed_active h p.0 p.1) in
     free r.0 (record_of-own c p.0 r.0 r.1) r.2 (subst (IsEarlier n) (sym (name-record_of c p.0 r.0 r.1)) p.2)

@@ -99,9 +99,14 @@ IsBadWith ps why r = (text : List ℕ) × IsText r.size (merged r.parts ps) text
 abbrev pub NoneIsLater : Content → Name → Type 0
 NoneIsLater c n = (a : Record) → record_of c a.name ≡ Some a → a.state ≡ Active → ¬ (IsEarlier n a.name)
 
--- the precondition of a change. A keeper does not check files: it keeps the reason that it is given
+-- the precondition of a change, for a keeper that has room for this many records. A keeper does not check files: it keeps
+-- the reason that it is given
+abbrev pub IsAllowedWithin : ℕ → Change → Content → Type 0
+IsAllowedWithin most (Add n size) c = (record_of c n ≡ None) × (length c < most) × (size ≤ max_file)
+IsAllowedWithin most (Pieces n ps) c = (r : Record) × TakesParts c n ps r
+IsAllowedWithin most (Break n ps why) c = (r : Record) × TakesParts c n ps r × IsCompleteWith ps r × IsBadWith ps why r
+IsAllowedWithin most (Activate n ps) c = (r : Record) × TakesParts c n ps r × IsCompleteWith ps r × NoneIsLater c n
+
+-- the same for a keeper of 256 records
 abbrev pub IsAllowed : Change → Content → Type 0
-IsAllowed (Add n size) c = (record_of c n ≡ None) × (length c < max_held) × (size ≤ max_file)
-IsAllowed (Pieces n ps) c = (r : Record) × TakesParts c n ps r
-IsAllowed (Break n ps why) c = (r : Record) × TakesParts c n ps r × IsCompleteWith ps r × IsBadWith ps why r
-IsAllowed (Activate n ps) c = (r : Record) × TakesParts c n ps r × IsCompleteWith ps r × NoneIsLater c n
+IsAllowed change c = IsAllowedWithin max_held change c

@@ -7,7 +7,7 @@ use Rattle.feed_model.specs.File.{fault_of}
 use Rattle.feed_model.specs.declared.state.State.{State}
 use Rattle.feed_model.specs.declared.state.State.TheVariants.{Staged, Broken, Active}
 use Rattle.feed_model.specs.History.{History, or_else, byte_at, size_of, kept, IsFile, IsHeld, IsWhole, IsActive, IsBad}
-use Rattle.feed_model.specs.Reply.{IsLegal, max_piece}
+use Rattle.feed_model.specs.Reply.{IsLegalWith, max_piece}
 
 -- bytes, and the place of the first of them
 pub record Part : Type 0 where
@@ -79,9 +79,22 @@ pub record IsRecord (h : History) (n : Name) (r : Record) : Type 0 where
   pub state : IsState h n r.state
   pub reason : IsReason h n r.state r.reason
 
--- the history is legal, and exactly the releases that are held have a record. Many histories have the same content; the
--- empty list is a content of the empty history
-pub record IsContent (c : Content) (h : History) : Type 0 where
-  pub legal : IsLegal h
+-- the history is legal for a feed of at most this many releases, and exactly the releases that are held have a record.
+-- Many histories have the same content; the empty list is a content of the empty history
+pub record IsContentWithin (most : ℕ) (c : Content) (h : History) : Type 0 where
+  pub legal : IsLegalWith most h
   pub distinct : IsDistinct name_eq (names c)
   pub each : (n : Name) → MatchOption (record_of c n) (¬ (IsHeld h n)) (IsRecord h n)
+
+-- the records of a feed, and how many it may have at most
+pub record Recorded : Type 0 where
+  pub most : ℕ
+  pub content : Content
+
+-- these records, of a feed that may have this many
+abbrev pub within : ℕ → Content → Recorded
+within most c = record { most = most; content = c }
+
+-- the feed may have this history
+abbrev pub IsContent : Recorded → History → Type 0
+IsContent r h = IsContentWithin r.most r.content h

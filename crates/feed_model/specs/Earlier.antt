@@ -4,13 +4,17 @@ use Rattle.std.specs.List.{IsDistinct}
 use Rattle.feed_names.specs.ReleaseName.{Name, name_eq}
 use Rattle.feed_model.specs.declared.reply.Refusal.TheVariants.{TooLarge}
 use Rattle.feed_model.specs.History.{Event, Offered, Answer, History, size_of, kept, IsFile, IsHeld}
-use Rattle.feed_model.specs.Reply.{IsLegalWithin}
+use Rattle.feed_model.specs.Reply.{Limits, IsLegalWithin, max_held}
 use Rattle.feed_model.specs.Content.{Record, Content, names, record_of, byte_in, AreParts, IsState}
 use Rattle.feed_model.specs.Sound.{Explains}
 
 -- the most bytes that a file could have: 64 MiB
 abbrev pub earlier_limit : ℕ
 earlier_limit = 67108864
+
+-- the limits of a feed by those rules
+abbrev pub earlier_limits : Limits
+earlier_limits = record { file = earlier_limit; held = max_held }
 
 -- the record had what the history has of the release; its reason is unspecified
 pub record IsEarlierRecord (h : History) (n : Name) (r : Record) : Type 0 where
@@ -20,9 +24,9 @@ pub record IsEarlierRecord (h : History) (n : Name) (r : Record) : Type 0 where
   pub parts : AreParts r.parts
   pub state : IsState h n r.state
 
--- exactly the releases that were held had a record, in a history that was legal under that limit
+-- exactly the releases that were held had a record, in a history that was legal within those limits
 pub record IsEarlierContent (c : Content) (h : History) : Type 0 where
-  pub legal : IsLegalWithin earlier_limit h
+  pub legal : IsLegalWithin earlier_limits h
   pub distinct : IsDistinct name_eq (names c)
   pub each : (n : Name) → MatchOption (record_of c n) (¬ (IsHeld h n)) (IsEarlierRecord h n)
 

@@ -9,3 +9,4 @@ pub mod Handles
 pub mod Sound
 pub mod Texts
 pub mod Earlier
+pub mod Larger

@@ -24,7 +24,7 @@ OrRefused answer right = right ⊎ ((answer ≡ Err refusals.Memory) ⊎ (answer
 abbrev pub Commits : Answer → Reply → Type 0
 Commits answer reply = OrRefused answer (answer ≡ Ok reply)
 
--- the most bytes that a file may have, and a piece, and the most releases that a feed records
+-- the most bytes that a file may have, and a piece, and the most releases that a feed records unless it has room for more
 abbrev pub max_file : ℕ
 max_file = file_limit
 
@@ -67,15 +67,24 @@ Stores h n first bytes answer = OrRefused answer ((size : ℕ) × (size_of h n �
     (answer ≡ Ok (replies.Stored (missing_below (kept_with h n first bytes) size)))
     ((text : List ℕ) × (length text ≡ size) × ((place : ℕ) → place < size → kept_with h n first bytes place ≡ slice_get text place) × (answer ≡ Ok (verdict (fault_of text)))))
 
--- the answer is right after this history, if a file may have at most this many bytes: the first case that holds decides
-abbrev pub IsRightWithin : ℕ → History → Event → Answer → Type 0
-IsRightWithin most h (Offered n size) answer =
-    Case (most < size) (answer ≡ Err refusals.TooLarge)
+-- the limits of a feed: the most bytes of a file, and the most releases that it holds
+pub record Limits : Type 0 where
+  pub file : ℕ
+  pub held : ℕ
+
+-- the limits of a feed of this version that holds at most this many releases
+abbrev pub limits_of : ℕ → Limits
+limits_of most = record { file = max_file; held = most }
+
+-- the answer is right after this history, within these limits: the first case that holds decides
+abbrev pub IsRightWithin : Limits → History → Event → Answer → Type 0
+IsRightWithin limits h (Offered n size) answer =
+    Case (limits.file < size) (answer ≡ Err refusals.TooLarge)
     (Case (IsPassed h n) (answer ≡ Ok replies.Older)
     (Case (IsHeld h n) (Case (size_of h n ≡ Some size) (answer ≡ Ok replies.Known) (answer ≡ Err refusals.WrongSize))
-    (Case (HoldsNumber h max_held) (answer ≡ Err refusals.Full)
+    (Case (HoldsNumber h limits.held) (answer ≡ Err refusals.Full)
     (Case (size ≡ 0) (Commits answer (replies.Broken NoHeader)) (Commits answer replies.Noted)))))
-IsRightWithin most h (Piece n first total bytes) answer =
+IsRightWithin limits h (Piece n first total bytes) answer =
     Case ((length bytes ≡ 0) ⊎ (max_piece < length bytes)) (answer ≡ Err refusals.BadPiece)
     (Case (IsPassed h n) (answer ≡ Ok replies.Older)
     (Case (¬ (IsHeld h n)) (answer ≡ Err refusals.Unknown)
@@ -84,20 +93,28 @@ IsRightWithin most h (Piece n first total bytes) answer =
     (Case (Differs h n first bytes) (answer ≡ Err refusals.Conflict)
     (Case (IsKept h n first bytes) (answer ≡ Ok replies.Repeated)
     (Stores h n first bytes answer)))))))
-IsRightWithin most h (Lost n) answer = answer ≡ Ok replies.Nothing
+IsRightWithin limits h (Lost n) answer = answer ≡ Ok replies.Nothing
 
--- the answer is right after this history
+-- the answer is right after this history, for a feed that holds at most this many releases
+abbrev pub IsRightWith : ℕ → History → Event → Answer → Type 0
+IsRightWith most h event answer = IsRightWithin (limits_of most) h event answer
+
+-- the same for a feed that holds at most 256 releases
 abbrev pub IsRight : History → Event → Answer → Type 0
-IsRight h event answer = IsRightWithin max_file h event answer
+IsRight h event answer = IsRightWith max_held h event answer
 
 -- each answer is right after the events and answers before it
-abbrev pub IsLegalWithin : ℕ → History → Type 0
-IsLegalWithin most [] = Unit {0}
-IsLegalWithin most ((event, answer) ∷ h) = IsRightWithin most h event answer × IsLegalWithin most h
+abbrev pub IsLegalWithin : Limits → History → Type 0
+IsLegalWithin limits [] = Unit {0}
+IsLegalWithin limits ((event, answer) ∷ h) = IsRightWithin limits h event answer × IsLegalWithin limits h
 
--- the same with the limit of this version
+-- the same for a feed that holds at most this many releases
+abbrev pub IsLegalWith : ℕ → History → Type 0
+IsLegalWith most h = IsLegalWithin (limits_of most) h
+
+-- the same for a feed that holds at most 256 releases
 abbrev pub IsLegal : History → Type 0
-IsLegal h = IsLegalWithin max_file h
+IsLegal h = IsLegalWith max_held h
 
 -- the history continued by these events and answers, in order
 abbrev pub history_after : History → List Event → List Answer → History

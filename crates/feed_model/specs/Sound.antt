@@ -6,8 +6,8 @@ use Rattle.feed_kbart.specs.declared.fault.BadFile.{BadFile}
 use Rattle.feed_model.specs.declared.state.State.{State}
 use Rattle.feed_model.specs.declared.state.State.TheVariants.{Staged, Broken, Active}
 use Rattle.feed_model.specs.File.{fault_of}
-use Rattle.feed_model.specs.Reply.{max_file, max_held, missing_below}
-use Rattle.feed_model.specs.Content.{Part, Record, Content, names, byte_in, end_of, IsText, AreParts}
+use Rattle.feed_model.specs.Reply.{max_file, missing_below}
+use Rattle.feed_model.specs.Content.{Part, Record, Recorded, names, byte_in, end_of, IsText, AreParts}
 use Rattle.feed_model.specs.Handles.{HasLaterActive}
 
 -- the parts match the state: a staged release misses a place; a broken one has a complete, bad file; an active one has
@@ -31,10 +31,10 @@ pub record IsSoundRecord (r : Record) : Type 0 where
   pub state : IsStateOf r.state r.size r.parts
   pub reason : Explains r.state r.size r.parts r.reason
 
--- each name has one record, at most as many as a feed may have; none is of an earlier day than an active one of its
--- package, so each package has at most one active. Every content of a history is sound
-pub record IsSound (c : Content) : Type 0 where
-  pub distinct : IsDistinct name_eq (names c)
-  pub few : length c ≤ max_held
-  pub each : All IsSoundRecord c
-  pub current : All (λ r. ¬ (HasLaterActive c r.name)) c
+-- each name has one record, at most as many as the feed may have; none is of an earlier day than an active one of its
+-- package, so each package has at most one active. The records of a feed are sound, whatever its history
+pub record IsSound (c : Recorded) : Type 0 where
+  pub distinct : IsDistinct name_eq (names c.content)
+  pub few : length c.content ≤ c.most
+  pub each : All IsSoundRecord c.content
+  pub current : All (λ r. ¬ (HasLaterActive c.content r.name)) c.content

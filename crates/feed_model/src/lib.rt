@@ -7,6 +7,6 @@ mod reply;
 mod state;
 
 pub use keep_fault::KeepFault;
-pub use laws::{contents_move, releases_stay, reports_stay};
+pub use laws::{contents_move, contents_move_up, histories_move_up, releases_stay, reports_stay};
 pub use reply::{Refusal, Reply};
 pub use state::State;
