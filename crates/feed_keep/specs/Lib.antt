@@ -8,3 +8,4 @@ pub mod Arranged
 pub mod InMemory
 pub mod BadFile
 pub mod CheckOrder
+pub mod Capacity

@@ -1,9 +1,10 @@
-//! The trait `Keep`: what a feed requires of the storage of its records.
+//! The traits `Keep`, what a feed requires of the storage of its records, and `Capacity`, how many it has room for.
 ghost use Rattle.std.specs.Prelude.{◌≡◌, ℕ, Err, IfOk, OnOk, OnErr, IsErrOf};
 ghost use Rattle.std.specs.List.{IsDistinct};
 ghost use Rattle.feed_names.specs.ReleaseName.{name_eq};
 ghost use Rattle.feed_model.specs.Content.{Content, names};
-ghost use Rattle.feed_model.specs.Change.{after, IsAllowed};
+ghost use Rattle.feed_model.specs.Change.{after, IsAllowedWithin};
+ghost use Rattle.feed_keep.specs.Capacity.{capacity_with};
 ghost use Rattle.feed_keep.specs.Shown.{shown, shown_change};
 ghost use Rattle.feed_keep.specs.Order.{IsInOrder};
 ghost use Rattle.feed_keep.specs.Cause.{IsCounted};
@@ -65,6 +66,9 @@ pub trait Keep: Drop {
     /// The number of calls of `load` so far. It saturates at its greatest value.
     ghost loads: { Self → ℕ };
 
+    /// How many records it has room for beside the 256 of every store: none, unless an implementation says so.
+    ghost more: { ℕ } = { 0 };
+
     /// Returns the number of device failures so far. It saturates at its greatest value.
     fn failures(&self) -> u64
         ensures { result ≡ failed self.now };
@@ -87,7 +91,8 @@ pub trait Keep: Drop {
     /// holds one afterwards, and the error is never `Damaged`.
     fn commit(&mut self, change: &Change<'_>) -> Result<(), KeepFault>
         requires listed { clean self.old → ∥ listed self.old ∥₁ }
-        requires allowed { clean self.old → IsAllowed (shown_change change.now) (content self.old) }
+        requires allowed { clean self.old
+            → IsAllowedWithin (capacity_with more) (shown_change change.now) (content self.old) }
         ensures made { OnOk result (clean self.new → content self.new
             ≡ after (shown_change change.now) (content self.old)) }
         ensures refused { OnErr result (clean self.new → content self.new ≡ content self.old) }
@@ -97,3 +102,13 @@ pub trait Keep: Drop {
         ensures unloaded { loads self.new ≡ loads self.old }
         ensures device { IsCounted (result ≡ Err KeepFault.Device) (failed self.old) (failed self.new) };
 }
+
+/// A store that says how many records it has room for. `Feed::open_to_capacity` opens a feed that has as many.
+pub trait Capacity: Keep {
+    /// Returns the most records that the store has room for, which are 256 or more.
+    fn capacity(&self) -> usize
+        ensures { result ≡ capacity_with Self.more };
+}
+
+/// The most records of a large store.
+pub const LARGE_CAPACITY: usize = 4_096;

@@ -9,7 +9,7 @@ mod record;
 mod record_checks;
 
 pub use bad_file::bad_of;
-pub use keep::{Change, Keep};
+pub use keep::{Capacity, Change, Keep, LARGE_CAPACITY};
 pub use list_keep::{ListKeep, is_earlier, is_listed_before};
 pub use record::Record;
 pub use record_checks::{are_names_ascending, are_places_ascending, sort_distinct};

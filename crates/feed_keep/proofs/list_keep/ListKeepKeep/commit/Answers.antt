@@ -36,7 +36,7 @@ returns-in-Ok-clause-made c = λ _.
 pub returns-in-Ok-clause-listed : goal.returns-in-Ok-clause-listed
 returns-in-Ok-clause-listed c = λ _. ∥∥₁_map (c.requires.listed tt) (λ (distinct : IsListed c.args.self.now).
     subst (λ (kept : Content). IsDistinct name_eq (names kept)) (sym (returns-in-Ok-clause-made c tt))
-    (distinct_after (shown_change c.args.change.now) (content_of_list c.args.self.now) (c.requires.allowed tt) distinct))
+    (distinct_after _ (shown_change c.args.change.now) (content_of_list c.args.self.now) (c.requires.allowed tt) distinct))
 
 pub invariant_of-self : goal.invariant_of-self
 invariant_of-self c = record {
