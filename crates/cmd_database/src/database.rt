@@ -1,13 +1,13 @@
 //! The database of a node, and how its feed is opened and closed.
 use feed_console::{Console, FAILED, REFUSED};
-use feed_keep::Keep;
+use feed_keep::Capacity;
 use feed_model::KeepFault;
 use feed_releases::{AnswerFault, Feed, Opening};
 use std::io::Write;
 
 /// A place that has the records of a node from one run to the next.
 pub trait Database {
-    type Keeper: Keep;
+    type Keeper: Capacity;
 
     /// Returns what a fault calls it.
     fn name(&self) -> &str;
@@ -37,14 +37,14 @@ pub enum DatabaseFault {
     Linked,
 }
 
-/// Opens the feed on what a database holds. A fault is reported: `NotOurs` and `Damaged` give status 1, `Memory` and
-/// `Device` 3.
+/// Opens the feed on what a database holds, with the room that its keeper has. A fault is reported: `NotOurs` and
+/// `Damaged` give status 1, `Memory` and `Device` 3.
 pub fn open_feed<D: Database, O: Write, F: Write + Drop>(
     database: &D,
     console: &mut Console<'_, O, F>,
 ) -> Result<Feed<D::Keeper>, u8> {
     let keeper = open_keeper(database, console)?;
-    match Feed::open(console.rt.alloc(), keeper) {
+    match Feed::open_to_capacity(console.rt.alloc(), keeper) {
         Ok(feed) => Ok(feed),
         Err(fault) => Err(report_keeper(fault.cause, database.name(), console)),
     }
@@ -57,7 +57,7 @@ pub fn begin_feed<D: Database, O: Write, F: Write + Drop>(
     console: &mut Console<'_, O, F>,
 ) -> Result<Opening<D::Keeper>, u8> {
     let keeper = open_keeper(database, console)?;
-    match Opening::begin(console.rt.alloc(), keeper) {
+    match Opening::begin_to_capacity(console.rt.alloc(), keeper) {
         Ok(opening) => Ok(opening),
         Err(fault) => Err(report_keeper(fault.cause, database.name(), console)),
     }

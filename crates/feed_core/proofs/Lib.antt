@@ -6,3 +6,4 @@ mod Asked
 mod WorldSteps
 mod Counts
 mod Wrong
+mod Handled

@@ -5,7 +5,8 @@ use Rattle.std.specs.Option.{option_map_or}
 use Rattle.std.proofs.lemmas.List.{append-nil, length-append}
 use Rattle.std.proofs.Math.Seq.{append_snoc}
 use Rattle.feed_model.specs.History.{History}
-use Rattle.feed_model.specs.Content.{Content, IsContent}
+use Rattle.feed_model.specs.Content.{Content, IsContent, within}
+use Rattle.feed_model.specs.Reply.{max_held}
 use Rattle.feed_world.specs.World.{World, Node, WorldEvent, Line, Shelf, Happens}
 use Rattle.feed_core.specs.Chosen.{node_of}
 use Rattle.feed_core.specs.declared.node.Node.{Ghosts}
@@ -83,7 +84,7 @@ done_at {S} law all rest more made s so is =
 
 -- a keeper was clean in its node if it is, and holds a list of records, which is a content of the node's history
 abbrev pub IsKeptOf : {M K : Type 0} → (M → Type 0) → (M → Bool → History → Type 0) → (K → Type 0) → (K → Content) → (K → Type 0) → M → K → Type 0
-IsKeptOf node_clean has_state clean content listed s k = (clean k → node_clean s) × (clean k → (up : Bool) (h : History) → has_state s up h → IsContent (content k) h × ∥ listed k ∥₁)
+IsKeptOf node_clean has_state clean content listed s k = (clean k → node_clean s) × (clean k → (up : Bool) (h : History) → has_state s up h → IsContent (within max_held (content k)) h × ∥ listed k ∥₁)
 
 pub kept_clean : {M K : Type 0} (chosen : ℕ → Bool) (node_clean : M → Type 0) (has_state : M → Bool → History → Type 0) (clean : K → Type 0) (content : K → Content) (listed : K → Type 0)
     (ss : List M) (ks : List K) → AreOf (IsKeptOf node_clean has_state clean content listed) ss ks → AllClean chosen clean ks → AllClean chosen node_clean ss

@@ -8,7 +8,8 @@ use Rattle.std.specs.Ordering.{nat_cmp}
 use Rattle.std.specs.Cmp.Lexicographic.{slice_cmp}
 use Rattle.feed_names.specs.ReleaseName.{Name, IsName}
 use Rattle.feed_model.specs.History.{History}
-use Rattle.feed_model.specs.Content.{Content, IsContent}
+use Rattle.feed_model.specs.Content.{Content, IsContent, within}
+use Rattle.feed_model.specs.Reply.{max_held}
 use Rattle.feed_keep.specs.Cause.{HasFailed}
 use Rattle.feed_keep.specs.declared.keep.Keep as keep
 use Rattle.feed_core.specs.declared.node.Node.{Ghosts}
@@ -139,7 +140,7 @@ HasShown chosen ghosts count events lines now =
 -- each chosen keeper holds a list of records, which is a content of the history of the world's node
 abbrev pub AreKept : {K : Type 0} → (ℕ → Bool) → (K → Content) → (K → Type 0) → List K → List Node → Type 0
 AreKept chosen content listed [] [] = Unit {0}
-AreKept chosen content listed (k ∷ ks) (y ∷ ys) = (IsTrue (chosen 1) → IsContent (content k) y.history × ∥ listed k ∥₁) × AreKept (rest_of chosen) content listed ks ys
+AreKept chosen content listed (k ∷ ks) (y ∷ ys) = (IsTrue (chosen 1) → IsContent (within max_held (content k)) y.history × ∥ listed k ∥₁) × AreKept (rest_of chosen) content listed ks ys
 AreKept chosen content listed [] (y ∷ ys) = ⊥
 AreKept chosen content listed (k ∷ ks) [] = ⊥
 

@@ -1,7 +1,8 @@
 //! A node over a keeper: a feed while it is up, or only its keeper while it is down.
 ghost use Rattle.std.specs.Prelude.{◌≡◌, ◌≢◌, ◌≤◌, Bool, true, [], Err, IfOk, IfErr};
 ghost use Rattle.feed_model.specs.History.{History};
-ghost use Rattle.feed_model.specs.Content.{IsContent};
+ghost use Rattle.feed_model.specs.Content.{IsContent, within};
+ghost use Rattle.feed_model.specs.Reply.{max_held};
 ghost use Rattle.feed_keep.specs.Cause.{HasFailed, IsCounted};
 ghost use Rattle.feed_keep.specs.Loads.{one_more};
 ghost use Rattle.feed_releases.specs.Feeds.{recorded};
@@ -65,7 +66,7 @@ impl<K: Keep> NodeSlot<K> {
     pub fn into_keeper(self) -> K
         ensures clean { K.clean result → IsSlotClean K.clean self }
         ensures content { K.clean result → (up : Bool) (h : History) → HasSlotState K.content K.listed self up h
-            → IsContent (K.content result) h × ∥ K.listed result ∥₁ }
+            → IsContent (within max_held (K.content result)) h × ∥ K.listed result ∥₁ }
         ensures failed { K.failed result ≡ slot_count K.failed self }
         ensures unloaded { K.loads result ≡ slot_count K.loads self }
     {
@@ -79,7 +80,7 @@ impl<K: Keep> NodeSlot<K> {
 // Opens a keeper, and returns why the node is down if this fails.
 fn open_slot<K: Keep>(alloc: Global, keeper: K) -> (NodeSlot<K>, Result<(), KeepFault>)
     ensures clean { IsSlotClean K.clean result.0 → K.clean keeper }
-    ensures same { (h : History) → IsSlotClean K.clean result.0 → IsContent (K.content keeper) h
+    ensures same { (h : History) → IsSlotClean K.clean result.0 → IsContent (within max_held (K.content keeper)) h
         → ∥ K.listed keeper ∥₁ → IsReopened (HasSlotState K.content K.listed result.0) h result.1 }
     ensures device { IsCounted (result.1 ≡ Err KeepFault.Device) (K.failed keeper) (slot_count K.failed result.0) }
     ensures loaded { slot_count K.loads result.0 ≡ one_more (K.loads keeper) }

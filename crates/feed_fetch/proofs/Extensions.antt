@@ -12,8 +12,8 @@ use Rattle.feed_model.specs.declared.reply.Refusal.TheVariants as refusals
 use Rattle.feed_kbart.specs.declared.fault.BadFile.{BadFile}
 use Rattle.feed_model.specs.declared.reply.Reply.{Reply}
 use Rattle.feed_model.specs.History.{Event, Offered, Piece, Lost, History, Answer, is_noted, is_taken, IsPassed}
-use Rattle.feed_model.specs.Reply.{IsRight, verdict}
-use Rattle.feed_model.specs.Content.{Content, IsContent}
+use Rattle.feed_model.specs.Reply.{IsRight, IsRightWith, verdict}
+use Rattle.feed_model.specs.Content.{Recorded, IsContent}
 use Rattle.feed_model.proofs.Goods.{IsStill, goods_still, passed_same}
 use Rattle.feed_dial.specs.declared.DialFault.{DialFault}
 use Rattle.feed_http_heads.specs.declared.http_fault.HttpFault.{HttpFault}
@@ -31,18 +31,18 @@ still_idle h (Piece m f t b) a noted taken = record { size = λ n. refl; bytes =
 still_idle h (Lost m) a noted taken = record { size = λ n. refl; bytes = λ n place. refl }
 
 -- what is answered older is passed
-passed_offer : (h : History) (n : Name) (s : ℕ) → IsRight h (Offered n s) (Ok replies.Older) → IsPassed h n
-passed_offer h n s (inl x) = absurd (let e = x.1 in cc)
-passed_offer h n s (inr (x, inl y)) = y.0
-passed_offer h n s (inr (x, inr (y, inl (z, inl w)))) = absurd (let e = w.1 in cc)
-passed_offer h n s (inr (x, inr (y, inl (z, inr w)))) = absurd (let e = w.1 in cc)
-passed_offer h n s (inr (x, inr (y, inr (z, inl w)))) = absurd (let e = w.1 in cc)
-passed_offer h n s (inr (x, inr (y, inr (z, inr (w, inl (v, inl e)))))) = absurd (cc)
-passed_offer h n s (inr (x, inr (y, inr (z, inr (w, inl (v, inr (inl e))))))) = absurd (cc)
-passed_offer h n s (inr (x, inr (y, inr (z, inr (w, inl (v, inr (inr e))))))) = absurd (cc)
-passed_offer h n s (inr (x, inr (y, inr (z, inr (w, inr (v, inl e)))))) = absurd (cc)
-passed_offer h n s (inr (x, inr (y, inr (z, inr (w, inr (v, inr (inl e))))))) = absurd (cc)
-passed_offer h n s (inr (x, inr (y, inr (z, inr (w, inr (v, inr (inr e))))))) = absurd (cc)
+passed_offer : (most : ℕ) (h : History) (n : Name) (s : ℕ) → IsRightWith most h (Offered n s) (Ok replies.Older) → IsPassed h n
+passed_offer most h n s (inl x) = absurd (let e = x.1 in cc)
+passed_offer most h n s (inr (x, inl y)) = y.0
+passed_offer most h n s (inr (x, inr (y, inl (z, inl w)))) = absurd (let e = w.1 in cc)
+passed_offer most h n s (inr (x, inr (y, inl (z, inr w)))) = absurd (let e = w.1 in cc)
+passed_offer most h n s (inr (x, inr (y, inr (z, inl w)))) = absurd (let e = w.1 in cc)
+passed_offer most h n s (inr (x, inr (y, inr (z, inr (w, inl (v, inl e)))))) = absurd (cc)
+passed_offer most h n s (inr (x, inr (y, inr (z, inr (w, inl (v, inr (inl e))))))) = absurd (cc)
+passed_offer most h n s (inr (x, inr (y, inr (z, inr (w, inl (v, inr (inr e))))))) = absurd (cc)
+passed_offer most h n s (inr (x, inr (y, inr (z, inr (w, inr (v, inl e)))))) = absurd (cc)
+passed_offer most h n s (inr (x, inr (y, inr (z, inr (w, inr (v, inr (inl e))))))) = absurd (cc)
+passed_offer most h n s (inr (x, inr (y, inr (z, inr (w, inr (v, inr (inr e))))))) = absurd (cc)
 
 verdict_not_older : (o : Option BadFile) (a : Answer) → a ≡ Ok replies.Older → a ≡ Ok (verdict o) → ⊥
 verdict_not_older None a e f = cc
@@ -103,15 +103,15 @@ pub older_piece : (h : History) (n : Name) (f : ℕ) (t : Option ℕ) (b : List 
 older_piece h n f t b a right e =
     subst (λ (x : Answer). IsPassed ((Piece n f t b, x) ∷ h) n) (sym e) (passed_after h (Piece n f t b) n (passed_piece h n f t b (subst (λ (x : Answer). IsRight h (Piece n f t b) x) e right)))
 
-pub older_offer : (h : History) (n : Name) (s : ℕ) (a : Answer) → IsRight h (Offered n s) a → a ≡ Ok replies.Older → IsPassed ((Offered n s, a) ∷ h) n
-older_offer h n s a right e =
-    subst (λ (x : Answer). IsPassed ((Offered n s, x) ∷ h) n) (sym e) (passed_after h (Offered n s) n (passed_offer h n s (subst (λ (x : Answer). IsRight h (Offered n s) x) e right)))
+pub older_offer : (most : ℕ) (h : History) (n : Name) (s : ℕ) (a : Answer) → IsRightWith most h (Offered n s) a → a ≡ Ok replies.Older → IsPassed ((Offered n s, a) ∷ h) n
+older_offer most h n s a right e =
+    subst (λ (x : Answer). IsPassed ((Offered n s, x) ∷ h) n) (sym e) (passed_after h (Offered n s) n (passed_offer most h n s (subst (λ (x : Answer). IsRightWith most h (Offered n s) x) e right)))
 
 abbrev pub one_event : Event → Answer → History
 one_event e a = (e, a) ∷ []
 
 -- one piece, as a response gave it
-pub taken_piece : (c c' : Content) (n : Name) (given : Got) (first : ℕ) (total : Option ℕ) (bytes : List ℕ) (result : Result Bool Stop)
+pub taken_piece : (c c' : Recorded) (n : Name) (given : Got) (first : ℕ) (total : Option ℕ) (bytes : List ℕ) (result : Result Bool Stop)
     → IsPieceOf given first total bytes
     → HasRightAnswer (λ answer. (result ≡ piece_result (response_or_stop answer)) ⊎ (result ≡ Err stops.Print)) c (Piece n first total bytes) c'
     → IsExtension (IsTakenFrom n given) (λ k. IfErr result (λ stop. IsStoppedAt n stop k)) c c'
@@ -124,7 +124,7 @@ taken_piece c c' n given first total bytes result of answered h is =
     )
 
 -- a loss is reported to the feed, and the request is the reason for the stop, or the output failed
-pub lost_stops : (c c' : Content) (n : Name) (why : RequestFault) (fault : HttpFault) (result : Result Reply Stop) (stop : Stop) → why ≡ Http fault
+pub lost_stops : (c c' : Recorded) (n : Name) (why : RequestFault) (fault : HttpFault) (result : Result Reply Stop) (stop : Stop) → why ≡ Http fault
     → MatchResult result (λ reply. stop ≡ stops.Request why) (λ unprinted. stop ≡ unprinted)
     → HasRightAnswer (λ answer. (result ≡ response_or_stop answer) ⊎ (result ≡ Err stops.Print)) c (Lost n) c'
     → (h : History) → IsContent c h
@@ -143,20 +143,20 @@ lost_stops c c' n why fault result stop is_http so answered h is = let t = answe
     by a (Err unprinted) nothing (inl same) e = absurd (let f : Err unprinted ≡ response_or_stop (Ok replies.Nothing) = same ∙ ap response_or_stop nothing in cc)
     by a (Err unprinted) nothing (inr same) e = (let f : unprinted ≡ stops.Print = cc in (inr (e ∙ f), subst (λ (s : Stop). IsStoppedAt n s ((Lost n, a) ∷ h)) (sym (e ∙ f)) tt))
 
-pub extends_more : (A : Event → Type 0) (P Q : History → Type 0) (c d e : Content) → IsExtension A P c d → IsExtension A Q d e → IsExtension A Q c e
+pub extends_more : (A : Event → Type 0) (P Q : History → Type 0) (c d e : Recorded) → IsExtension A P c d → IsExtension A Q d e → IsExtension A Q c e
 extends_more A P Q c d e first second h is =
     let x = first h is in
     let y = second (x.0 ++ h) x.3 in
     let same : (y.0 ++ x.0) ++ h ≡ y.0 ++ (x.0 ++ h) = append_assoc y.0 x.0 h in
     (y.0 ++ x.0, All-append (λ event. A event.0) y.0 x.0 y.1 x.1, subst Q (sym same) y.2, subst (IsContent e) (sym same) y.3)
 
-pub extends_none : (A : Event → Type 0) (P : History → Type 0) (c : Content) → ((h : History) → P h) → IsExtension A P c c
+pub extends_none : (A : Event → Type 0) (P : History → Type 0) (c : Recorded) → ((h : History) → P h) → IsExtension A P c c
 extends_none A P c all h is = ([], All-nil (λ event. A event.0), all h, is)
 
-pub extends_so : (A B : Event → Type 0) (P Q : History → Type 0) (c d : Content) → ((e : Event) → A e → B e) → ((k : History) → P k → Q k) → IsExtension A P c d → IsExtension B Q c d
+pub extends_so : (A B : Event → Type 0) (P Q : History → Type 0) (c d : Recorded) → ((e : Event) → A e → B e) → ((k : History) → P k → Q k) → IsExtension A P c d → IsExtension B Q c d
 extends_so A B P Q c d more so extends h is = let x = extends h is in (x.0, λ i d lt. more (get_or x.0 i d).0 (x.1 i d lt), so (x.0 ++ h) x.2, x.3)
 
-pub extends_any : (A : Event → Type 0) (P : History → Type 0) (c d : Content) → IsExtension A P c d → IsExtension A (λ k. Unit {0}) c d
+pub extends_any : (A : Event → Type 0) (P : History → Type 0) (c d : Recorded) → IsExtension A P c d → IsExtension A (λ k. Unit {0}) c d
 extends_any A P c d extends h is = let x = extends h is in (x.0, x.1, tt, x.3)
 
 -- a part of at most what is left is within the file
@@ -164,7 +164,7 @@ pub part_within : (first total count most : ℕ) → first ≤ total → count �
 part_within first total count most le is = omega (arith, is, le)
 
 -- a piece is passed to the feed as the response gave it
-pub piece_as_given : (c d : Content) (n : Name) (f g : ℕ) (t u : Option ℕ) (bytes read slice : List ℕ) (r : Result Bool Stop) → got.Piece f t bytes ≡ got.Piece g u read → slice ≡ bytes
+pub piece_as_given : (c d : Recorded) (n : Name) (f g : ℕ) (t u : Option ℕ) (bytes read slice : List ℕ) (r : Result Bool Stop) → got.Piece f t bytes ≡ got.Piece g u read → slice ≡ bytes
     → HasRightAnswer (λ answer. (r ≡ piece_result (response_or_stop answer)) ⊎ (r ≡ Err stops.Print)) c (Piece n f t slice) d
     → HasRightAnswer (λ answer. (r ≡ piece_result (response_or_stop answer)) ⊎ (r ≡ Err stops.Print)) c (Piece n g u read) d
 piece_as_given c d n f g t u bytes read slice r same is answered =
@@ -172,7 +172,7 @@ piece_as_given c d n f g t u bytes read slice r same is answered =
     subst (λ (e : Event). HasRightAnswer (λ answer. (r ≡ piece_result (response_or_stop answer)) ⊎ (r ≡ Err stops.Print)) c e d) event answered
 
 -- the status of a fetch that found nothing missing
-pub ends_done : (A : Event → Type 0) (n : Name) (c d : Content) (status : ℕ) (unprinted : Bool) (refused : Option DialFault)
+pub ends_done : (A : Event → Type 0) (n : Name) (c d : Recorded) (status : ℕ) (unprinted : Bool) (refused : Option DialFault)
     → ((k : History) → IsContent d k → IsStatusAfter n (Ok tt) status k)
     → IsExtension A (λ k. Unit {0}) c d → IsExtension A (EndsWithStatus n status unprinted refused) c d
 ends_done A n c d status unprinted refused is extends h at = let x = extends h at in (x.0, x.1, (current (x.0 ++ h) (is (x.0 ++ h) x.3).1, (Ok tt, tt, is (x.0 ++ h) x.3)), x.3)
@@ -244,7 +244,7 @@ excused_status (stops.Request (Http http.Shelf)) is = absurd is
 excused_status (stops.Request (Http http.Short)) is = absurd is
 
 -- the status of a stop
-pub ends_stopped : (A : Event → Type 0) (n : Name) (c d : Content) (stop : Stop) (status : ℕ) (unprinted : Bool) (refused : Option DialFault)
+pub ends_stopped : (A : Event → Type 0) (n : Name) (c d : Recorded) (stop : Stop) (status : ℕ) (unprinted : Bool) (refused : Option DialFault)
     → HasCause unprinted refused stop → status ≡ status_of stop
     → IsExtension A (IsStoppedAt n stop) c d → IsExtension A (EndsWithStatus n status unprinted refused) c d
 ends_stopped A n c d stop status unprinted refused caused is extends h at = let x = extends h at in (x.0, x.1, (current (x.0 ++ h) x.2, (Err stop, (x.2, caused), is)), x.3)
@@ -253,7 +253,7 @@ ends_stopped A n c d stop status unprinted refused caused is extends h at = let 
     current k at zero = inr (subst (λ (s : Stop). IsStoppedAt n s k) (older_status stop (sym is ∙ zero)) at)
 
 -- a print that failed ends a fetch with its own status
-pub ends_unprinted : (A : Event → Type 0) (n : Name) (c d : Content) (P : History → Type 0) (status : ℕ) (unprinted : Bool) (refused : Option DialFault)
+pub ends_unprinted : (A : Event → Type 0) (n : Name) (c d : Recorded) (P : History → Type 0) (status : ℕ) (unprinted : Bool) (refused : Option DialFault)
     → IsTrue unprinted → status ≡ 3
     → IsExtension A P c d → IsExtension A (EndsWithStatus n status unprinted refused) c d
 ends_unprinted A n c d P status unprinted refused failed is extends =
@@ -280,12 +280,12 @@ caused_more u v refused stops.Unsatisfied more is = tt
 caused_more u v refused stops.NoProgress more is = tt
 
 -- output that was not flushed ends a fetch
-pub ends_unflushed : (A : Event → Type 0) (n : Name) (c d : Content) (P : History → Type 0) (out faults : Bool) (refused : Option DialFault)
+pub ends_unflushed : (A : Event → Type 0) (n : Name) (c d : Recorded) (P : History → Type 0) (out faults : Bool) (refused : Option DialFault)
     → IsTrue out → IsExtension A P c d → IsExtension A (EndsWithStatus n 3 (out || faults) refused) c d
 ends_unflushed A n c d P out faults refused failed extends = ends_unprinted A n c d P 3 (out || faults) refused (failed_first out faults failed) refl extends
 
 -- a stop whose fault is printed, or not
-pub ends_told : (A : Event → Type 0) (n : Name) (c d : Content) (stop : Stop) (status : ℕ) (out flushed faults : Bool) (refused : Option DialFault)
+pub ends_told : (A : Event → Type 0) (n : Name) (c d : Recorded) (stop : Stop) (status : ℕ) (out flushed faults : Bool) (refused : Option DialFault)
     → HasCause out refused stop → flushed ≡ out → (status ≡ status_of stop) ⊎ ((status ≡ 3) × IsTrue faults)
     → IsExtension A (IsStoppedAt n stop) c d → IsExtension A (EndsWithStatus n status (flushed || faults) refused) c d
 ends_told A n c d stop status out flushed faults refused caused same (inl is) extends =

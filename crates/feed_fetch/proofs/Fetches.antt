@@ -21,7 +21,7 @@ use Rattle.feed_model.proofs.Names.{day_cases}
 use Rattle.std.proofs.lemmas.Int.{ints}
 use Rattle.feed_model.specs.Reply.{max_piece}
 use Rattle.feed_limits.specs.Limits.{file_limit}
-use Rattle.feed_model.specs.Content.{Content, IsContent}
+use Rattle.feed_model.specs.Content.{Recorded, IsContent}
 use Rattle.feed_releases.specs.NextRange.{IsNextRange}
 use Rattle.feed_fetch.specs.declared.stop.RequestFault.{RequestFault}
 use Rattle.feed_fetch.specs.declared.stop.RequestFault.TheVariants.{Dial, Http}
@@ -97,7 +97,7 @@ asked_places (Known IsResponseTo) host n file first last result (files, server, 
     law.3 read)
 
 -- the offer of the file
-pub size_opens : (c d : Content) (n : Name) (size : ℕ) (file : List ℕ) (r : Result (Unit {0}) Stop) → IsFetchable file → size ≡ length file
+pub size_opens : (c d : Recorded) (n : Name) (size : ℕ) (file : List ℕ) (r : Result (Unit {0}) Stop) → IsFetchable file → size ≡ length file
     → HasRightAnswer (λ answer. (r ≡ offer_result (response_or_stop answer)) ⊎ (r ≡ Err stops.Print)) c (Offered n size) d
     → IsOpened n file r c d
 size_opens c d n size file r fit is answered h at ready =
@@ -118,7 +118,7 @@ abbrev pub IsFilledBy : Name → List ℕ → ℕ → History → History → Ty
 IsFilledBy n file piece h k = IsFilling n file k × (missing_of n file k < missing_of n file h) × (requests_of n file piece h ≡ suc (requests_of n file piece k))
 
 -- the next piece of the file
-pub piece_filled : (c d : Content) (n : Name) (piece first last : ℕ) (file : List ℕ) (taken : Result Bool Stop) → IsFetchable file
+pub piece_filled : (c d : Recorded) (n : Name) (piece first last : ℕ) (file : List ℕ) (taken : Result Bool Stop) → IsFetchable file
     → HasRightAnswer (λ answer. (taken ≡ piece_result (response_or_stop answer)) ⊎ (taken ≡ Err stops.Print)) c (Piece n first (Some (length file)) (slice_range file first (last + 1))) d
     → IsFilled n file piece first last (round_result taken) c d
 piece_filled c d n piece first last file taken fit answered h at asked =
@@ -156,7 +156,7 @@ size_is_event Unknown host n given size is read = (refl, tt)
 size_is_event (Known IsResponseTo) host n given size is read = (refl, subst (λ (g : Got). IsResponded IsResponseTo Head (head_request_text host (text_of n)) (Ok g)) is read)
 
 -- the requests
-pub fill_start : (c d : Content) (n : Name) (file : List ℕ) (piece : ℕ) → IsOpened n file (Ok tt) c d → IsFilledAfter n file piece 0 c d
+pub fill_start : (c d : Recorded) (n : Name) (file : List ℕ) (piece : ℕ) → IsOpened n file (Ok tt) c d → IsFilledAfter n file piece 0 c d
 fill_start c d n file piece opened h at ready =
     let x = opened h at ready in
     let same = needed_same piece (kept x.0 n) (kept h n) (length file) 0 x.1.1 in
@@ -169,7 +169,7 @@ all_fetched h n max least (inr (held, size, of, inl zero)) = absurd (omega (arit
 all_fetched h n max least (inr (held, size, of, inr all)) = inr (held, size, of, inr all)
 
 -- there are at most as many requests as places
-pub fill_counts : (b c : Content) (n : Name) (file : List ℕ) (piece count : ℕ) (result : Result (Unit {0}) Stop) → IsFetchable file → 1 ≤ piece → file_limit < count
+pub fill_counts : (b c : Recorded) (n : Name) (file : List ℕ) (piece count : ℕ) (result : Result (Unit {0}) Stop) → IsFetchable file → 1 ≤ piece → file_limit < count
     → IsFilledAfter n file piece count b c → IsFetched n file result b c
 fill_counts b c n file piece count result fit least most filled h at ready =
     let x = filled h at ready in
@@ -195,7 +195,7 @@ pub reported_current : (h : History) (n : Name) → IsReported n h → ¬ (IsPas
 reported_current h n is p = let latest = p.1.0 in let lt : n.day <ℤ p.0.day = p.2.1 in let le : p.0.day ≤ℤ n.day = is.1.1 p.0 (sym p.2.0) latest in absurd (omega (arith, ints))
 
 -- the file of a feed that got it is good
-pub got_good : (c d : Content) (n : Name) (file : List ℕ) → IsFetchable file → IsFetched n file (Ok tt) c d → (h : History) → IsContent c h → IsOpenTo n file h
+pub got_good : (c d : Recorded) (n : Name) (file : List ℕ) → IsFetchable file → IsFetched n file (Ok tt) c d → (h : History) → IsContent c h → IsOpenTo c.most n file h
     → (k : History) × IsContent d k × (¬ (IsPassed k n)) × IsGood k n
 got_good c d n file fit gets h at ready = let x = gets h at ready in (x.0, x.2, x.1.0.current, (file, x.1.1, fit.good))
 

@@ -10,7 +10,7 @@ use Rattle.feed_model.specs.declared.reply.Reply.TheVariants as replies
 use Rattle.feed_model.specs.declared.reply.Refusal.TheVariants as refusals
 use Rattle.feed_model.specs.File.{fault_of}
 use Rattle.feed_model.specs.History.{Offered, Piece, History, Answer, is_noted, is_taken, or_else, byte_at, size_of, kept, IsFile, IsGood, IsPassed, IsHeld}
-use Rattle.feed_model.specs.Reply.{IsRight, HoldsNumber, kept_with, missing_below, max_piece, max_held}
+use Rattle.feed_model.specs.Reply.{IsRight, IsRightWith, HoldsNumber, kept_with, missing_below, max_piece}
 use Rattle.std.proofs.lemmas.Option.{slice_get_past}
 use Rattle.feed_releases.specs.NextRange.{IsNext, IsNextRange}
 use Rattle.feed_model.proofs.Names.{name_self, name_cases}
@@ -44,7 +44,7 @@ offers_but n s a h = record { size = λ m apart. by m apart (is_noted a) refl; b
     by m apart true e = added_size n m s a h e apart
     by m apart false e = rw e refl
 
-offer_keeps : (h : History) (n : Name) (file : List ℕ) (a : Answer) → IsOpenTo n file h → size_of ((Offered n (length file), a) ∷ h) n ≡ Some (length file)
+offer_keeps : {most : ℕ} (h : History) (n : Name) (file : List ℕ) (a : Answer) → IsOpenTo most n file h → size_of ((Offered n (length file), a) ∷ h) n ≡ Some (length file)
     → IsFilling n file ((Offered n (length file), a) ∷ h)
 offer_keeps h n file a ready size = record { current = λ p. ready.current (passed_back n h ((Offered n (length file), a) ∷ h) (offers_but n (length file) a h) p); size = size; bytes = ready.bytes }
 
@@ -61,16 +61,16 @@ no_bytes [] e good = empty_bad good
 no_bytes (x ∷ xs) e good = absurd (omega arith)
 
 -- what the offer of the file is answered
-pub offer_fills : (h : History) (n : Name) (file : List ℕ) (a : Answer) → IsFetchable file → IsOpenTo n file h → IsRight h (Offered n (length file)) a
+pub offer_fills : {most : ℕ} (h : History) (n : Name) (file : List ℕ) (a : Answer) → IsFetchable file → IsOpenTo most n file h → IsRightWith most h (Offered n (length file)) a
     → (((a ≡ Ok replies.Noted) ⊎ (a ≡ Ok replies.Known)) × IsFilling n file ((Offered n (length file), a) ∷ h)) ⊎ IsRefusedFor a
 offer_fills h n file a fit ready (inl x) = absurd (omega (arith, x.0, fit.small))
 offer_fills h n file a fit ready (inr (x, inl y)) = absurd (ready.current y.0)
 offer_fills h n file a fit ready (inr (x, inr (y, inl (held, inl (e, is))))) =
     inl (inr is, offer_keeps h n file a ready (subst (λ (b : Answer). size_of ((Offered n (length file), b) ∷ h) n ≡ Some (length file)) (sym is) e))
 offer_fills h n file a fit ready (inr (x, inr (y, inl (held, inr (ne, is))))) = absurd (ne (sized (size_of h n) (length file) held.0 ready.size))
-offer_fills h n file a fit ready (inr (x, inr (y, inr (out, inl (full, is))))) = absurd (by ready.room)
+offer_fills {most = most} h n file a fit ready (inr (x, inr (y, inr (out, inl (full, is))))) = absurd (by ready.room)
   where
-    by : IsHeld h n ⊎ (¬ (HoldsNumber h max_held)) → ⊥
+    by : IsHeld h n ⊎ (¬ (HoldsNumber h most)) → ⊥
     by (inl held) = out held
     by (inr room) = room full
 offer_fills h n file a fit ready (inr (x, inr (y, inr (out, inr (room, inl (none, is)))))) = absurd (no_bytes file none fit.good)

@@ -11,7 +11,7 @@ use Rattle.feed_names.specs.ReleaseName.{Name}
 use Rattle.feed_http.specs.declared.fetching.got.Got.{Got}
 use Rattle.feed_http.specs.declared.fetching.got.Got.TheVariants as got
 use Rattle.feed_http_heads.specs.declared.http_fault.HttpFault.{HttpFault}
-use Rattle.feed_model.specs.Content.{Content, IsContent}
+use Rattle.feed_model.specs.Content.{Recorded, IsContent}
 use Rattle.feed_model.specs.Handles.{Handles}
 use Rattle.feed_model.specs.History.{Event, Offered, Piece, Lost, Answer, History}
 use Rattle.feed_model.specs.declared.reply.Reply.{Reply}
@@ -56,16 +56,16 @@ none_owed_at : (n : Name) (all : List ℕ) (first : ℕ) → length all ≤ firs
 none_owed_at n all first le = let outside : nat_lt first (length all) ≡ false = grind (arith, nat_tests) in rw outside refl
 
 -- the pieces of a whole file up to this place were passed
-abbrev pub IsUnderWay : Name → List ℕ → ℕ → Content → Content → Type 0
+abbrev pub IsUnderWay : Name → List ℕ → ℕ → Recorded → Recorded → Type 0
 IsUnderWay n all first c d =
     (h : History) → IsContent c h
     → (steps : History) × AreSteps n phases.Offered (Ok (got.Whole all)) steps × (may_follow steps ≡ true) × (first ≡ end_of steps) × IsContent d (steps ++ h)
 
-pub under_way : (n : Name) (all : List ℕ) (c : Content) → IsUnderWay n all 0 c c
+pub under_way : (n : Name) (all : List ℕ) (c : Recorded) → IsUnderWay n all 0 c c
 under_way n all c h is = ([], tt, refl, refl, is)
 
 -- the next piece
-pub next_piece : (b c d : Content) (n : Name) (all : List ℕ) (first count : ℕ) (answer : Answer) → first < length all → count ≡ min (length all - first) piece_limit
+pub next_piece : (b c d : Recorded) (n : Name) (all : List ℕ) (first count : ℕ) (answer : Answer) → first < length all → count ≡ min (length all - first) piece_limit
     → is_followed answer ≡ true → IsUnderWay n all first b c → Handles c (Piece n first (Some (length all)) (slice_range all first (first + count))) answer d
     → IsUnderWay n all (first + count) b d
 next_piece b c d n all first count answer lt is followed before handled h at =
@@ -118,7 +118,7 @@ answered_so (inl x) = inl x.0
 answered_so (inr y) = inr y
 
 -- the piece that no other follows
-pub last_piece : (b c d : Content) (n : Name) (all : List ℕ) (first count : ℕ) (answer : Answer) (was : Result Bool Stop) (reply : Result Reply Stop) → first < length all
+pub last_piece : (b c d : Recorded) (n : Name) (all : List ℕ) (first count : ℕ) (answer : Answer) (was : Result Bool Stop) (reply : Result Reply Stop) → first < length all
     → count ≡ min (length all - first) piece_limit → is_followed answer ≡ false → IfErr was (λ stop. stop ≡ stops.Print) → (reply ≡ response_or_stop answer) ⊎ (reply ≡ Err stops.Print)
     → IsUnderWay n all first b c → Handles c (Piece n first (Some (length all)) (slice_range all first (first + count))) answer d
     → IsSubmitted n phases.Offered (Ok (got.Whole all)) (StopsAt n (add_news was reply)) b d
@@ -134,14 +134,14 @@ last_piece b c d n all first count answer was reply lt is last print so before h
     )
 
 -- all of them
-pub all_pieces : (b c : Content) (n : Name) (all : List ℕ) (first : ℕ) (was : Result Bool Stop) → length all ≤ first → IfErr was (λ stop. stop ≡ stops.Print) → IsUnderWay n all first b c
+pub all_pieces : (b c : Recorded) (n : Name) (all : List ℕ) (first : ℕ) (was : Result Bool Stop) → length all ≤ first → IfErr was (λ stop. stop ≡ stops.Print) → IsUnderWay n all first b c
     → IsSubmitted n phases.Offered (Ok (got.Whole all)) (StopsAt n was) b c
 all_pieces b c n all first was le print before h at =
     let x = before h at in
     (x.0, (x.1, inl (subst (λ place. piece_at n all place ≡ None) x.3 (none_owed_at n all first le))), print_stop n (x.0 ++ h) was print, x.4)
 
 -- one piece
-pub one_piece : (c d : Content) (n : Name) (first : ℕ) (total : Option ℕ) (bytes : List ℕ) (result : Result Bool Stop)
+pub one_piece : (c d : Recorded) (n : Name) (first : ℕ) (total : Option ℕ) (bytes : List ℕ) (result : Result Bool Stop)
     → HasRightAnswer (λ answer. (result ≡ piece_result (response_or_stop answer)) ⊎ (result ≡ Err stops.Print)) c (Piece n first total bytes) d
     → IsSubmitted n phases.Offered (Ok (got.Piece first total bytes)) (StopsAt n result) c d
 one_piece c d n first total bytes result answered h is =
@@ -153,31 +153,31 @@ one_piece c d n first total bytes result answered h is =
     )
 
 -- the offer
-pub one_offer : (c d : Content) (n : Name) (size : ℕ) (result : Result (Unit {0}) Stop)
+pub one_offer : (c d : Recorded) (n : Name) (size : ℕ) (result : Result (Unit {0}) Stop)
     → HasRightAnswer (λ answer. (result ≡ offer_result (response_or_stop answer)) ⊎ (result ≡ Err stops.Print)) c (Offered n size) d
     → IsSubmitted n phases.New (Ok (got.Size size)) (StopsAt n result) c d
 one_offer c d n size result answered h is =
     let t = answered h is in (
       (Offered n size, t.0) ∷ [],
       ((refl, refl, tt), inl refl),
-      stands_done h n (Offered n size) t.0 result (older_offer h n size t.0 t.1) t.2,
+      stands_done h n (Offered n size) t.0 result (older_offer c.most h n size t.0 t.1) t.2,
       t.3,
     )
 
 -- a response that owes nothing
-pub none_owed : (P : History → Type 0) (n : Name) (phase : Phase) (reply : Result Got RequestFault) (c : Content) → owed_event n phase reply [] ≡ None → ((h : History) → P h)
+pub none_owed : (P : History → Type 0) (n : Name) (phase : Phase) (reply : Result Got RequestFault) (c : Recorded) → owed_event n phase reply [] ≡ None → ((h : History) → P h)
     → IsSubmitted n phase reply P c c
 none_owed P n phase reply c none all h is = ([], (tt, inl none), all h, is)
 
 -- a loss owes its event while the fetch has not stopped
-pub one_loss : (P : History → Type 0) (n : Name) (phase : Phase) (fault : HttpFault) (c d : Content) → (phase ≡ phases.Stopped → ⊥)
+pub one_loss : (P : History → Type 0) (n : Name) (phase : Phase) (fault : HttpFault) (c d : Recorded) → (phase ≡ phases.Stopped → ⊥)
     → ((h : History) → IsContent c h → (answer : Answer) × P ((Lost n, answer) ∷ h) × IsContent d ((Lost n, answer) ∷ h))
     → IsSubmitted n phase (Err (Http fault)) P c d
 one_loss P n phases.New fault c d runs lost h is = let t = lost h is in ((Lost n, t.0) ∷ [], ((refl, refl, tt), inl refl), t.1, t.2)
 one_loss P n phases.Offered fault c d runs lost h is = let t = lost h is in ((Lost n, t.0) ∷ [], ((refl, refl, tt), inl refl), t.1, t.2)
 one_loss P n phases.Stopped fault c d runs lost h is = absurd (runs refl)
 
-pub lost_steps : (c d : Content) (n : Name) (why : RequestFault) (fault : HttpFault) (result : Result Reply Stop) (stop : Stop) (phase : Phase) → why ≡ Http fault
+pub lost_steps : (c d : Recorded) (n : Name) (why : RequestFault) (fault : HttpFault) (result : Result Reply Stop) (stop : Stop) (phase : Phase) → why ≡ Http fault
     → MatchResult result (λ reply. stop ≡ stops.Request why) (λ unprinted. stop ≡ unprinted)
     → HasRightAnswer (λ answer. (result ≡ response_or_stop answer) ⊎ (result ≡ Err stops.Print)) c (Lost n) d → (phase ≡ phases.Stopped → ⊥)
     → IsSubmitted n phase (Err why) (λ k. ((stop ≡ stops.Request why) ⊎ (stop ≡ stops.Print)) × IsStoppedAt n stop k) c d
@@ -186,7 +186,7 @@ lost_steps c d n why fault result stop phase http so answered runs =
     (one_loss (λ k. ((stop ≡ stops.Request why) ⊎ (stop ≡ stops.Print)) × IsStoppedAt n stop k) n phase fault c d runs (lost_stops c d n why fault result stop http so answered))
 
 -- a print that failed before the offer is the reason for the stop
-pub offer_reported : (c d : Content) (n : Name) (given : Got) (size : ℕ) (X : Stop → Type 0) (reported offered : Result (Unit {0}) Stop) → given ≡ got.Size size
+pub offer_reported : (c d : Recorded) (n : Name) (given : Got) (size : ℕ) (X : Stop → Type 0) (reported offered : Result (Unit {0}) Stop) → given ≡ got.Size size
     → IfErr reported (λ stop. (stop ≡ stops.Print) ⊎ (((size : ℕ) → given ≡ got.Size size → ⊥) × X stop))
     → HasRightAnswer (λ answer. (offered ≡ offer_result (response_or_stop answer)) ⊎ (offered ≡ Err stops.Print)) c (Offered n size) d
     → HasRightAnswer (λ answer. (first_stop reported offered ≡ offer_result (response_or_stop answer)) ⊎ (first_stop reported offered ≡ Err stops.Print)) c (Offered n size) d
@@ -199,20 +199,20 @@ lost_excused : (why : RequestFault) (stop : Stop) → IsExcused (stops.Request w
 lost_excused why stop excused (inl is) = subst IsExcused (sym is) excused
 lost_excused why stop excused (inr is) = subst IsExcused (sym is) tt
 
-pub loss_opens : (c d : Content) (n : Name) (file : List ℕ) (phase : Phase) (why : RequestFault) (stop : Stop) → IsExcused (stops.Request why)
+pub loss_opens : (c d : Recorded) (n : Name) (file : List ℕ) (phase : Phase) (why : RequestFault) (stop : Stop) → IsExcused (stops.Request why)
     → IsSubmitted n phase (Err why) (λ k. ((stop ≡ stops.Request why) ⊎ (stop ≡ stops.Print)) × IsStoppedAt n stop k) c d → IsOpened n file (Err stop) c d
 loss_opens c d n file phase why stop excused submitted h is ready = let x = submitted h is in (x.0 ++ h, lost_excused why stop excused x.2.0, x.3)
 
-pub loss_fills : (c d : Content) (n : Name) (file : List ℕ) (piece first last : ℕ) (phase : Phase) (why : RequestFault) (stop : Stop) → IsExcused (stops.Request why)
+pub loss_fills : (c d : Recorded) (n : Name) (file : List ℕ) (piece first last : ℕ) (phase : Phase) (why : RequestFault) (stop : Stop) → IsExcused (stops.Request why)
     → IsSubmitted n phase (Err why) (λ k. ((stop ≡ stops.Request why) ⊎ (stop ≡ stops.Print)) × IsStoppedAt n stop k) c d → IsFilled n file piece first last (Err stop) c d
 loss_fills c d n file piece first last phase why stop excused submitted h is ready = let x = submitted h is in (x.0 ++ h, lost_excused why stop excused x.2.0, x.3)
 
-pub submitted_so : (P Q : History → Type 0) (n : Name) (phase : Phase) (reply : Result Got RequestFault) (c d : Content) → ((k : History) → P k → Q k)
+pub submitted_so : (P Q : History → Type 0) (n : Name) (phase : Phase) (reply : Result Got RequestFault) (c d : Recorded) → ((k : History) → P k → Q k)
     → IsSubmitted n phase reply P c d → IsSubmitted n phase reply Q c d
 submitted_so P Q n phase reply c d so submitted h is = let x = submitted h is in (x.0, x.1, so (x.0 ++ h) x.2, x.3)
 
 -- a round without news stops the fetch
-pub round_submitted : (n : Name) (phase : Phase) (reply : Result Got RequestFault) (c d : Content) (taken : Result Bool Stop)
+pub round_submitted : (n : Name) (phase : Phase) (reply : Result Got RequestFault) (c d : Recorded) (taken : Result Bool Stop)
     → IsSubmitted n phase reply (λ k. IfErr taken (λ stop. IsStoppedAt n stop k)) c d
     → IsSubmitted n phase reply (λ k. IfErr (round_result taken) (λ stop. IsStoppedAt n stop k)) c d
 round_submitted n phase reply c d taken submitted =
@@ -224,7 +224,7 @@ round_submitted n phase reply c d taken submitted =
     by k (Err stop) is = is
 
 -- a piece without news does not, if its file is read again
-pub again_submitted : (n : Name) (phase : Phase) (reply : Result Got RequestFault) (c d : Content) (taken : Result Bool Stop)
+pub again_submitted : (n : Name) (phase : Phase) (reply : Result Got RequestFault) (c d : Recorded) (taken : Result Bool Stop)
     → IsSubmitted n phase reply (λ k. IfErr taken (λ stop. IsStoppedAt n stop k)) c d
     → IsSubmitted n phase reply (λ k. IfErr (without_news taken) (λ stop. IsStoppedAt n stop k)) c d
 again_submitted n phase reply c d taken submitted =
@@ -235,7 +235,7 @@ again_submitted n phase reply c d taken submitted =
     by k (Err stop) is = is
 
 -- a request that got no answer stops the fetch
-pub lost_submitted : (n : Name) (phase : Phase) (c d : Content) (stop : Stop) (why : RequestFault) → (phase ≡ phases.Stopped → ⊥)
+pub lost_submitted : (n : Name) (phase : Phase) (c d : Recorded) (stop : Stop) (why : RequestFault) → (phase ≡ phases.Stopped → ⊥)
     → ((phase : Phase) → (phase ≡ phases.Stopped → ⊥)
     → IsSubmitted n phase (Err why) (λ k. ((stop ≡ stops.Request why) ⊎ (stop ≡ stops.Print)) × IsStoppedAt n stop k) c d)
     → IsSubmitted n phase (Err why) (IsStoppedAt n stop) c d
@@ -291,6 +291,6 @@ steps_given n phase reply [] are = All-nil (λ step. IsResponseEvent n phase rep
 steps_given n phase reply ((event, answer) ∷ earlier) are =
     All-cons (λ step. IsResponseEvent n phase reply step.0) (event, answer) earlier (step_event n phase reply earlier event are.0) (steps_given n phase reply earlier are.2)
 
-pub submitted_extends : (P : History → Type 0) (n : Name) (phase : Phase) (reply : Result Got RequestFault) (c d : Content) → IsSubmitted n phase reply P c d
+pub submitted_extends : (P : History → Type 0) (n : Name) (phase : Phase) (reply : Result Got RequestFault) (c d : Recorded) → IsSubmitted n phase reply P c d
     → IsExtension (IsResponseEvent n phase reply) P c d
 submitted_extends P n phase reply c d submitted h is = let x = submitted h is in (x.0, steps_given n phase reply x.0 x.1.0, x.2, x.3)

@@ -3,7 +3,7 @@ use Rattle.std.proofs.Common.{◌≡◌, ◌<◌, ◌≤◌, ◌+◌, ℕ, zero,
 use Rattle.feed_names.specs.ReleaseName.{Name}
 use Rattle.feed_dial.specs.Responses.{Responses}
 use Rattle.feed_model.specs.History.{History, kept, IsFile}
-use Rattle.feed_model.specs.Content.{Content, IsContent}
+use Rattle.feed_model.specs.Content.{Recorded, IsContent}
 use Rattle.feed_model.proofs.Bytes.{slice_some}
 use Rattle.feed_model.proofs.Tests.{record_good}
 use Rattle.feed_fetch.specs.declared.machine.Next.{Next}
@@ -19,11 +19,11 @@ use Rattle.feed_fetch.proofs.Gaps.{ceil_none, needed_before, needed_missing, nee
 use Rattle.feed_fetch.proofs.Filling.{asked_next, nothing_next}
 use Rattle.feed_fetch.proofs.Runs.{IsRun, IsHonest, taken_of, run_more, run_stops}
 
-honest_of : (replies : Responses) (host : List ℕ) (n : Name) (file : List ℕ) (piece : ℕ) (c : Content) (h : History) → IsHonestFetch replies host n file piece c h
+honest_of : (replies : Responses) (host : List ℕ) (n : Name) (file : List ℕ) (piece : ℕ) (c : Recorded) (h : History) → IsHonestFetch replies host n file piece c h
     → IsHonest replies host n file piece
 honest_of replies host n file piece c h fetch = record { serves = fetch.serves; hosted = fetch.host_is; fit = fetch.fit; least = fetch.least; most = fetch.most }
 
-run_of : (replies : Responses) (host : List ℕ) (n : Name) (file : List ℕ) (piece count : ℕ) (c d : Content) (phase : Phase) → IsHonest replies host n file piece
+run_of : (replies : Responses) (host : List ℕ) (n : Name) (file : List ℕ) (piece count : ℕ) (c d : Recorded) (phase : Phase) → IsHonest replies host n file piece
     → AreExchanges replies host n piece count phases.New c phase d → IsRun n file piece phase count c d
 run_of replies host n file piece zero c d phase honest (at, same) = subst (λ (p : Phase). IsRun n file piece p 0 c d) (sym at) (refl, same)
 run_of replies host n file piece (suc count) c d phase honest (before, between, earlier, one, at) =
@@ -32,7 +32,7 @@ run_of replies host n file piece (suc count) c d phase honest (before, between, 
     let next : count + 1 ≡ suc count = omega arith in
     subst (λ (p : Phase). IsRun n file piece p (suc count) c d) (sym at) (subst (λ (k : ℕ). IsRun n file piece phases.Offered k c d) next more)
 
-run_bounded : (n : Name) (file : List ℕ) (piece count : ℕ) (phase : Phase) (c d : Content) (h : History) → IsContent c h → IsOpenTo n file h → IsRun n file piece phase count c d
+run_bounded : (n : Name) (file : List ℕ) (piece count : ℕ) (phase : Phase) (c d : Recorded) (h : History) → IsContent c h → IsOpenTo c.most n file h → IsRun n file piece phase count c d
     → count ≤ 1 + requests_of n file piece h
 run_bounded n file piece count phases.New c d h at ready (none, same) = omega (arith, none)
 run_bounded n file piece count phases.Offered c d h at ready (m, is, before) = let x = before h at ready in let left = x.1.1 in omega (arith, is, left)
@@ -53,15 +53,15 @@ needs_nothing n file piece k least whole =
     needed_before piece (kept k n) (length file) 0 least (λ place lt. subst IsSome (sym (whole.1 place lt)) (slice_some file place lt)) ∙ ceil_none piece least
 
 -- what follows the last exchange
-abbrev Ends : Name → List ℕ → ℕ → ℕ → Content → History → Next → Type 0
+abbrev Ends : Name → List ℕ → ℕ → ℕ → Recorded → History → Next → Type 0
 Ends n file piece count d h next =
     (count ≡ 1 + requests_of n file piece h → next ≡ Done)
     × (next ≡ Done → (count ≡ 1 + requests_of n file piece h) × ((k : History) × IsContent d k × IsReported n k))
 
-run_ending : (n : Name) (file : List ℕ) (piece count : ℕ) (phase : Phase) (c d : Content) (h : History) (next : Next) → IsFetchable file → 1 ≤ piece → piece ≤ 1048576
-    → IsContent c h → IsOpenTo n file h → IsRun n file piece phase count c d → ((k : History) → IsContent d k → IsNextStep n piece phase k next) → Ends n file piece count d h next
+run_ending : (n : Name) (file : List ℕ) (piece count : ℕ) (phase : Phase) (c d : Recorded) (h : History) (next : Next) → IsFetchable file → 1 ≤ piece → piece ≤ 1048576
+    → IsContent c h → IsOpenTo c.most n file h → IsRun n file piece phase count c d → ((k : History) → IsContent d k → IsNextStep n piece phase k next) → Ends n file piece count d h next
 run_ending n file piece count phases.New c d h next fit least most at ready (none, same) step =
-    let asks : next ≡ Ask requests.Length = step h (subst (λ (x : Content). IsContent x h) (sym same) at) in
+    let asks : next ≡ Ask requests.Length = step h (subst (λ (x : Recorded). IsContent x h) (sym same) at) in
     (λ all. absurd (omega (arith, none, all)), λ done. absurd (let e : Done ≡ Ask requests.Length = sym done ∙ asks in cc))
 run_ending n file piece count phases.Offered c d h next fit least most at ready (m, is, before) step = by next (step x.0 x.2)
   where
@@ -76,7 +76,7 @@ run_ending n file piece count phases.Offered c d h next fit least most at ready 
         let whole : IsFile x.0 n file = nothing_next x.0 n file piece None refl least x.1.0 asks in
         let none = needs_nothing n file piece x.0 least whole in
         let left = x.1.1 in
-        (λ all. refl, λ done. (omega (arith, is, none, left), (x.0, x.2, (refl, (record_good d x.0 x.2 n (file, whole, fit.good) x.1.0.current).3))))
+        (λ all. refl, λ done. (omega (arith, is, none, left), (x.0, x.2, (refl, (record_good d.content x.0 x.2 n (file, whole, fit.good) x.1.0.current).3))))
 run_ending n file piece count phases.Stopped c d h next fit least most at ready run step = absurd run
 
 pub bounded : (replies : Responses) → IsBounded replies

@@ -8,8 +8,8 @@ use Rattle.feed_model.specs.declared.reply.Reply.{Reply}
 use Rattle.feed_model.specs.declared.reply.Reply.TheVariants as replies
 use Rattle.feed_model.specs.declared.reply.Refusal.TheVariants as refusals
 use Rattle.feed_model.specs.History.{Event, Lost, Answer, History, IsPassed}
-use Rattle.feed_model.specs.Reply.{IsRight}
-use Rattle.feed_model.specs.Content.{Content, IsContent}
+use Rattle.feed_model.specs.Reply.{IsRightWith}
+use Rattle.feed_model.specs.Content.{Recorded, IsContent}
 use Rattle.feed_fetch.specs.declared.stop.RequestFault.TheVariants.{Dial, Http}
 use Rattle.feed_fetch.specs.declared.stop.Stop.{Stop}
 use Rattle.feed_fetch.specs.declared.stop.Stop.TheVariants as stops
@@ -54,11 +54,11 @@ round_result (Ok true) = Ok tt
 round_result (Ok false) = Err stops.NoProgress
 round_result (Err stop) = Err stop
 
--- for every history that has the content c, the event gets a right answer, which meets the condition, and c' is a
--- content of the history with both added
-abbrev pub HasRightAnswer : (Answer → Type 0) → Content → Event → Content → Type 0
+-- for every history that a feed with the records c may have, the event gets a right answer, which meets the condition,
+-- and one with c' may have the history with both added
+abbrev pub HasRightAnswer : (Answer → Type 0) → Recorded → Event → Recorded → Type 0
 HasRightAnswer ComesOut c event c' =
-    (h : History) → IsContent c h → (answer : Answer) × IsRight h event answer × ComesOut answer × IsContent c' ((event, answer) ∷ h)
+    (h : History) → IsContent c h → (answer : Answer) × IsRightWith c.most h event answer × ComesOut answer × IsContent c' ((event, answer) ∷ h)
 
 -- this was the feed's last event, with this answer
 abbrev pub IsLastEvent : Event → Answer → History → Type 0

@@ -14,8 +14,8 @@ use Rattle.feed_fetch.specs.declared.stop.Stop.{Stop}
 use Rattle.feed_fetch.specs.Answers.{HasCause, IsExcused, IsStoppedAt, status_of}
 use Rattle.feed_model.specs.File.{fault_of}
 use Rattle.feed_model.specs.History.{Event, Offered, Piece, Lost, History, size_of, kept, IsFile, IsPassed, IsHeld, Reports}
-use Rattle.feed_model.specs.Reply.{HoldsNumber, missing_below, max_file, max_piece, max_held}
-use Rattle.feed_model.specs.Content.{Content, IsContent}
+use Rattle.feed_model.specs.Reply.{HoldsNumber, missing_below, max_file, max_piece}
+use Rattle.feed_model.specs.Content.{Recorded, IsContent}
 use Rattle.feed_releases.specs.NextRange.{IsNext, IsNextRange}
 use Rattle.feed_fetch.specs.Gaps.{requests_of}
 
@@ -39,12 +39,12 @@ IsFetchEvent replies host n (Lost m) = m ≡ n
 
 -- for every history that has the content c, c' is a content of it with more events added, each of them permitted, and
 -- the result meets the condition
-abbrev pub IsExtension : (Event → Type 0) → (History → Type 0) → Content → Content → Type 0
+abbrev pub IsExtension : (Event → Type 0) → (History → Type 0) → Recorded → Recorded → Type 0
 IsExtension IsOne Stands c c' =
     (h : History) → IsContent c h → (added : History) × All (λ event. IsOne event.0) added × Stands (added ++ h) × IsContent c' (added ++ h)
 
 -- for every history that has the content c and meets the first condition, c' is a content of one that is related to it
-abbrev pub IsTransition : (History → Type 0) → (History → History → Type 0) → Content → Content → Type 0
+abbrev pub IsTransition : (History → Type 0) → (History → History → Type 0) → Recorded → Recorded → Type 0
 IsTransition Before After c c' = (h : History) → IsContent c h → Before h → (k : History) × After h k × IsContent c' k
 
 -- the release is reported
@@ -85,13 +85,13 @@ pub record IsFetchable (file : List ℕ) : Type 0 where
 abbrev pub IsOfFile : Name → List ℕ → History → Type 0
 IsOfFile n file h = (place byte : ℕ) → kept h n place ≡ Some byte → slice_get file place ≡ Some byte
 
--- the release may be offered with this file: no later release is active, its size agrees if it was recorded, otherwise
--- there is room for it, and its stored bytes are those of the file
-pub record IsOpenTo (n : Name) (file : List ℕ) (h : History) : Type 0 where
+-- the release may be offered with this file to a feed that holds at most this many: no later release is active, its size
+-- agrees if it was recorded, otherwise there is room for it, and its stored bytes are those of the file
+pub record IsOpenTo (most : ℕ) (n : Name) (file : List ℕ) (h : History) : Type 0 where
   pub current : ¬ (IsPassed h n)
   pub size : IfSome (size_of h n) (λ size. size ≡ length file)
   pub bytes : IsOfFile n file h
-  pub room : IsHeld h n ⊎ (¬ (HoldsNumber h max_held))
+  pub room : IsHeld h n ⊎ (¬ (HoldsNumber h most))
 
 -- it was offered, and its stored bytes are those of the file
 pub record IsFilling (n : Name) (file : List ℕ) (h : History) : Type 0 where
@@ -115,20 +115,20 @@ abbrev pub OrExcused : Result (Unit {0}) Stop → Type 0 → Type 0
 OrExcused result stands = MatchResult result (λ done. stands) IsExcused
 
 -- the offer is recorded, and no byte is lost by it
-abbrev pub IsOpened : Name → List ℕ → Result (Unit {0}) Stop → Content → Content → Type 0
-IsOpened n file result =
-    IsTransition (IsOpenTo n file) (λ h k. OrExcused result (IsFilling n file k × ((place : ℕ) → kept k n place ≡ kept h n place)))
+abbrev pub IsOpened : Name → List ℕ → Result (Unit {0}) Stop → Recorded → Recorded → Type 0
+IsOpened n file result c =
+    IsTransition (IsOpenTo c.most n file) (λ h k. OrExcused result (IsFilling n file k × ((place : ℕ) → kept k n place ≡ kept h n place))) c
 
 -- the requested range is filled: fewer places are missing, and exactly one request fewer is needed
-abbrev pub IsFilled : Name → List ℕ → ℕ → ℕ → ℕ → Result (Unit {0}) Stop → Content → Content → Type 0
+abbrev pub IsFilled : Name → List ℕ → ℕ → ℕ → ℕ → Result (Unit {0}) Stop → Recorded → Recorded → Type 0
 IsFilled n file piece first last result =
     IsTransition (IsAskedNext n file piece first last)
     (λ h k. OrExcused result (IsFilling n file k × (missing_of n file k < missing_of n file h) × (requests_of n file piece h ≡ suc (requests_of n file piece k))))
 
-abbrev pub IsFetched : Name → List ℕ → Result (Unit {0}) Stop → Content → Content → Type 0
-IsFetched n file result = IsTransition (IsOpenTo n file) (λ h k. OrExcused result (IsFilling n file k × IsFile k n file))
+abbrev pub IsFetched : Name → List ℕ → Result (Unit {0}) Stop → Recorded → Recorded → Type 0
+IsFetched n file result c = IsTransition (IsOpenTo c.most n file) (λ h k. OrExcused result (IsFilling n file k × IsFile k n file)) c
 
 -- after this many requests, each for a whole range
-abbrev pub IsFilledAfter : Name → List ℕ → ℕ → ℕ → Content → Content → Type 0
-IsFilledAfter n file piece count =
-    IsTransition (IsOpenTo n file) (λ h k. IsFilling n file k × (count + requests_of n file piece k ≡ requests_of n file piece h))
+abbrev pub IsFilledAfter : Name → List ℕ → ℕ → ℕ → Recorded → Recorded → Type 0
+IsFilledAfter n file piece count c =
+    IsTransition (IsOpenTo c.most n file) (λ h k. IsFilling n file k × (count + requests_of n file piece k ≡ requests_of n file piece h)) c

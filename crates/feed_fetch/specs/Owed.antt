@@ -5,7 +5,7 @@ use Rattle.feed_names.specs.ReleaseName.{Name}
 use Rattle.feed_limits.specs.Limits.{piece_limit}
 use Rattle.feed_http.specs.declared.fetching.got.Got.{Got}
 use Rattle.feed_http.specs.declared.fetching.got.Got.TheVariants as got
-use Rattle.feed_model.specs.Content.{Content, IsContent}
+use Rattle.feed_model.specs.Content.{Recorded, IsContent}
 use Rattle.feed_model.specs.History.{Event, Offered, Piece, Lost, Answer, History}
 use Rattle.feed_model.specs.declared.reply.Reply.TheVariants as replies
 use Rattle.feed_fetch.specs.declared.machine.Phase.{Phase}
@@ -55,6 +55,6 @@ AreOwed n phase reply steps = AreSteps n phase reply steps × ((owed_event n pha
 
 -- for every history that has the content c, c' is a content of it with exactly the steps that the response owes added,
 -- and the result meets the condition
-abbrev pub IsSubmitted : Name → Phase → Result Got RequestFault → (History → Type 0) → Content → Content → Type 0
+abbrev pub IsSubmitted : Name → Phase → Result Got RequestFault → (History → Type 0) → Recorded → Recorded → Type 0
 IsSubmitted n phase reply Stands c c' =
     (h : History) → IsContent c h → (steps : History) × AreOwed n phase reply steps × Stands (steps ++ h) × IsContent c' (steps ++ h)

@@ -2,7 +2,7 @@
 ghost use Rattle.std.specs.Prelude.{ℕ, List, ◌≡◌, ◌≤◌, ◌⊎◌, ◌||◌, IsTrue, Some, Ok, Err, IfErr, IfSome, OnOk};
 ghost use Rattle.feed_model.specs.History.{History, IsGood, IsPassed};
 ghost use Rattle.feed_model.specs.Content.{IsContent};
-ghost use Rattle.feed_releases.specs.Feeds.{recorded};
+ghost use Rattle.feed_releases.specs.Feeds.{most_of, recorded};
 ghost use Rattle.feed_fetch.specs.Answers.{status_of, HasCause, IsExcused, IsStoppedAt};
 ghost use Rattle.feed_fetch.specs.Effects.{IsExtension, IsFetchEvent, EndsWithStatus, ServesFile, IsFetchable};
 ghost use Rattle.feed_fetch.specs.Effects.{IsOpenTo, IsFetched, IsReported, IsAllFetched};
@@ -132,7 +132,7 @@ pub fn fetch_with<D: Dial, K: Keep, O: Observe, F: Write>(
         (EndsWithStatus name.now result (O.has_failed out.new || has_failed faults.new) (D.last_fault dial.new))
         (recorded feed.old) (recorded feed.new) }
     ensures gets { (file : List ℕ) → ServesFile D.responses name.now file → IsFetchable file → (h : History)
-        → IsContent (recorded feed.old) h → IsOpenTo name.now file h → (result ≡ 0) ⊎ (result ≡ 3) }
+        → IsContent (recorded feed.old) h → IsOpenTo (most_of feed.old) name.now file h → (result ≡ 0) ⊎ (result ≡ 3) }
 {
     let fetch = Fetch::new(piece);
     let outcome = fetch_file(alloc, dial, feed, host, name, fetch, out);

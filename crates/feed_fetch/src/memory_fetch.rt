@@ -1,9 +1,9 @@
 //! A fetch from a server over files in memory.
-ghost use Rattle.std.specs.Prelude.{ℕ, List, [], ◌≡◌, ◌⊎◌, ◌||◌, Some, None};
+ghost use Rattle.std.specs.Prelude.{ℕ, List, [], ◌≡◌, ◌<◌, ◌⊎◌, ◌||◌, Some, None};
 ghost use Rattle.feed_http.specs.MemoryShelves.{file_named};
 ghost use Rattle.feed_model.specs.Content.{IsContent};
 ghost use Rattle.feed_model.specs.History.{History};
-ghost use Rattle.feed_releases.specs.Feeds.{recorded};
+ghost use Rattle.feed_releases.specs.Feeds.{most_of, recorded};
 ghost use Rattle.feed_dial.specs.Responses.{Known};
 ghost use Rattle.feed_fetch.specs.Printing.{has_failed};
 ghost use Rattle.feed_fetch.specs.Servers.{IsServed};
@@ -44,7 +44,8 @@ fn fetch_from<A: Archive, K: Keep, O: Observe, F: Write>(
         (EndsWithStatus order.now.name.now result (O.has_failed out.new || has_failed faults.new) None)
         (recorded feed.old) (recorded feed.new) }
     ensures gets { (file : List ℕ) → A.files order.now.name.now ≡ Some file → IsFetchable file → (h : History)
-        → IsContent (recorded feed.old) h → IsOpenTo order.now.name.now file h → (result ≡ 0) ⊎ (result ≡ 3) }
+        → IsContent (recorded feed.old) h → IsOpenTo (most_of feed.old) order.now.name.now file h
+        → (result ≡ 0) ⊎ (result ≡ 3) }
 {
     // The requests have this text, which names the release.
     let _text = order.name.text();
@@ -79,12 +80,12 @@ pub fn fetch_from_memory<K: Keep, O: Observe, F: Write>(
 
     // If the file is there and good and the feed is open to it, the fetch ends with 0, or with 3 for a failure.
     ensures gets { (file : List ℕ) → file_named files.now order.now.name.now ≡ Some file → IsFetchable file
-        → (h : History) → IsContent (recorded feed.old) h → IsOpenTo order.now.name.now file h
+        → (h : History) → IsContent (recorded feed.old) h → IsOpenTo (most_of feed.old) order.now.name.now file h
         → (result ≡ 0) ⊎ (result ≡ 3) }
 
-    // An empty feed is open to each good file.
+    // An empty feed that may record a release is open to each good file.
     ensures first { (file : List ℕ) → file_named files.now order.now.name.now ≡ Some file → IsFetchable file
-        → recorded feed.old ≡ [] → (result ≡ 0) ⊎ (result ≡ 3) }
+        → (recorded feed.old).content ≡ [] → 0 < most_of feed.old → (result ≡ 0) ⊎ (result ≡ 3) }
 {
     fetch_from::<Brand, K, O, F>(alloc, files, feed, order, out, faults)
 }

@@ -9,7 +9,7 @@ use Rattle.feed_kbart.specs.Files.{holdings_of}
 use Rattle.feed_model.specs.declared.state.State.{State}
 use Rattle.feed_model.specs.declared.state.State.TheVariants.{Staged, Broken, Active}
 use Rattle.feed_model.specs.History.{History}
-use Rattle.feed_model.specs.Content.{Part, IsText, IsContent}
+use Rattle.feed_model.specs.Content.{Part, IsText, IsContentWithin}
 use Rattle.feed_model.proofs.Reports.{file_of_record}
 use Rattle.feed_releases.specs.ReleaseValue.{ReleaseValue, content_of, IsKnown}
 use Rattle.feed_releases.specs.Actives.{ActiveValue, active_of, actives_of, is_package_before, insert_active, inserted, IsReported, AreKnown}
@@ -29,7 +29,7 @@ same_element (r ∷ rs) zero d e lt = refl
 same_element (r ∷ rs) (suc i) d e lt = same_element rs i d e (omega arith)
 
 -- a release with holdings is reported
-one_reported : (rs : List ReleaseValue) (h : History) (i : ℕ) (d : ReleaseValue) (holdings : HoldingsValue) → IsContent (content_of rs) h → AreKnown rs → i < length rs
+one_reported : {most : ℕ} (rs : List ReleaseValue) (h : History) (i : ℕ) (d : ReleaseValue) (holdings : HoldingsValue) → IsContentWithin most (content_of rs) h → AreKnown rs → i < length rs
     → (get_or rs i d).holdings ≡ Some holdings → IsReported h (record { name = (get_or rs i d).kept.name; holdings = holdings })
 one_reported rs h i d holdings is known lt held =
     let r : ReleaseValue = get_or rs i d in
@@ -66,7 +66,7 @@ all_in : (P : ActiveValue → Type 0) (others actives : List ActiveValue) → Al
 all_in P others [] all more = all
 all_in P others (a ∷ actives) all more = all_in P (insert_active a others) actives (put_in P a others more.0 all) more.1
 
-pub each_reported : (rs : List ReleaseValue) (h : History) → IsContent (content_of rs) h → AreKnown rs → All (IsReported h) (actives_of rs)
+pub each_reported : {most : ℕ} (rs : List ReleaseValue) (h : History) → IsContentWithin most (content_of rs) h → AreKnown rs → All (IsReported h) (actives_of rs)
 each_reported rs h is known = All-from_recursion (IsReported h) (actives_of rs)
     (all_in (IsReported h) [] (filter_map active_of rs) tt
     (collected (IsReported h) rs (λ i d holdings lt held. one_reported rs h i d holdings is known lt held)))

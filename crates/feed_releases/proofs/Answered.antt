@@ -8,14 +8,14 @@ use Rattle.feed_answer.specs.Answers.{answer_of}
 use Rattle.feed_model.specs.declared.state.State.{State}
 use Rattle.feed_model.specs.declared.state.State.TheVariants.{Active}
 use Rattle.feed_model.specs.History.{History, Reports}
-use Rattle.feed_model.specs.Content.{record_of, IsContent}
+use Rattle.feed_model.specs.Content.{record_of, IsContentWithin}
 use Rattle.feed_model.proofs.Reports.{file_of_record}
 use Rattle.feed_releases.specs.ReleaseValue.{ReleaseValue, content_of, IsActiveOf, IsKnown}
 use Rattle.feed_releases.specs.Answered.{IsAnswered}
 use Rattle.feed_releases.proofs.Finding.{own_at, reports_at}
 
 -- the release that was read at the place of an active one is reported
-pub reports_here : (rs : List ReleaseValue) (h : History) (package_name : List ℕ) (i : ℕ) (r : ReleaseValue) → IsContent (content_of rs) h → i < length rs
+pub reports_here : {most : ℕ} (rs : List ReleaseValue) (h : History) (package_name : List ℕ) (i : ℕ) (r : ReleaseValue) → IsContentWithin most (content_of rs) h → i < length rs
     → ((d : ReleaseValue) → IsActiveOf package_name (get_or rs i d)) → r ≡ get_or rs i r → Reports h package_name (Some r.kept.name)
 reports_here rs h package_name i r is lt active here = subst (λ (y : ReleaseValue). Reports h package_name (Some y.kept.name)) (sym here) (reports_at rs h package_name i r is lt (active r))
 
@@ -26,8 +26,8 @@ active_here : (rs : List ReleaseValue) (package_name : List ℕ) (i : ℕ) (r : 
     → IsActiveOf package_name r
 active_here rs package_name i r active here = subst (IsActiveOf package_name) (sym here) (active r)
 
-pub answered : (rs : List ReleaseValue) (h : History) (package_name : List ℕ) (query : QueryValue) (i : ℕ) (r : ReleaseValue) (holdings : HoldingsValue) (hits : List HitValue)
-    → IsContent (content_of rs) h → i < length rs → ((d : ReleaseValue) → IsActiveOf package_name (get_or rs i d)) → r ≡ get_or rs i r
+pub answered : {most : ℕ} (rs : List ReleaseValue) (h : History) (package_name : List ℕ) (query : QueryValue) (i : ℕ) (r : ReleaseValue) (holdings : HoldingsValue) (hits : List HitValue)
+    → IsContentWithin most (content_of rs) h → i < length rs → ((d : ReleaseValue) → IsActiveOf package_name (get_or rs i d)) → r ≡ get_or rs i r
     → IsKnown r.kept.state r.kept.size r.kept.parts r.holdings → r.holdings ≡ Some holdings → hits ≡ answer_of holdings query → IsAnswered h package_name query (Ok hits)
 answered rs h package_name query i r holdings hits is lt active here known held found =
     let knows = known_active r package_name (active_here rs package_name i r active here) known in

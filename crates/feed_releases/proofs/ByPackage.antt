@@ -16,7 +16,7 @@ use Rattle.feed_kbart.specs.Files.{holdings_of}
 use Rattle.feed_model.specs.declared.state.State.{State}
 use Rattle.feed_model.specs.declared.state.State.TheVariants.{Staged, Broken, Active}
 use Rattle.feed_model.specs.History.{History, Reports}
-use Rattle.feed_model.specs.Content.{Part, Record, names, IsContent}
+use Rattle.feed_model.specs.Content.{Part, Record, names, IsContentWithin}
 use Rattle.feed_model.proofs.Names.{name_self}
 use Rattle.feed_model.proofs.Lookups.{name-record_of}
 use Rattle.feed_model.proofs.Tests.{record_good, not_passed_active}
@@ -113,7 +113,7 @@ apart_names (r ∷ rs) zero (suc j) d apart lt within = apart_at r.kept.name rs 
 apart_names (r ∷ rs) (suc i) (suc j) d apart lt within = apart_names rs i j d (IsDistinct-tail name_eq r.kept.name (names (content_of rs)) apart) (omega arith) (omega arith)
 
 -- two active releases have two packages
-apart_packages : (rs : List ReleaseValue) (h : History) → IsContent (content_of rs) h → AreKnown rs → (i j : ℕ) (d : ReleaseValue) (a b : HoldingsValue) → i < j → j < length rs
+apart_packages : {most : ℕ} (rs : List ReleaseValue) (h : History) → IsContentWithin most (content_of rs) h → AreKnown rs → (i j : ℕ) (d : ReleaseValue) (a b : HoldingsValue) → i < j → j < length rs
     → (get_or rs i d).holdings ≡ Some a → (get_or rs j d).holdings ≡ Some b → (get_or rs i d).kept.name.package_name ≢ (get_or rs j d).kept.name.package_name
 apart_packages rs h is known i j d a b lt within held kept same =
     let r : ReleaseValue = get_or rs i d in
@@ -177,7 +177,7 @@ held_by Staged size parts o known e = absurd (cc)
 held_by Broken size parts o known e = absurd (cc)
 held_by Active size parts o known e = (holdings_of known.0, known.3)
 
-among_reported : (rs : List ReleaseValue) (h : History) (n : Name) → IsContent (content_of rs) h → AreKnown rs → Reports h n.package_name (Some n) → IsAmong n (actives_of rs)
+among_reported : {most : ℕ} (rs : List ReleaseValue) (h : History) (n : Name) → IsContentWithin most (content_of rs) h → AreKnown rs → Reports h n.package_name (Some n) → IsAmong n (actives_of rs)
 among_reported [] h n is known reported =
     let found = record_good [] h is n reported.1.0 (not_passed_active h n reported.1) in
     absurd (let none : None ≡ Some found.0 = found.1 in cc)
@@ -202,7 +202,7 @@ among_place n [] k lt is = absurd (omega arith)
 among_place n (a ∷ actives) zero lt is = inl (is a)
 among_place n (a ∷ actives) (suc k) lt is = inr (among_place n actives k (omega arith) is)
 
-pub reported : (rs : List ReleaseValue) (h : History) → IsContent (content_of rs) h → AreKnown rs → AreReported h (actives_of rs)
+pub reported : {most : ℕ} (rs : List ReleaseValue) (h : History) → IsContentWithin most (content_of rs) h → AreKnown rs → AreReported h (actives_of rs)
 reported rs h is known = record {
   each = each_reported rs h is known;
   every = λ package_name n reports. place_among n (actives_of rs) (among_reported rs h n is known (refl, reports.1));

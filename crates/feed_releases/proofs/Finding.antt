@@ -6,7 +6,7 @@ use Rattle.std.proofs.lemmas.Map.Keys.{IsDistinct-head, IsDistinct-tail}
 use Rattle.feed_names.specs.ReleaseName.{Name, name_eq, IsEarlier}
 use Rattle.feed_model.specs.declared.state.State.TheVariants.{Active}
 use Rattle.feed_model.specs.History.{History, Reports}
-use Rattle.feed_model.specs.Content.{Record, names, record_of, IsContent}
+use Rattle.feed_model.specs.Content.{Record, names, record_of, IsContentWithin}
 use Rattle.feed_model.specs.Change.{changed, comes_before, insert_record, NoneIsLater}
 use Rattle.feed_model.specs.Handles.{HasLaterActive}
 use Rattle.feed_model.proofs.Names.{name_self}
@@ -77,11 +77,12 @@ none_later rs n free a found active later =
     by (y ∷ ys) free k lt same = free k y lt (ap (λ (z : Record). z.state) (same y) ∙ active, subst (λ (m : Name). IsEarlier n m) (sym (ap (λ (z : Record). z.name) (same y))) later)
 
 -- what the active release of a package reports
-pub reports_at : (rs : List ReleaseValue) (h : History) (package_name : List ℕ) (k : ℕ) (d : ReleaseValue) → IsContent (content_of rs) h → k < length rs → IsActiveOf package_name (get_or rs k d)
+pub reports_at : {most : ℕ} (rs : List ReleaseValue) (h : History) (package_name : List ℕ) (k : ℕ) (d : ReleaseValue) → IsContentWithin most (content_of rs) h
+    → k < length rs → IsActiveOf package_name (get_or rs k d)
     → Reports h package_name (Some (get_or rs k d).kept.name)
 reports_at rs h package_name k d is lt active = report_some (content_of rs) h package_name (get_or rs k d).kept is (own_at rs k d is.distinct lt) active.0 active.1
 
-pub reports_none : (rs : List ReleaseValue) (h : History) (package_name : List ℕ) → IsContent (content_of rs) h
+pub reports_none : {most : ℕ} (rs : List ReleaseValue) (h : History) (package_name : List ℕ) → IsContentWithin most (content_of rs) h
     → ((k : ℕ) (d : ReleaseValue) → k < length rs → IsActiveOf package_name (get_or rs k d) → ⊥)
     → Reports h package_name None
 reports_none rs h package_name is free = report_none (content_of rs) h package_name is

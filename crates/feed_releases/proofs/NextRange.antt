@@ -2,7 +2,7 @@
 use Rattle.std.proofs.Common.{◌≡◌, ℕ, suc, Option, Some, None, IsSome, inl, inr, sym, ◌∙◌, subst}
 use Rattle.feed_names.specs.ReleaseName.{Name}
 use Rattle.feed_model.specs.History.{History, kept}
-use Rattle.feed_model.specs.Content.{Record, Content, IsContent, record_of, byte_in}
+use Rattle.feed_model.specs.Content.{Record, Content, IsContentWithin, record_of, byte_in}
 use Rattle.feed_model.proofs.Tests.{of_record}
 use Rattle.feed_releases.specs.NextRange.{IsNextOf, IsNextRange}
 
@@ -19,7 +19,7 @@ next_same f g same size max (Some range) next = record {
   greatest = λ more inside. subst IsSome (same (suc range.1)) (next.greatest more inside);
 }
 
-pub next_of_record : (c : Content) (h : History) (n : Name) (r : Record) (max : ℕ) (range : Option (ℕ × ℕ)) → IsContent c h → record_of c n ≡ Some r
+pub next_of_record : {most : ℕ} (c : Content) (h : History) (n : Name) (r : Record) (max : ℕ) (range : Option (ℕ × ℕ)) → IsContentWithin most c h → record_of c n ≡ Some r
     → IsNextOf (byte_in r.parts) r.size max range → IsNextRange h n max range
 next_of_record c h n r max range is found next =
     let there = of_record c h n r is found in

@@ -1,11 +1,11 @@
 -- The reason of a release, seen from its record and from the history.
-use Rattle.std.proofs.Common.{◌≡◌, Option, Some, None, inr}
+use Rattle.std.proofs.Common.{◌≡◌, ℕ, Option, Some, None, inr}
 use Rattle.feed_names.specs.ReleaseName.{Name}
 use Rattle.feed_kbart.specs.declared.fault.BadFile.{BadFile}
 use Rattle.feed_model.specs.declared.state.State.{State}
 use Rattle.feed_model.specs.declared.state.State.TheVariants.{Staged, Broken, Active}
 use Rattle.feed_model.specs.History.{History, IsHeld}
-use Rattle.feed_model.specs.Content.{Record, Content, IsContent, IsState, IsReason, record_of}
+use Rattle.feed_model.specs.Content.{Record, Content, IsContentWithin, IsState, IsReason, record_of}
 use Rattle.feed_model.proofs.Tests.{of_record, good_not_bad}
 use Rattle.feed_releases.specs.Reason.{HasReason}
 
@@ -17,7 +17,7 @@ reason_so h n Active (Some why) held active is = absurd (cc)
 reason_so h n Broken None held bad is = inr (λ other. good_not_bad h n (is.0, is.1, is.2) other)
 reason_so h n Broken (Some why) held bad is = (held, is.0, is.1, is.2)
 
-pub reason_of_record : (c : Content) (h : History) (n : Name) (r : Record) → IsContent c h → record_of c n ≡ Some r → HasReason h n r.reason
+pub reason_of_record : {most : ℕ} (c : Content) (h : History) (n : Name) (r : Record) → IsContentWithin most c h → record_of c n ≡ Some r → HasReason h n r.reason
 reason_of_record c h n r is found =
     let there = of_record c h n r is found in
     reason_so h n r.state r.reason there.held there.state there.reason

@@ -4,7 +4,7 @@ use Rattle.std.specs.List.{IsDistinct, All}
 use Rattle.std.proofs.lemmas.List.Sums.{sum_by-cons}
 use Rattle.std.proofs.lemmas.List.Elements.{All-nil, All-cons, All-head, All-tail, All-map, All-append}
 use Rattle.feed_names.specs.ReleaseName.{Name, name_eq}
-use Rattle.feed_model.specs.Content.{Record, Content, names}
+use Rattle.feed_model.specs.Content.{Record, Content, names, within}
 use Rattle.feed_model.specs.Handles.{HasLaterActive}
 use Rattle.feed_model.specs.Sound.{IsSoundRecord, IsSound}
 use Rattle.feed_keep.specs.declared.record.Record as code
@@ -72,11 +72,11 @@ pushed_content rs now x current check rest others is pushed kept =
     ∙ ap (λ (c : Content). c ++ shown others) (content_of-push rs x ∙ ap (λ (r : Record). content_of rs ++ r ∷ []) kept)
     ∙ append_snoc (content_of rs) check.kept (shown others) ∙ next_content rs current (Some check) rest others is
 
-pub reopening_further : (rs : List ReleaseValue) (room : ℕ) (was now : Content) → now ≡ was → IsReopening rs room was → IsReopening rs room now
-reopening_further rs room was now same is = subst (IsReopening rs room) (sym same) is
+pub reopening_further : {most : ℕ} (rs : List ReleaseValue) (room : ℕ) (was now : Content) → now ≡ was → IsReopening most rs room was → IsReopening most rs room now
+reopening_further rs room was now same is = subst (IsReopening _ rs room) (sym same) is
 
-pub reopening_pushed : (rs after : List ReleaseValue) (x : ReleaseValue) (r : Record) (room more : ℕ) (was now : Content) → after ≡ rs ++ x ∷ [] → x.kept ≡ r → IsSoundRecord r
-    → now ≡ was → more ≡ room → IsReopening rs room was → IsReopening after more now
+pub reopening_pushed : {most : ℕ} (rs after : List ReleaseValue) (x : ReleaseValue) (r : Record) (room more : ℕ) (was now : Content) → after ≡ rs ++ x ∷ [] → x.kept ≡ r → IsSoundRecord r
+    → now ≡ was → more ≡ room → IsReopening most rs room was → IsReopening most after more now
 reopening_pushed rs after x r room more was now pushed kept sound same capacity is = rw (same, capacity) (record {
   distinct = is.distinct;
   few = is.few;
@@ -86,7 +86,8 @@ reopening_pushed rs after x r room more was now pushed kept sound same capacity 
 })
 
 -- there is room for one more
-pub room_left : (rs : List ReleaseValue) (room : ℕ) (current : Option CheckValue) (check : CheckValue) (rest others : List code.Record) → IsReopening rs room (content_in rs current rest)
+pub room_left : {most : ℕ} (rs : List ReleaseValue) (room : ℕ) (current : Option CheckValue) (check : CheckValue) (rest others : List code.Record)
+    → IsReopening most rs room (content_in rs current rest)
     → IsNext current rest (Some check) others → length rs < room
 room_left rs room current check rest others is next =
     omega (
@@ -98,14 +99,14 @@ room_left rs room current check rest others is next =
     )
 
 -- an unsound record at its turn
-pub reopened_not : (rs : List ReleaseValue) (current : Option CheckValue) (check : CheckValue) (rest others : List code.Record) → IsNext current rest (Some check) others
-    → (IsSoundRecord check.kept → ⊥) → IsSound (content_in rs current rest) → ⊥
+pub reopened_not : {most : ℕ} (rs : List ReleaseValue) (current : Option CheckValue) (check : CheckValue) (rest others : List code.Record) → IsNext current rest (Some check) others
+    → (IsSoundRecord check.kept → ⊥) → IsSound (within most (content_in rs current rest)) → ⊥
 reopened_not rs current check rest others next wrong sound =
     wrong (all-at IsSoundRecord (content_of rs) check.kept (shown others)
     (subst (All IsSoundRecord) (sym (next_content rs current (Some check) rest others next)) sound.each))
 
-pub reopened_rest_not : (rs : List ReleaseValue) (current : Option CheckValue) (rest : List code.Record) → (All IsSoundRecord (records_in current ++ shown rest) → ⊥)
-    → IsSound (content_in rs current rest) → ⊥
+pub reopened_rest_not : {most : ℕ} (rs : List ReleaseValue) (current : Option CheckValue) (rest : List code.Record) → (All IsSoundRecord (records_in current ++ shown rest) → ⊥)
+    → IsSound (within most (content_in rs current rest)) → ⊥
 reopened_rest_not rs current rest wrong sound = wrong (all-back IsSoundRecord (content_of rs) (records_in current ++ shown rest) sound.each)
 
 -- no record is left
@@ -113,11 +114,11 @@ pub reopened_all : (rs : List ReleaseValue) (current : Option CheckValue) (rest 
 reopened_all rs current rest others is =
     sym (append-nil (content_of rs)) ∙ ap (λ (ys : List code.Record). content_of rs ++ shown ys) (sym is.none) ∙ next_content rs current None rest others is
 
-pub reopened_distinct : (rs : List ReleaseValue) (room : ℕ) (content : Content) → content_of rs ≡ content → IsReopening rs room content → IsDistinct name_eq (names (content_of rs))
+pub reopened_distinct : {most : ℕ} (rs : List ReleaseValue) (room : ℕ) (content : Content) → content_of rs ≡ content → IsReopening most rs room content → IsDistinct name_eq (names (content_of rs))
 reopened_distinct rs room content same is = subst (λ (c : Content). IsDistinct name_eq (names c)) (sym same) is.distinct
 
-pub reopened_sound : (rs : List ReleaseValue) (room : ℕ) (content : Content) → content_of rs ≡ content → IsReopening rs room content
-    → All (λ r. ¬ (HasLaterActive (content_of rs) r.name)) (content_of rs) → IsSound content
+pub reopened_sound : {most : ℕ} (rs : List ReleaseValue) (room : ℕ) (content : Content) → content_of rs ≡ content → IsReopening most rs room content
+    → All (λ r. ¬ (HasLaterActive (content_of rs) r.name)) (content_of rs) → IsSound (within most content)
 reopened_sound rs room content same is current = record {
   distinct = is.distinct;
   few = is.few;
@@ -125,8 +126,8 @@ reopened_sound rs room content same is current = record {
   current = subst (λ (c : Content). All (λ r. ¬ (HasLaterActive c r.name)) c) same current;
 }
 
-pub reopened_late : (rs : List ReleaseValue) (content : Content) → content_of rs ≡ content → (All (λ r. ¬ (HasLaterActive (content_of rs) r.name)) (content_of rs) → ⊥)
-    → IsSound content → ⊥
+pub reopened_late : {most : ℕ} (rs : List ReleaseValue) (content : Content) → content_of rs ≡ content → (All (λ r. ¬ (HasLaterActive (content_of rs) r.name)) (content_of rs) → ⊥)
+    → IsSound (within most content) → ⊥
 reopened_late rs content same late sound = late (subst (λ (c : Content). All (λ r. ¬ (HasLaterActive c r.name)) c) (sym same) sound.current)
 
 -- no release so far has a later active one

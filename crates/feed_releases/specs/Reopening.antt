@@ -2,7 +2,7 @@
 use Rattle.std.specs.Prelude.{◌≡◌, ◌≤◌, ◌+◌, ◌-◌, ◌++◌, ℕ, List, [], ◌∷◌, Option, Some, None, IfSome, length, sum_by}
 use Rattle.std.specs.List.{IsDistinct, All}
 use Rattle.feed_names.specs.ReleaseName.{name_eq}
-use Rattle.feed_model.specs.Reply.{max_file, max_held, missing_below}
+use Rattle.feed_model.specs.Reply.{max_file, missing_below}
 use Rattle.feed_model.specs.Content.{Part, Record, Content, byte_in, names}
 use Rattle.feed_model.specs.Parts.{AreWithin}
 use Rattle.feed_model.specs.Sound.{IsSoundRecord}
@@ -47,15 +47,16 @@ check_left (Some check) = check.left
 abbrev pub left_in : Option CheckValue → List code.Record → ℕ
 left_in current rest = check_left current + sum_by (λ r. r.size + 2) rest
 
--- records with the steps that their check may still take
+-- records with the steps that their check may still take, and how many there may be
 pub record ReopeningValue : Type 0 where
   pub content : Content
+  pub most : ℕ
   pub left : ℕ
 
 -- the releases so far are sound, and there is room for all; no name appears twice, and there are at most as many as a
 -- feed may have
-pub record IsReopening (releases : List ReleaseValue) (most : ℕ) (content : Content) : Type 0 where
+pub record IsReopening (most : ℕ) (releases : List ReleaseValue) (places : ℕ) (content : Content) : Type 0 where
   pub distinct : IsDistinct name_eq (names content)
-  pub few : length content ≤ max_held
+  pub few : length content ≤ most
   pub sound : All IsSoundRecord (content_of releases)
-  pub room : length content ≤ most
+  pub room : length content ≤ places

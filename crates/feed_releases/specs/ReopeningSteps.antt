@@ -1,7 +1,7 @@
 -- A step of rebuilding the releases of a feed from stored records.
 use Rattle.std.specs.Prelude.{◌≡◌, ◌<◌, ◌≤◌, ◌++◌, ℕ, List, [], Option, Some, IfNone}
 use Rattle.feed_model.specs.Reply.{missing_below}
-use Rattle.feed_model.specs.Content.{Part, byte_in}
+use Rattle.feed_model.specs.Content.{Part, byte_in, within}
 use Rattle.feed_model.specs.Sound.{IsSound, IsSoundRecord}
 use Rattle.feed_keep.specs.declared.record.Record as code
 use Rattle.feed_keep.specs.Shown.{shown}
@@ -34,5 +34,5 @@ pub record IsNext (current : Option CheckValue) (rest : List code.Record) (next 
 
 -- the records are the same, and there is less to check; or all are sound, and these are the releases of them
 abbrev pub IsReopeningStep : ReopeningValue → ReopeningStep → Type 0
-IsReopeningStep was (steps.Pending reopening) = (reopening.content ≡ was.content) × (reopening.left < was.left)
-IsReopeningStep was (steps.Done releases) = (content_of releases.items ≡ was.content) × IsSound was.content
+IsReopeningStep was (steps.Pending reopening) = (reopening.content ≡ was.content) × (reopening.most ≡ was.most) × (reopening.left < was.left)
+IsReopeningStep was (steps.Done releases) = (content_of releases.items ≡ was.content) × IsSound (within was.most was.content)

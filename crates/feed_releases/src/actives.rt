@@ -1,4 +1,4 @@
-//! The active releases of a feed, ordered by package. There are at most 256 of them.
+//! The active releases of a feed, ordered by package. There are at most 4,096 of them.
 ghost use Rattle.std.specs.Prelude.{◌≡◌, ◌≤◌, IfOk, OnOk, length, insert};
 ghost use Rattle.feed_releases.specs.Actives.{active_of, actives_of, is_package_before, insert_active};
 ghost use Rattle.feed_releases.specs.Actives.{IsKnownRelease, AreKnown};

@@ -1,6 +1,7 @@
 //! The feed of a node: it handles events, reports active releases and answers queries.
 ghost use Rattle.std.specs.Prelude.{◌≡◌, ◌≤◌, length};
 ghost use Rattle.feed_model.specs.Reply.{max_held};
+ghost use Rattle.feed_keep.specs.Capacity.{capacity_with};
 ghost use Rattle.feed_releases.specs.ReleaseValue.{content_of};
 ghost use Rattle.feed_releases.specs.Ahead.{IsAhead};
 
@@ -13,6 +14,7 @@ use crate::statuses::{ReleaseStatus, statuses_of};
 use feed_answer::{Answer, Query, answer};
 use feed_kbart::BadFile;
 use feed_keep::Keep;
+use feed_limits::RELEASE_LIMIT;
 use feed_model::{KeepFault, Refusal, Reply};
 use feed_names::ReleaseName;
 pub use opening::{Opening, OpeningStep};
@@ -56,6 +58,8 @@ pub enum Point {
 pub struct Feed<K: Keep> {
     alloc: Global,
     keeper: K,
+    // The most releases that it may record. Its keeper has room for as many.
+    most: usize,
     releases: Vec<Release>,
     // The release whose file is read ahead. It changes nothing that a feed answers.
     ahead: Option<Ahead>,
@@ -63,7 +67,9 @@ pub struct Feed<K: Keep> {
     leftovers: Vec<Leftover>,
     ghost mirrors: { K.clean keeper → K.content keeper ≡ content_of releases.items },
     ghost listed: { K.clean keeper → ∥ K.listed keeper ∥₁ },
-    ghost few: { length releases.items ≤ max_held },
+    ghost few: { length releases.items ≤ most },
+    ghost least: { max_held ≤ most },
+    ghost room: { most ≤ capacity_with K.more },
     ghost reads: { IsAhead releases.items ahead },
 }
 
@@ -72,9 +78,9 @@ impl<K: Keep> Feed<K> {
     ghost use Rattle.std.specs.Prelude.{All, Err, map, IfOk, IfErr, OnErr, IsTrue, option_map};
     ghost use Rattle.std.specs.List.{Contains};
     ghost use Rattle.feed_model.specs.History.{Answer as event_answer, History, Reports};
-    ghost use Rattle.feed_model.specs.Reply.{IsRight, history_after};
+    ghost use Rattle.feed_model.specs.Reply.{IsRightWith, history_after};
     ghost use Rattle.feed_model.specs.Sound.{IsSound};
-    ghost use Rattle.feed_model.specs.Content.{IsContent};
+    ghost use Rattle.feed_model.specs.Content.{IsContent, within};
     ghost use Rattle.feed_model.specs.Handles.{Handles};
     ghost use Rattle.feed_releases.specs.Actives.{actives_of, AreReported};
     ghost use Rattle.feed_releases.specs.Answered.{IsAnswered};
@@ -83,7 +89,8 @@ impl<K: Keep> Feed<K> {
     ghost use Rattle.feed_releases.specs.Events.{event_of};
     ghost use Rattle.feed_keep.specs.Cause.{HasFailedSince, IsCounted};
     ghost use Rattle.feed_keep.specs.Loads.{one_more};
-    ghost use Rattle.feed_releases.specs.Feeds.{CommitsNothing, IsAnsweredBy, keeper_of, recorded, releases_of};
+    ghost use Rattle.feed_releases.specs.Feeds.{CommitsNothing, IsAnsweredBy};
+    ghost use Rattle.feed_releases.specs.Feeds.{keeper_of, most_of, recorded, releases_of};
     ghost use Rattle.feed_releases.specs.Leftovers.{left_of_all};
     ghost use Rattle.feed_releases.specs.Work.{unread, work_left};
     ghost use Rattle.feed_releases.specs.Statuses.{status_of};
@@ -96,15 +103,17 @@ impl<K: Keep> Feed<K> {
     /// size is above the limit of a file; parts are empty, above the limit of a piece, out of order or outside the
     /// file; a release has a later active one in its package; or a state or a reason does not match its file.
     pub fn open(alloc: Global, keeper: K) -> Result<Feed<K>, OpenFault<K>>
-        ensures content { IfOk result (λ feed. K.clean (keeper_of feed) → recorded feed ≡ K.content keeper) }
+        ensures content { IfOk result (λ feed. K.clean (keeper_of feed) → recorded feed
+            ≡ within max_held (K.content keeper)) }
+        ensures most { IfOk result (λ feed. most_of feed ≡ max_held) }
         ensures sound { IfOk result (λ feed. IsSound (recorded feed)) }
         ensures clean { IfOk result (λ feed. K.clean (keeper_of feed) → K.clean keeper) }
         ensures counted { IfOk result (λ feed. K.failed (keeper_of feed) ≡ K.failed keeper) }
         ensures loaded { IfOk result (λ feed. K.loads (keeper_of feed) ≡ one_more (K.loads keeper)) }
         ensures damaged { IfErr result (λ fault. fault.cause ≡ KeepFault.Damaged → K.clean fault.keeper
-            → ∥ K.listed keeper ∥₁ → ¬ (IsSound (K.content keeper))) }
+            → ∥ K.listed keeper ∥₁ → ¬ (IsSound (within max_held (K.content keeper)))) }
         ensures legal { IfErr result (λ fault. K.clean fault.keeper → ∥ K.listed keeper ∥₁ → (h : History)
-            → IsContent (K.content keeper) h → fault.cause ≢ KeepFault.Damaged) }
+            → IsContent (within max_held (K.content keeper)) h → fault.cause ≢ KeepFault.Damaged) }
         ensures kept { IfErr result (λ fault. K.clean fault.keeper → K.content fault.keeper ≡ K.content keeper) }
         ensures kept_listed { IfErr result (λ fault. K.clean fault.keeper → ∥ K.listed keeper ∥₁
             → ∥ K.listed fault.keeper ∥₁) }
@@ -113,17 +122,7 @@ impl<K: Keep> Feed<K> {
             (K.failed fault.keeper)) }
         ensures kept_loaded { IfErr result (λ fault. K.loads fault.keeper ≡ one_more (K.loads keeper)) }
     {
-        let mut opening = match Opening::begin(alloc, keeper) {
-            Ok(opening) => opening,
-            Err(fault) => return Err(fault),
-        };
-        loop {
-            match opening.advance(false) {
-                Ok(OpeningStep::Pending(further)) => opening = further,
-                Ok(OpeningStep::Opened(feed)) => return Ok(feed),
-                Err(fault) => return Err(fault),
-            }
-        }
+        Feed::open_within(alloc, keeper, RELEASE_LIMIT)
     }
 
     /// Handles one event. The answer is right after every history that the feed may have, and the feed then has that
@@ -170,6 +169,7 @@ impl<K: Keep> Feed<K> {
     /// this call.
     pub fn catch_up(&mut self) -> bool
         ensures releases { releases_of self.new ≡ releases_of self.old }
+        ensures room { most_of self.new ≡ most_of self.old }
         ensures keeper { keeper_of self.new ≡ keeper_of self.old }
         ensures more { IsTrue result ↔ (0 < work_left self.new) }
         ensures less { IsTrue result → work_left self.new < work_left self.old }
@@ -197,6 +197,7 @@ impl<K: Keep> Feed<K> {
     // Reads ahead at most a window. If memory runs out, nothing is read ahead any more.
     fn read_ahead(&mut self)
         ensures releases { releases_of self.new ≡ releases_of self.old }
+        ensures room { most_of self.new ≡ most_of self.old }
         ensures keeper { keeper_of self.new ≡ keeper_of self.old }
         ensures leftovers { left_of_all self.new.leftovers.items ≡ left_of_all self.old.leftovers.items }
         ensures less { 0 < unread self.new → unread self.new < unread self.old }
@@ -270,14 +271,14 @@ impl<K: Keep> Feed<K> {
 
     /// Returns the status of each recorded release, in the order in which the feed recorded them.
     pub fn statuses(&self) -> Result<Vec<ReleaseStatus<'_>>, AllocError>
-        ensures { IfOk result (λ statuses. statuses.items ≡ map status_of (recorded self.now)) }
+        ensures { IfOk result (λ statuses. statuses.items ≡ map status_of (recorded self.now).content) }
     {
         statuses_of(self.alloc, &self.releases)
     }
 
     /// Returns whether no release is recorded.
     pub fn is_empty(&self) -> bool
-        ensures { IsTrue result ↔ (recorded self.now ≡ []) }
+        ensures { IsTrue result ↔ ((recorded self.now).content ≡ []) }
     {
         self.releases.is_empty()
     }
@@ -285,12 +286,14 @@ impl<K: Keep> Feed<K> {
     /// Stops between two events, and returns the keeper with its content.
     pub fn restart(self) -> K
         ensures same { result ≡ keeper_of self }
-        ensures content { K.clean result → K.content result ≡ recorded self }
+        ensures content { K.clean result → K.content result ≡ (recorded self).content }
         ensures listed { K.clean result → ∥ K.listed result ∥₁ }
+        ensures room { (max_held ≤ most_of self) × (most_of self ≤ capacity_with K.more) }
     {
         let Feed {
             alloc: _,
             keeper,
+            most: _,
             releases: _,
             ahead: _,
             leftovers: _,
@@ -302,13 +305,14 @@ impl<K: Keep> Feed<K> {
     /// event that commits nothing, or whose commit is refused, leaves it as it was.
     pub fn stop_at(self, event: &Event<'_>, point: Point) -> K
         ensures before { point ≡ Point.Before → (result ≡ keeper_of self)
-            × (K.clean result → K.content result ≡ recorded self) }
+            × (K.clean result → K.content result ≡ (recorded self).content) }
         ensures after { point ≡ Point.After → K.clean result → (h : History) → IsContent (recorded self) h
-            → (answer : event_answer) × IsRight h (event_of event.now) answer
-            × IsContent (K.content result) ((event_of event.now, answer) ∷ h) }
+            → (answer : event_answer) × IsRightWith (most_of self) h (event_of event.now) answer
+            × IsContent (within (most_of self) (K.content result)) ((event_of event.now, answer) ∷ h) }
         ensures idle { point ≡ Point.After → K.clean result
-            → (answer : event_answer) × Handles (recorded self) (event_of event.now) answer (K.content result)
-            × (CommitsNothing answer → K.content result ≡ recorded self) }
+            → (answer : event_answer) × Handles (recorded self) (event_of event.now) answer
+            (within (most_of self) (K.content result))
+            × (CommitsNothing answer → K.content result ≡ (recorded self).content) }
         ensures listed { K.clean result → ∥ K.listed result ∥₁ }
         ensures clean { K.clean result → K.clean (keeper_of self) }
         ensures counted { K.failed (keeper_of self) ≤ K.failed result }

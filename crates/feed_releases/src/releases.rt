@@ -1,4 +1,4 @@
-//! Looking up releases by name or by package in a feed's list, which has at most 256 of them.
+//! Looking up releases by name or by package in a feed's list, which has at most 4,096 of them.
 ghost use Rattle.std.specs.Prelude.{◌≡◌, ◌<◌, ◌≤◌, ℕ};
 ghost use Rattle.std.specs.Prelude.{false, None, IsTrue, IfSome, IfNone, MatchOption, length};
 ghost use Rattle.std.specs.Prelude.{slice_index_or, insert};

@@ -8,7 +8,7 @@ use Rattle.feed_model.specs.History.{History, IsFile}
 use Rattle.feed_model.specs.Content.{Content, Record, IsState, IsText, record_of}
 use Rattle.feed_model.specs.Earlier.{AreExplained, IsEarlierContent, IsEarlierRecord, IsExplained, IsSameRelease, without_refused}
 use Rattle.feed_model.specs.Sound.{Explains}
-use Rattle.feed_model.specs.Reply.{IsLegal}
+use Rattle.feed_model.specs.Reply.{IsLegal, max_held}
 use Rattle.feed_model.proofs.Bytes.{slice_some, within_by}
 use Rattle.feed_model.proofs.Earlier.{legal_now, release_same}
 use Rattle.feed_model.proofs.Limits.{kept_inside, size_limit}
@@ -31,11 +31,11 @@ module _ (h : History) (n : Name) (r : Record) (is : IsEarlierRecord h n r) (leg
       within = record {
         parts = is.parts;
         inside = within_by 0 r.size r.parts is.parts
-            (λ place some. kept_inside (without_refused h) legal n r.size place (same.size ∙ is.size) (subst IsSome (is.bytes place ∙ sym (same.bytes place)) some));
+            (λ place some. kept_inside max_held (without_refused h) legal n r.size place (same.size ∙ is.size) (subst IsSome (is.bytes place ∙ sym (same.bytes place)) some));
       };
       every = λ place lt. subst IsSome (sym (whole.bytes place lt)) (slice_some text place (omega (arith, whole.count, lt)));
     };
-    limit = size_limit (without_refused h) legal n r.size (same.size ∙ is.size);
+    limit = size_limit max_held (without_refused h) legal n r.size (same.size ∙ is.size);
   }
 
   -- a broken release has a file, and the reason is that of the file

@@ -1,6 +1,7 @@
 //! Laws on the upgrade of a database and on keepers in memory, stated as the contracts of functions with empty bodies.
 ghost use Rattle.std.specs.Prelude.{ℕ, Bool, IsTrue};
-ghost use Rattle.feed_model.specs.Content.{IsContent};
+ghost use Rattle.feed_model.specs.Content.{IsContent, within};
+ghost use Rattle.feed_model.specs.Reply.{max_held};
 ghost use Rattle.feed_model.specs.Earlier.{IsEarlierContent, without_refused};
 ghost use Rattle.feed_model.specs.History.{History};
 ghost use Rattle.feed_store_model.specs.Tables.{HoldsReleases, stored_content, content_without_reasons};
@@ -18,7 +19,7 @@ use sqlite::MemStore;
 /// Reports and answers are then the same, by `reports_stay` and `answers_stay`.
 pub fn histories_stay()
     ensures { (old new : Database) (h : History) → HoldsReleases old → IsEarlierContent (content_without_reasons old) h
-        → IsUpgradedWithReasons old new → IsContent (stored_content new) (without_refused h) }
+        → IsUpgradedWithReasons old new → IsContent (within max_held (stored_content new)) (without_refused h) }
 {
     contents_move();
 }

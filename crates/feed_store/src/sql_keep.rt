@@ -192,6 +192,36 @@ impl<S: Alter + Drop> Keep for SqlKeep<S> {
         ensures neither { IsLive (state S.Store self.new.0)
             → OnErr result ((state S.Store self.new.0).now ≡ (state S.Store self.old.0).now) }
     {
+        self.make(change)
+    }
+}
+
+impl<S: Alter + Drop> SqlKeep<S> {
+    ghost use Rattle.std.specs.Prelude.{ℕ, Err, IsErrOf, IsTrue, OnErr, OnOk};
+    ghost use Rattle.feed_model.specs.Change.{after, IsAllowedWithin};
+    ghost use Rattle.feed_keep.specs.Cause.{IsCounted};
+    ghost use Rattle.feed_keep.specs.Shown.{shown_change};
+    ghost use Rattle.sqlite.specs.Held.{state};
+    ghost use Rattle.feed_store_model.specs.Live.{IsLive};
+
+    // Commits a change as `commit` does, however many records there may be.
+    pub(crate) fn make(&mut self, change: &Change<'_>) -> Result<(), KeepFault>
+        requires listed { ⟦<SqlKeep<S> as Keep>⟧.clean self.old → ∥ ⟦<SqlKeep<S> as Keep>⟧.listed self.old ∥₁ }
+        requires allowed { ⟦<SqlKeep<S> as Keep>⟧.clean self.old → (most : ℕ)
+            × IsAllowedWithin most (shown_change change.now) (⟦<SqlKeep<S> as Keep>⟧.content self.old) }
+        ensures made { OnOk result (⟦<SqlKeep<S> as Keep>⟧.clean self.new → ⟦<SqlKeep<S> as Keep>⟧.content self.new
+            ≡ after (shown_change change.now) (⟦<SqlKeep<S> as Keep>⟧.content self.old)) }
+        ensures refused { OnErr result (⟦<SqlKeep<S> as Keep>⟧.clean self.new
+            → ⟦<SqlKeep<S> as Keep>⟧.content self.new ≡ ⟦<SqlKeep<S> as Keep>⟧.content self.old) }
+        ensures listed { ⟦<SqlKeep<S> as Keep>⟧.clean self.new → ∥ ⟦<SqlKeep<S> as Keep>⟧.listed self.new ∥₁ }
+        ensures clean { ⟦<SqlKeep<S> as Keep>⟧.clean self.new → ⟦<SqlKeep<S> as Keep>⟧.clean self.old }
+        ensures undamaged { ¬ (IsErrOf result KeepFault.Damaged) }
+        ensures unloaded { self.new.1.2 ≡ self.old.1.2 }
+        ensures device { IsCounted (result ≡ Err KeepFault.Device) self.old.1.0 self.new.1.0 }
+        ensures alone { self.new.1.1 ≡ self.old.1.1 }
+        ensures neither { IsLive (state S.Store self.new.0)
+            → OnErr result ((state S.Store self.new.0).now ≡ (state S.Store self.old.0).now) }
+    {
         match commit_change(&mut self.conn, change) {
             Ok(()) => Ok(()),
             Err(error) => Err(keep_fault_of(&mut self.failures, error)),

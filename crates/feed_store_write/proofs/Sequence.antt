@@ -111,7 +111,7 @@ made_as Change Same a b same it = record { change = same it.change; committed = 
 -- the parts that are added to a staged release are the change that adds them
 pub pieces_made : (n : Name) (ps : List Part) (a b : State) → IsMade (IsContentChange (changed n (with_parts ps))) a b
     → IsMade (IsAllowedChange (Pieces n ps)) a b
-pieces_made n ps a b = made_as (IsContentChange (changed n (with_parts ps))) (IsAllowedChange (Pieces n ps)) a b (λ change allowed ours.
+pieces_made n ps a b = made_as (IsContentChange (changed n (with_parts ps))) (IsAllowedChange (Pieces n ps)) a b (λ change most allowed ours.
     let done = change ours in record {
       ours = done.ours;
       listed = done.listed;
@@ -145,7 +145,7 @@ changed_inserted f r same (x ∷ xs) free = by (name_eq x.name r.name) (comes_be
 pub empty_made : (n : Name) (a b c : State) → IsMade (IsContentChangeIf (0 ≤ max_file) (insert_record (bare n 0 states.Broken))) a b
     → IsMade (IsReasonChangeIf (IsStored NoHeader) (changed n (with_reason NoHeader))) b c → IsMade (IsAllowedChange (Add n 0)) a c
 empty_made n a b c one two = record {
-  change = λ allowed ours.
+  change = λ most allowed ours.
       let first = one.change (omega arith) ours in
       let second = (two.change tt first.ours).0 in record {
         ours = second.ours;
@@ -161,7 +161,7 @@ empty_made n a b c one two = record {
 pub staged_made : (n : Name) (size : ℕ) (a b : State) → size ≢ 0 → IsMade (IsContentChangeIf (size ≤ max_file) (insert_record (bare n size states.Staged))) a b
     → IsMade (IsAllowedChange (Add n size)) a b
 staged_made n size a b some = made_as (IsContentChangeIf (size ≤ max_file) (insert_record (bare n size states.Staged))) (IsAllowedChange (Add n size)) a b
-    (λ change allowed ours.
+    (λ change most allowed ours.
     let done = change allowed.2 ours in record {
       ours = done.ours;
       listed = done.listed;
@@ -175,7 +175,7 @@ staged_made n size a b some = made_as (IsContentChangeIf (size ≤ max_file) (in
 pub break_made : (n : Name) (ps : List Part) (why : BadFile) (a b c : State) → IsMade (IsContentChange (changed n (grown ps states.Broken))) a b
     → IsMade (IsReasonChangeIf (IsStored why) (changed n (with_reason why))) b c → IsMade (IsAllowedChange (Break n ps why)) a c
 break_made n ps why a b c one two = record {
-  change = λ allowed ours.
+  change = λ most allowed ours.
       let bad = allowed.3 in
       let first = one.change ours in
       let second = (two.change (stored bad.0 why bad.2) first.ours).0 in record {

@@ -1,7 +1,7 @@
 -- The effects of calls on a database.
 use Rattle.std.specs.Prelude.{◌≡◌, ◌↔◌, ◌∷◌, ℕ, List, Bool, IsTrue, [], map, OnOk, Ok, pos, Result}
 use Rattle.std.specs.Borrow.{MutBor}
-use Rattle.feed_model.specs.Change.{Change, IsAllowed, after}
+use Rattle.feed_model.specs.Change.{Change, IsAllowedWithin, after}
 use Rattle.feed_model.specs.Content.{Content}
 use Rattle.sqlite.specs.Effect.{Database, IsDatabase}
 use Rattle.sqlite.specs.Held.{Held, state}
@@ -61,9 +61,10 @@ KeepsReleases old new = (new.trees 1 ≡ old.trees 1) × (new.trees 3 ≡ old.tr
 abbrev pub IsReasonChangeIf : Type 0 → (Content → Content) → Database → Database → Type 0
 IsReasonChangeIf Condition f old new = Condition → IsLayout2 old → IsChanged f old new × KeepsReleases old new
 
--- if the change of the records is allowed, a database of layout 2 has its content changed so
+-- if the change of the records is allowed, however many records there may be, a database of layout 2 has its content
+-- changed so
 abbrev pub IsAllowedChange : Change → Database → Database → Type 0
-IsAllowedChange change old new = IsAllowed change (stored_content old) → IsContentChange (after change) old new
+IsAllowedChange change old new = (most : ℕ) → IsAllowedWithin most change (stored_content old) → IsContentChange (after change) old new
 
 -- one kind of database becomes another one
 abbrev pub IsTransition : (Database → Type 0) → (Database → Type 0) → Database → Database → Type 0

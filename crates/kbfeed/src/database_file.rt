@@ -5,7 +5,7 @@ use cmd_database::{Database, DatabaseFault};
 use cmd_node::run_command;
 use feed_console::Console;
 use feed_options::NodeCommand;
-use feed_store::{CACHE_PAGES, SqlKeep, StoreFault};
+use feed_store::{CACHE_PAGES, LargeSqlKeep, SqlKeep, StoreFault};
 use sqlite_std_file::File;
 use sqlite_store::FileStore;
 use std::io::{ErrorKind, Read, Write};
@@ -28,7 +28,7 @@ pub struct DatabaseFile<'a> {
 }
 
 impl Database for DatabaseFile<'_> {
-    type Keeper = SqlKeep<FileStore<File>>;
+    type Keeper = LargeSqlKeep<FileStore<File>>;
 
     fn name(&self) -> &str {
         self.path
@@ -41,7 +41,7 @@ impl Database for DatabaseFile<'_> {
         }
     }
 
-    fn open(&self) -> Result<SqlKeep<FileStore<File>>, DatabaseFault> {
+    fn open(&self) -> Result<LargeSqlKeep<FileStore<File>>, DatabaseFault> {
         match self.is_other_file() {
             Ok(false) => {}
             Ok(true) => return Err(DatabaseFault::NotDatabase),
@@ -51,14 +51,14 @@ impl Database for DatabaseFile<'_> {
             Err(_) => {}
         }
         match SqlKeep::open_file_with_cache(self.rt, self.path, self.cache_pages()) {
-            Ok(keeper) => Ok(keeper),
+            Ok(store) => Ok(LargeSqlKeep::of(store)),
             Err(StoreFault::NotOurs) if self.has_other_name() => Err(DatabaseFault::Linked),
             Err(fault) => Err(fault_of(fault)),
         }
     }
 
-    fn close(&self, keeper: SqlKeep<FileStore<File>>) -> Result<(), DatabaseFault> {
-        match keeper.close() {
+    fn close(&self, keeper: LargeSqlKeep<FileStore<File>>) -> Result<(), DatabaseFault> {
+        match keeper.into_store().close() {
             Ok(()) => Ok(()),
             Err(fault) => Err(fault_of(fault)),
         }

@@ -6,7 +6,7 @@ use Rattle.std.specs.List.{AllByRecursion}
 use Rattle.std.proofs.lemmas.List.Elements.{recursion_from_All}
 use Rattle.feed_names.specs.ReleaseName.{Name, name_eq}
 use Rattle.feed_model.specs.History.{Event, Offered, Piece, Lost, History, Answer, is_noted, is_taken, or_else, byte_at, size_of, kept, IsFile, IsGood, Reports}
-use Rattle.feed_model.specs.Reply.{IsRight, IsLegal}
+use Rattle.feed_model.specs.Reply.{IsRightWith, IsLegalWith}
 use Rattle.feed_model.proofs.Names.{name_is}
 use Rattle.feed_model.proofs.Limits.{noted_by, unsized}
 use Rattle.feed_http.specs.declared.fetching.got.Got.{Got}
@@ -40,53 +40,53 @@ keeps_on : (h k l : History) → Keeps h k → Keeps k l → Keeps h l
 keeps_on h k l x y = record { size = λ n s e. y.size n s (x.size n s e); bytes = λ n place b e. y.bytes n place b (x.bytes n place b e) }
 
 -- a release that has a size is not recorded again
-keeps_more : (h : History) (e : Event) (a : Answer) → IsRight h e a → Keeps h ((e, a) ∷ h)
-keeps_more h (Offered m s) a right = record { size = λ n q. by n q (is_noted a) (name_eq m n) refl refl; bytes = λ n place b e. e }
+keeps_more : (most : ℕ) (h : History) (e : Event) (a : Answer) → IsRightWith most h e a → Keeps h ((e, a) ∷ h)
+keeps_more most h (Offered m s) a right = record { size = λ n q. by n q (is_noted a) (name_eq m n) refl refl; bytes = λ n place b e. e }
   where
     by : (n : Name) (q : ℕ) (x y : Bool) → is_noted a ≡ x → name_eq m n ≡ y → size_of h n ≡ Some q → size_of ((Offered m s, a) ∷ h) n ≡ Some q
     by n q true true u v e =
-        let none : size_of h n ≡ None = subst (λ (z : Name). size_of h z ≡ None) (name_is m n v) (unsized h m s (noted_by h m s a u right)) in
+        let none : size_of h n ≡ None = subst (λ (z : Name). size_of h z ≡ None) (name_is m n v) (unsized h m s (noted_by most h m s a u right)) in
         absurd (let w : None ≡ Some q = sym none ∙ e in cc)
     by n q true false u v e = rw (u, v) e
     by n q false y u v e = rw u e
-keeps_more h (Piece m f total bs) a right = record { size = λ n s e. e; bytes = λ n place b. by n place b (is_taken a) (name_eq m n) refl refl }
+keeps_more most h (Piece m f total bs) a right = record { size = λ n s e. e; bytes = λ n place b. by n place b (is_taken a) (name_eq m n) refl refl }
   where
     by : (n : Name) (place b : ℕ) (x y : Bool) → is_taken a ≡ x → name_eq m n ≡ y → kept h n place ≡ Some b → kept ((Piece m f total bs, a) ∷ h) n place ≡ Some b
     by n place b true true u v e = rw (u, v, e) refl
     by n place b true false u v e = rw (u, v) e
     by n place b false y u v e = rw u e
-keeps_more h (Lost m) a right = record { size = λ n s e. e; bytes = λ n place b e. e }
+keeps_more most h (Lost m) a right = record { size = λ n s e. e; bytes = λ n place b e. e }
 
-legal_before : (steps h : History) → IsLegal (steps ++ h) → IsLegal h
-legal_before [] h legal = legal
-legal_before ((event, answer) ∷ steps) h legal = legal_before steps h legal.1
+legal_before : (most : ℕ) (steps h : History) → IsLegalWith most (steps ++ h) → IsLegalWith most h
+legal_before most [] h legal = legal
+legal_before most ((event, answer) ∷ steps) h legal = legal_before most steps h legal.1
 
-keeps_steps : (steps h : History) → IsLegal (steps ++ h) → Keeps h (steps ++ h)
-keeps_steps [] h legal = keeps_all h
-keeps_steps ((event, answer) ∷ steps) h legal =
-    keeps_on h (steps ++ h) (((event, answer) ∷ steps) ++ h) (keeps_steps steps h legal.1) (keeps_more (steps ++ h) event answer legal.0)
+keeps_steps : (most : ℕ) (steps h : History) → IsLegalWith most (steps ++ h) → Keeps h (steps ++ h)
+keeps_steps most [] h legal = keeps_all h
+keeps_steps most ((event, answer) ∷ steps) h legal =
+    keeps_on h (steps ++ h) (((event, answer) ∷ steps) ++ h) (keeps_steps most steps h legal.1) (keeps_more most (steps ++ h) event answer legal.0)
 
-keeps_moment : {V : Type 0} (later moment : List (NodeEvent V)) → IsLegal (feed_history (later ++ moment)) → Keeps (feed_history moment) (feed_history (later ++ moment))
-keeps_moment [] moment legal = keeps_all (feed_history moment)
-keeps_moment (Accepted key ∷ later) moment legal = keeps_moment later moment legal
-keeps_moment (Served key share ∷ later) moment legal = keeps_moment later moment legal
-keeps_moment (Passed millis ∷ later) moment legal = keeps_moment later moment legal
-keeps_moment (DayBegan today ∷ later) moment legal = keeps_moment later moment legal
-keeps_moment (Asked key bytes asked ∷ later) moment legal = keeps_moment later moment legal
-keeps_moment (Began asked ∷ later) moment legal = keeps_moment later moment legal
-keeps_moment (Finished ∷ later) moment legal = keeps_moment later moment legal
-keeps_moment (Took name phase reply steps ∷ later) moment legal =
+keeps_moment : {V : Type 0} (most : ℕ) (later moment : List (NodeEvent V)) → IsLegalWith most (feed_history (later ++ moment)) → Keeps (feed_history moment) (feed_history (later ++ moment))
+keeps_moment most [] moment legal = keeps_all (feed_history moment)
+keeps_moment most (Accepted key ∷ later) moment legal = keeps_moment most later moment legal
+keeps_moment most (Served key share ∷ later) moment legal = keeps_moment most later moment legal
+keeps_moment most (Passed millis ∷ later) moment legal = keeps_moment most later moment legal
+keeps_moment most (DayBegan today ∷ later) moment legal = keeps_moment most later moment legal
+keeps_moment most (Asked key bytes asked ∷ later) moment legal = keeps_moment most later moment legal
+keeps_moment most (Began asked ∷ later) moment legal = keeps_moment most later moment legal
+keeps_moment most (Finished ∷ later) moment legal = keeps_moment most later moment legal
+keeps_moment most (Took name phase reply steps ∷ later) moment legal =
     let h = feed_history (later ++ moment) in
-    keeps_on (feed_history moment) h (steps ++ h) (keeps_moment later moment (legal_before steps h legal)) (keeps_steps steps h legal)
-keeps_moment (TookPart name first size bytes answer ∷ later) moment legal =
+    keeps_on (feed_history moment) h (steps ++ h) (keeps_moment most later moment (legal_before most steps h legal)) (keeps_steps most steps h legal)
+keeps_moment most (TookPart name first size bytes answer ∷ later) moment legal =
     let h = feed_history (later ++ moment) in
-    keeps_on (feed_history moment) h ((Piece name first (Some size) bytes, answer) ∷ h) (keeps_moment later moment legal.1)
-    (keeps_more h (Piece name first (Some size) bytes) answer legal.0)
-keeps_moment (Exchanged event ∷ later) moment legal = keeps_moment later moment legal
-keeps_moment (AskedSites other bytes asked ∷ later) moment legal = keeps_moment later moment legal
-keeps_moment (SitesBegan begun ∷ later) moment legal = keeps_moment later moment legal
-keeps_moment (SitesKept ∷ later) moment legal = keeps_moment later moment legal
-keeps_moment (Reopened ∷ later) moment legal = keeps_moment later moment legal
+    keeps_on (feed_history moment) h ((Piece name first (Some size) bytes, answer) ∷ h) (keeps_moment most later moment legal.1)
+    (keeps_more most h (Piece name first (Some size) bytes) answer legal.0)
+keeps_moment most (Exchanged event ∷ later) moment legal = keeps_moment most later moment legal
+keeps_moment most (AskedSites other bytes asked ∷ later) moment legal = keeps_moment most later moment legal
+keeps_moment most (SitesBegan begun ∷ later) moment legal = keeps_moment most later moment legal
+keeps_moment most (SitesKept ∷ later) moment legal = keeps_moment most later moment legal
+keeps_moment most (Reopened ∷ later) moment legal = keeps_moment most later moment legal
 
 get_some : (xs : List ℕ) (i : ℕ) → i < length xs → (x : ℕ) × (slice_get xs i ≡ Some x)
 get_some [] i lt = absurd (omega arith)
@@ -105,10 +105,10 @@ later_report h k package_name n None s x y = absurd (y n x.0 (good_kept h k n s 
 later_report h k package_name n (Some m) s x y = (m, refl, y.0, y.1.1 n (x.0 ∙ sym y.0) (good_kept h k n s x.1.0))
 
 -- no report names an older release than one before
-pub never_older : {V : Type 0} (history : List (NodeEvent V)) → IsLegal (feed_history history) → NeverOlder history
-never_older {V} history legal moment package_name n report (later, is) before now =
+pub never_older : {V : Type 0} (most : ℕ) (history : List (NodeEvent V)) → IsLegalWith most (feed_history history) → NeverOlder history
+never_older {V} most history legal moment package_name n report (later, is) before now =
     let kept_so : Keeps (feed_history moment) (feed_history history) = subst (λ (all : List (NodeEvent V)). Keeps (feed_history moment) (feed_history all)) is
-    (keeps_moment later moment (subst (λ (all : List (NodeEvent V)). IsLegal (feed_history all)) (sym is) legal)) in
+    (keeps_moment most later moment (subst (λ (all : List (NodeEvent V)). IsLegalWith most (feed_history all)) (sym is) legal)) in
     later_report (feed_history moment) (feed_history history) package_name n report kept_so before now
 
 -- ---- what is known of a release agrees with the published file

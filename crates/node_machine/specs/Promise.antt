@@ -6,7 +6,8 @@ use Rattle.feed_names.specs.ReleaseName.{Name}
 use Rattle.feed_names.specs.declared.release_name.NameFault.{NameFault}
 use Rattle.feed_keep.specs.declared.keep.Keep.{Ghosts}
 use Rattle.feed_model.specs.History.{History, Answer, IsFile, Reports, byte_at}
-use Rattle.feed_model.specs.Reply.{IsLegal}
+use Rattle.feed_model.specs.Reply.{IsLegalWith}
+use Rattle.feed_releases.specs.Feeds.{most_of}
 use Rattle.feed_http.specs.declared.fetching.got.Got.{Got}
 use Rattle.feed_http.specs.declared.fetching.got.Got.TheVariants as got
 use Rattle.feed_fetch.specs.declared.machine.Phase.{Phase}
@@ -103,17 +104,18 @@ pub record ReloadsInTurn {V : Type 0} (history : List (NodeEvent V)) : Type 0 wh
   pub began : (sites : V) (earlier : List (NodeEvent V)) → history ≡ SitesBegan sites ∷ earlier → (sites_in earlier ≡ None) ⊎ (reload_in earlier ≡ Some Reload)
   pub kept : (earlier : List (NodeEvent V)) → history ≡ SitesKept ∷ earlier → IsSome (reload_in earlier)
 
--- the promise, of a node whose responder has these rules and that has this token: on each connection the bytes sent are the
--- beginning of the responses, in order, to the requests in the bytes received; each response is one of the responder to
--- the feed as it was when the response was made, on that day, with the sites that the node had then, for a busy node exactly if
--- a fetch was under way or requested, and for one that reads its folder exactly if it did; the feed has a legal history, of
--- exactly the events that a fetch owes for the responses of the knowledge base; it reports no older release than before; only
--- requests that have the token change it; fetches are one at a time; the sites change only as the node is opened, or after a
--- request that has the token; and the folder is read once at a time
-pub record IsRightNode {V : Type 0} (rules : Rules V) (token : Option (List ℕ)) (history : List (NodeEvent V)) : Type 0 where
+-- the promise, of a node whose responder has these rules, and that has this token and may record this many releases: on
+-- each connection the bytes sent are the beginning of the responses, in order, to the requests in the bytes received;
+-- each response is one of the responder to the feed as it was when the response was made, on that day, with the sites
+-- that the node had then, for a busy node exactly if a fetch was under way or requested, and for one that reads its
+-- folder exactly if it did; the feed has a legal history, of exactly the events that a fetch owes for the responses of
+-- the knowledge base; it reports no older release than before; only requests that have the token change it; fetches are
+-- one at a time; the sites change only as the node is opened, or after a request that has the token; and the folder is
+-- read once at a time
+pub record IsRightNode {V : Type 0} (rules : Rules V) (token : Option (List ℕ)) (most : ℕ) (history : List (NodeEvent V)) : Type 0 where
   pub served : (key : ℕ) → IsServed (responses_in rules token key history) (received_bytes (events_of key history)) (sent_bytes (events_of key history))
   pub moment : AreOfTheMoment rules token history
-  pub legal : IsLegal (feed_history history)
+  pub legal : IsLegalWith most (feed_history history)
   pub given : AreGiven history
   pub later : NeverOlder history
   pub authorized : ChangesByToken token history
@@ -125,14 +127,16 @@ module _ {T K S V : Type 0} {k : Ghosts K} (wanted : S → RequestHead → ℕ)
     (replies : S → Terms V → History → List ℕ → List ℕ → Bool → List ℕ → Type 0) (sites : S → V) where
   -- the node keeps the promise after each history that it may have
   abbrev pub NodeIsRight : NodeMachine T K S k → Type 0
-  NodeIsRight node = (history : List (NodeEvent V)) → HasHistory wanted replies sites node history → IsRightNode (rules_of wanted replies sites node) (option_copied node.token) history
+  NodeIsRight node =
+      (history : List (NodeEvent V)) → HasHistory wanted replies sites node history
+      → IsRightNode (rules_of wanted replies sites node) (option_copied node.token) (most_of node.feed) history
 
   -- each history that the node had continues with some events to one that it has, after which it keeps the promise
   abbrev pub IsRightAfter : NodeMachine T K S k → NodeMachine T K S k → Type 0
   IsRightAfter old new =
       (history : List (NodeEvent V)) → HasHistory wanted replies sites old history
       → (later : List (NodeEvent V)) × HasHistory wanted replies sites new (later ++ history)
-      × IsRightNode (rules_of wanted replies sites new) (option_copied new.token) (later ++ history)
+      × IsRightNode (rules_of wanted replies sites new) (option_copied new.token) (most_of new.feed) (later ++ history)
 
 -- the bytes from this place on are those of the file
 abbrev pub AgreeWith : List ℕ → ℕ → List ℕ → Type 0

@@ -5,6 +5,7 @@ ghost use Rattle.feed_names.specs.ReleaseName.{Name, text_of};
 ghost use Rattle.feed_limits.specs.Limits.{piece_limit};
 ghost use Rattle.feed_model.specs.Content.{IsContent};
 ghost use Rattle.feed_model.specs.History.{History, Piece};
+ghost use Rattle.feed_keep.specs.Capacity.{capacity_with};
 ghost use Rattle.feed_releases.specs.Feeds.{recorded};
 ghost use Rattle.feed_http.specs.RequestTexts.{is_host};
 ghost use Rattle.feed_fetch.specs.Answers.{HasRightAnswer, IsStoppedAt, piece_result, response_or_stop};
@@ -16,7 +17,8 @@ ghost use Rattle.node_machine.specs.Exchanges.{is_arriving, method_of, part_of, 
 ghost use Rattle.node_machine.specs.NodeEvents.{NodeEvent, feed_history};
 ghost use Rattle.node_machine.specs.Rules.{AreGiven};
 ghost use Rattle.node_machine.specs.Nodes.{HasBegun, HasExchanged, HasFinished, HasHistory, HasRequested};
-ghost use Rattle.node_machine.specs.Nodes.{HasTaken, HasTakenPart, IsLater, KeepsHistory, exchange_of, release_of};
+ghost use Rattle.node_machine.specs.Nodes.{HasTaken, HasTakenPart, IsContentUpTo, IsLater, KeepsHistory};
+ghost use Rattle.node_machine.specs.Nodes.{exchange_of, release_of};
 
 use crate::exchange::{Arrival, Exchange};
 use crate::machine::NodeMachine;
@@ -461,7 +463,7 @@ impl<'a, T: Stream, K: Keep, S: FeedRespond + Drop> NodeMachine<'a, T, K, S> {
     pub fn into_keeper(self) -> K
         ensures { (history : List (NodeEvent S.Sites))
             → HasHistory S.wanted S.responses S.sites self.entry history → K.clean result
-            → IsContent (K.content result) (feed_history history) × AreGiven history }
+            → IsContentUpTo (capacity_with K.more) (K.content result) (feed_history history) × AreGiven history }
     {
         let NodeMachine {
             alloc: _,

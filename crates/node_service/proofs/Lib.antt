@@ -4,3 +4,4 @@ pub mod Agreement
 pub mod Fetches
 pub mod WantedPackages
 pub mod SameResponses
+pub mod OpenedAgain

@@ -1,8 +1,9 @@
 -- A node that does not answer readers yet.
 use Rattle.std.specs.Prelude.{◌≡◌, ℕ, Bool, List, Option, Some}
+use Rattle.feed_model.specs.Content.{within}
 use Rattle.feed_model.specs.Sound.{IsSound}
 use Rattle.feed_model.specs.declared.keep_fault.KeepFault.TheVariants.{Damaged}
-use Rattle.feed_releases.specs.Openings.{opening_keeper}
+use Rattle.feed_releases.specs.Openings.{opening_keeper, opening_most}
 use Rattle.feed_releases.specs.declared.feed.opening.Opening.{Opening}
 use Rattle.node_service.specs.declared.starting.StartFault.{StartFault}
 use Rattle.node_service.specs.declared.starting.StartFault.TheVariants.{Keeper}
@@ -33,4 +34,4 @@ IsLaterStart old new = IsLater (λ responder head. 0) IsStartingText (λ respond
 
 -- a node may end so while this feed is opened: as damaged only if no feed has the content of its keeper
 abbrev pub IsStartFault : {K : Type 0} {k : Ghosts K} → Opening K k → StartFault → Type 0
-IsStartFault {k = k} opening fault = fault ≡ Keeper Damaged → k.clean (opening_keeper opening) → ¬ (IsSound (k.content (opening_keeper opening)))
+IsStartFault {k = k} opening fault = fault ≡ Keeper Damaged → k.clean (opening_keeper opening) → ¬ (IsSound (within (opening_most opening) (k.content (opening_keeper opening))))

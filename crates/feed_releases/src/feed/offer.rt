@@ -1,7 +1,7 @@
 //! The answer of a feed to an offer.
 ghost use Rattle.std.specs.Prelude.{◌≡◌, ◌≤◌, ◌<◌, None, length};
 ghost use Rattle.feed_model.specs.History.{Offered};
-ghost use Rattle.feed_model.specs.Reply.{max_file, max_held};
+ghost use Rattle.feed_model.specs.Reply.{max_file};
 ghost use Rattle.feed_model.specs.Content.{record_of};
 ghost use Rattle.feed_model.specs.Change.{insert_record, new_record};
 
@@ -11,14 +11,15 @@ use crate::release::Release;
 use crate::releases::{find, is_passed, place_for};
 use feed_kbart::BadFile;
 use feed_keep::{Change, Keep};
-use feed_limits::{FILE_LIMIT, RELEASE_LIMIT};
+use feed_limits::FILE_LIMIT;
 use feed_model::{Refusal, Reply};
 use feed_names::ReleaseName;
 
 impl<K: Keep> Feed<K> {
     ghost use Rattle.std.specs.Prelude.{◌⊎◌, Err, OnOk, OnErr, IfErr};
     ghost use Rattle.feed_keep.specs.Cause.{IsCounted};
-    ghost use Rattle.feed_releases.specs.Feeds.{IsAnsweredBy, keeper_of, recorded, releases_of};
+    ghost use Rattle.feed_releases.specs.Feeds.{IsAnsweredBy, keeper_of, most_of, releases_of};
+    ghost use Rattle.feed_releases.specs.ReleaseValue.{content_of};
 
     /// Answers an offer. The first case that holds decides.
     pub(crate) fn offer(&mut self, name: &ReleaseName, size: u64) -> Result<Reply, Refusal>
@@ -37,7 +38,7 @@ impl<K: Keep> Feed<K> {
                 Err(Refusal::WrongSize)
             };
         }
-        if self.releases.len() >= RELEASE_LIMIT {
+        if self.releases.len() >= self.most {
             return Err(Refusal::Full);
         }
         self.add(name, size)?;
@@ -50,11 +51,12 @@ impl<K: Keep> Feed<K> {
 
     // Records a release that is not recorded yet. Allocates before the commit only.
     fn add(&mut self, name: &ReleaseName, size: u64) -> Result<(), Refusal>
-        requires absent { record_of (recorded self.old) name.now ≡ None }
-        requires room { length (releases_of self.old) < max_held }
+        requires absent { record_of (content_of (releases_of self.old)) name.now ≡ None }
+        requires room { length (releases_of self.old) < most_of self.old }
         requires limit { size ≤ max_file }
-        ensures added { OnOk result (recorded self.new ≡ insert_record (new_record name.now size)
-            (recorded self.old)) }
+        ensures added { OnOk result (content_of (releases_of self.new) ≡ insert_record (new_record name.now size)
+            (content_of (releases_of self.old))) }
+        ensures room { most_of self.new ≡ most_of self.old }
         ensures same { OnErr result (releases_of self.new ≡ releases_of self.old) }
         ensures clean { K.clean (keeper_of self.new) → K.clean (keeper_of self.old) }
         ensures fault { IfErr result (λ fault. (fault ≡ Refusal.Memory) ⊎ (fault ≡ Refusal.Device)) }

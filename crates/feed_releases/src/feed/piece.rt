@@ -15,8 +15,8 @@ impl<K: Keep> Feed<K> {
     ghost use Rattle.feed_model.specs.History.{Piece};
     ghost use Rattle.feed_model.specs.Content.{Record, record_of};
     ghost use Rattle.feed_model.specs.Parts.{Reaches};
-    ghost use Rattle.feed_releases.specs.ReleaseValue.{IsPlaceOf, IsOverlapOf};
-    ghost use Rattle.feed_releases.specs.Feeds.{IsAnsweredBy, recorded, releases_of};
+    ghost use Rattle.feed_releases.specs.ReleaseValue.{IsPlaceOf, IsOverlapOf, content_of};
+    ghost use Rattle.feed_releases.specs.Feeds.{IsAnsweredBy, releases_of};
 
     /// Answers a piece. The first case that holds decides.
     pub(crate) fn piece(
@@ -62,9 +62,9 @@ impl<K: Keep> Feed<K> {
         bytes: &[u8],
     ) -> Result<Reply, Refusal>
         requires place { IsPlaceOf (releases_of self.old) name.now at }
-        requires reaches { (r : Record) → record_of (recorded self.old) name.now ≡ Some r
-            → Reaches (recorded self.old) name.now first total bytes.now r }
-        requires new { (r : Record) → record_of (recorded self.old) name.now ≡ Some r
+        requires reaches { (r : Record) → record_of (content_of (releases_of self.old)) name.now ≡ Some r
+            → Reaches (content_of (releases_of self.old)) name.now first total bytes.now r }
+        requires new { (r : Record) → record_of (content_of (releases_of self.old)) name.now ≡ Some r
             → IsOverlapOf r first bytes.now Overlap.New }
         ensures { IsAnsweredBy self.old self.new (Piece name.now first total bytes.now) result }
     {

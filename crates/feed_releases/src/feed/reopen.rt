@@ -3,9 +3,8 @@ ghost use Rattle.std.specs.Prelude.{◌≡◌, ◌↔◌, ◌⊎◌, ◌++◌, �
 ghost use Rattle.std.specs.List.{IsDistinct};
 ghost use Rattle.std.specs.Vec.Iter.{into_iter_items};
 ghost use Rattle.feed_names.specs.ReleaseName.{name_eq};
-ghost use Rattle.feed_model.specs.Content.{names};
+ghost use Rattle.feed_model.specs.Content.{names, within};
 ghost use Rattle.feed_model.specs.Handles.{HasLaterActive};
-ghost use Rattle.feed_model.specs.Reply.{max_held};
 ghost use Rattle.feed_model.specs.Sound.{IsSound, IsSoundRecord};
 ghost use Rattle.feed_keep.specs.Shown.{shown};
 ghost use Rattle.feed_releases.specs.ReleaseValue.{content_of};
@@ -15,7 +14,6 @@ ghost use Rattle.feed_releases.specs.ReopeningSteps.{IsNext, IsReopeningStep};
 use crate::release::{RecordCheck, RecordStep, Release};
 use crate::releases::is_passed;
 use feed_keep::Record;
-use feed_limits::RELEASE_LIMIT;
 use feed_model::KeepFault;
 use std::alloc::Global;
 use std::marker::Model;
@@ -28,6 +26,8 @@ pub(crate) struct Reopening {
     releases: Vec<Release>,
     current: Option<RecordCheck>,
     rest: IntoIter<Record, Global>,
+    // The most records that there may be.
+    most: usize,
 }
 
 impl Model for Reopening {
@@ -39,10 +39,11 @@ impl Model for Reopening {
 
     ghost view = { λ r. record {
       content = content_in r.releases.items r.current (into_iter_items r.rest);
+      most = r.most;
       left = left_in r.current (into_iter_items r.rest);
     } };
 
-    ghost invariant = { λ r. IsReopening r.releases.items (vec_capacity r.releases)
+    ghost invariant = { λ r. IsReopening r.most r.releases.items (vec_capacity r.releases)
         (content_in r.releases.items r.current (into_iter_items r.rest)) };
 }
 
@@ -56,14 +57,19 @@ pub(crate) enum ReopeningStep {
 }
 
 impl Reopening {
-    /// Returns the records before any check. The error is `Damaged` if there are too many.
-    pub(crate) fn of(alloc: Global, records: Vec<Record>) -> Result<Reopening, KeepFault>
+    /// Returns the records before any check. The error is `Damaged` if there are more than `most`.
+    pub(crate) fn of(
+        alloc: Global,
+        records: Vec<Record>,
+        most: usize,
+    ) -> Result<Reopening, KeepFault>
         requires distinct { IsDistinct name_eq (names (shown records.items)) }
         ensures content { IfOk result (λ reopening. reopening.content ≡ shown records.items) }
+        ensures most { IfOk result (λ reopening. reopening.most ≡ most) }
         ensures err { IfErr result (λ cause. (cause ≡ KeepFault.Memory)
-            ⊎ ((cause ≡ KeepFault.Damaged) × ¬ (IsSound (shown records.items)))) }
+            ⊎ ((cause ≡ KeepFault.Damaged) × ¬ (IsSound (within most (shown records.items))))) }
     {
-        if records.len() > RELEASE_LIMIT {
+        if records.len() > most {
             return Err(KeepFault::Damaged);
         }
         let Ok(releases) = Vec::with_capacity(alloc, records.len()) else {
@@ -73,19 +79,28 @@ impl Reopening {
             releases,
             current: None,
             rest: records.into_iter(),
+            most,
         })
+    }
+
+    /// Returns how many records there may be.
+    pub(crate) fn most(&self) -> usize
+        ensures { result ≡ self.now.most }
+    {
+        self.most
     }
 
     /// Checks a window of a file, or a record whose file is read at once.
     pub(crate) fn step(self, alloc: Global, in_steps: bool) -> Result<ReopeningStep, KeepFault>
         ensures ok { IfOk result (IsReopeningStep self) }
         ensures err { IfErr result (λ cause. (cause ≡ KeepFault.Memory)
-            ⊎ ((cause ≡ KeepFault.Damaged) × ¬ (IsSound self.content))) }
+            ⊎ ((cause ≡ KeepFault.Damaged) × ¬ (IsSound (within self.most self.content)))) }
     {
         let Reopening {
             mut releases,
             current,
             mut rest,
+            most,
         } = self;
         let check = match next_check(alloc, current, &mut rest, in_steps) {
             Ok(Some(check)) => check,
@@ -103,6 +118,7 @@ impl Reopening {
                 releases,
                 current: Some(check),
                 rest,
+                most,
             })),
             Ok(RecordStep::Done(release)) => {
                 releases.push_reserved(release);
@@ -110,6 +126,7 @@ impl Reopening {
                     releases,
                     current: None,
                     rest,
+                    most,
                 }))
             }
             Err(cause) => Err(cause),

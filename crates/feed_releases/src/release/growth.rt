@@ -2,7 +2,8 @@
 ghost use Rattle.std.specs.Prelude.{◌≡◌, ◌≤◌, ◌+◌, ℕ, List, length, IfOk, IfSome, OnOk, OnErr};
 ghost use Rattle.feed_model.specs.Reply.{max_piece, missing_below};
 ghost use Rattle.feed_model.specs.Content.{byte_in};
-ghost use Rattle.feed_model.specs.Change.{IsAllowed, merged};
+ghost use Rattle.feed_model.specs.Change.{IsAllowedWithin, merged};
+ghost use Rattle.feed_keep.specs.Capacity.{capacity_with};
 ghost use Rattle.feed_model.specs.Parts.{Adds, AgreesIn};
 ghost use Rattle.feed_releases.specs.Committed.{IsCommitted};
 ghost use Rattle.feed_releases.specs.ReleaseValue.{IsOverlapOf};
@@ -99,7 +100,8 @@ impl Release {
     pub(crate) fn grow<K: Keep>(&mut self, keeper: &mut K, growth: Growth) -> Result<Reply, Refusal>
         requires growth { (first : ℕ) × (bytes : List ℕ) × IsGrowth self.old.kept first bytes growth }
         requires listed { K.clean keeper.old → ∥ K.listed keeper.old ∥₁ }
-        requires allowed { K.clean keeper.old → IsAllowed (change_of self.old.kept growth) (K.content keeper.old) }
+        requires allowed { K.clean keeper.old
+            → IsAllowedWithin (capacity_with K.more) (change_of self.old.kept growth) (K.content keeper.old) }
         ensures reply { IfOk result (λ reply. reply ≡ reply_of growth.missing growth.standing) }
         ensures taken { OnOk result (self.new ≡ record {
           kept = record_after (parts_of growth) growth.standing self.old.kept;

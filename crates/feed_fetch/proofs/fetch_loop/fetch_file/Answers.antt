@@ -1,5 +1,5 @@
 use Rattle.std.proofs.Common.{IfErr, ◌+◌, ℕ, Ok, Err, sym, subst, arith}
-use Rattle.feed_releases.specs.ReleaseValue.{content_of}
+use Rattle.feed_releases.specs.Feeds.{recorded}
 use Rattle.feed_fetch.specs.declared.machine.Phase.{Phase}
 use Rattle.feed_fetch.specs.declared.machine.Phase.TheVariants.{Offered}
 use Rattle.feed_fetch.specs.declared.stop.Stop.TheVariants.{NoProgress}
@@ -13,14 +13,14 @@ use Rattle.feed_fetch.proofs.fetch_loop.fetch_file.Goals as goal
 pub rounds-init : goal.rounds-init
 rounds-init g c = record {
   running = λ e. let new = c.requires.new in cc;
-  extends = extends_none (IsFetchEvent g.D.Dial.responses c.args.host.now c.args.name.now) (λ k. Unit {0}) (content_of c.args.feed.now.releases.items) (λ h. tt);
-  fills = λ file serves fit. run_start c.args.name.now file c.args.fetch.piece c.args.fetch.phase (content_of c.args.feed.now.releases.items) c.requires.new;
+  extends = extends_none (IsFetchEvent g.D.Dial.responses c.args.host.now c.args.name.now) (λ k. Unit {0}) (recorded c.args.feed.now) (λ h. tt);
+  fills = λ file serves fit. run_start c.args.name.now file c.args.fetch.piece c.args.fetch.phase (recorded c.args.feed.now) c.requires.new;
 }
 
 pub returns-in_default-clause-gets : goal.returns-in_default-clause-gets
 returns-in_default-clause-gets g c file serves fit =
-    run_ends c.args.name.now file c.rounds.fetch.piece c.rounds.counter c.rounds.fetch.phase (content_of c.args.feed.now.releases.items)
-    (content_of c.rounds.feed.releases.items) c.rounds.fetch.least
+    run_ends c.args.name.now file c.rounds.fetch.piece c.rounds.counter c.rounds.fetch.phase (recorded c.args.feed.now)
+    (recorded c.rounds.feed) c.rounds.fetch.least
     c.in_default.ensures (c.rounds.invariant.fills file serves fit)
 
 pub returns-in_default-clause-done : goal.returns-in_default-clause-done
@@ -29,27 +29,27 @@ returns-in_default-clause-done g c h is =
 
 pub returns-in-Err-clause-extends : goal.returns-in-Err-clause-extends
 returns-in-Err-clause-extends g c =
-    extends_more (IsFetchEvent g.D.Dial.responses c.args.host.now c.args.name.now) (λ k. Unit {0}) (IsStoppedAt c.args.name.now c.in-Err.stop) (content_of c.args.feed.now.releases.items)
-    (content_of c.rounds.feed.releases.items)
-    (content_of c.take.new.feed.releases.items)
+    extends_more (IsFetchEvent g.D.Dial.responses c.args.host.now c.args.name.now) (λ k. Unit {0}) (IsStoppedAt c.args.name.now c.in-Err.stop) (recorded c.args.feed.now)
+    (recorded c.rounds.feed)
+    (recorded c.take.new.feed)
     c.rounds.invariant.extends
     (run_extends g.D.Dial.responses c.args.host.now c.args.name.now c.rounds.fetch.piece c.rounds.fetch.phase c.in-Ask.request c.send-reply.result (IsStoppedAt c.args.name.now c.in-Err.stop)
-    (content_of c.rounds.feed.releases.items) (content_of c.take.new.feed.releases.items) c.in-Ask.ensures c.send-reply.ensures.reply
-    (submitted_extends (IsStoppedAt c.args.name.now c.in-Err.stop) c.args.name.now c.rounds.fetch.phase c.send-reply.result (content_of c.rounds.feed.releases.items)
-    (content_of c.take.new.feed.releases.items) c.in-Err.ensures.owed))
+    (recorded c.rounds.feed) (recorded c.take.new.feed) c.in-Ask.ensures c.send-reply.ensures.reply
+    (submitted_extends (IsStoppedAt c.args.name.now c.in-Err.stop) c.args.name.now c.rounds.fetch.phase c.send-reply.result (recorded c.rounds.feed)
+    (recorded c.take.new.feed) c.in-Err.ensures.owed))
 
 pub returns-in-Err-clause-gets : goal.returns-in-Err-clause-gets
 returns-in-Err-clause-gets g c file serves fit =
     run_stops g.D.Dial.responses c.args.host.now c.args.name.now file c.rounds.fetch.piece c.rounds.counter c.rounds.fetch.phase c.in-Ask.request c.send-reply.result c.in-Err.stop
-    (content_of c.args.feed.now.releases.items) (content_of c.rounds.feed.releases.items) (content_of c.take.new.feed.releases.items)
+    (recorded c.args.feed.now) (recorded c.rounds.feed) (recorded c.take.new.feed)
     (record { serves = serves; hosted = c.requires.host; fit = fit; least = c.rounds.fetch.least; most = c.rounds.fetch.most }) c.in-Ask.ensures c.send-reply.ensures.reply
-    (taken_of c.args.name.now file c.rounds.fetch.piece c.rounds.fetch.phase c.send-reply.result (Err c.in-Err.stop) (content_of c.rounds.feed.releases.items)
-    (content_of c.take.new.feed.releases.items) fit c.in-Err.ensures.opens c.in-Err.ensures.fills)
+    (taken_of c.args.name.now file c.rounds.fetch.piece c.rounds.fetch.phase c.send-reply.result (Err c.in-Err.stop) (recorded c.rounds.feed)
+    (recorded c.take.new.feed) fit c.in-Err.ensures.opens c.in-Err.ensures.fills)
     (c.rounds.invariant.fills file serves fit)
 
 pub returns-clause-gets : goal.returns-clause-gets
 returns-clause-gets g c file serves fit =
-    run_counts c.args.name.now file c.rounds.fetch.piece c.rounds.counter c.rounds.fetch.phase (content_of c.args.feed.now.releases.items) (content_of c.rounds.feed.releases.items)
+    run_counts c.args.name.now file c.rounds.fetch.piece c.rounds.counter c.rounds.fetch.phase (recorded c.args.feed.now) (recorded c.rounds.feed)
     (Err NoProgress) fit
     c.rounds.fetch.least (omega arith) (c.rounds.invariant.fills file serves fit)
 
@@ -57,26 +57,26 @@ pub rounds-preserved : goal.rounds-preserved
 rounds-preserved g c = record {
   running = λ e. let offered = c.in_default-take.ensures.phase in cc;
   extends = extends_any (IsFetchEvent g.D.Dial.responses c.args.host.now c.args.name.now) (λ k. IfErr c.take.result (λ stop. IsStoppedAt c.args.name.now stop k))
-      (content_of c.args.feed.now.releases.items)
-      (content_of c.take.new.feed.releases.items)
+      (recorded c.args.feed.now)
+      (recorded c.take.new.feed)
       (extends_more (IsFetchEvent g.D.Dial.responses c.args.host.now c.args.name.now) (λ k. Unit {0}) (λ k. IfErr c.take.result (λ stop. IsStoppedAt c.args.name.now stop k))
-      (content_of c.args.feed.now.releases.items)
-      (content_of c.rounds.feed.releases.items) (content_of c.take.new.feed.releases.items) c.rounds.invariant.extends
+      (recorded c.args.feed.now)
+      (recorded c.rounds.feed) (recorded c.take.new.feed) c.rounds.invariant.extends
       (run_extends g.D.Dial.responses c.args.host.now c.args.name.now c.rounds.fetch.piece c.rounds.fetch.phase c.in-Ask.request c.send-reply.result (λ k. IfErr c.take.result
       (λ stop. IsStoppedAt c.args.name.now stop k))
-      (content_of c.rounds.feed.releases.items) (content_of c.take.new.feed.releases.items) c.in-Ask.ensures c.send-reply.ensures.reply
-      (submitted_extends (λ k. IfErr c.take.result (λ stop. IsStoppedAt c.args.name.now stop k)) c.args.name.now c.rounds.fetch.phase c.send-reply.result (content_of c.rounds.feed.releases.items)
-      (content_of c.take.new.feed.releases.items) c.take.ensures.owed)));
+      (recorded c.rounds.feed) (recorded c.take.new.feed) c.in-Ask.ensures c.send-reply.ensures.reply
+      (submitted_extends (λ k. IfErr c.take.result (λ stop. IsStoppedAt c.args.name.now stop k)) c.args.name.now c.rounds.fetch.phase c.send-reply.result (recorded c.rounds.feed)
+      (recorded c.take.new.feed) c.take.ensures.owed)));
   fills = λ file serves fit.
-      subst (λ (p : Phase). IsRun c.args.name.now file c.take.new.self.piece p (c.rounds.counter + 1) (content_of c.args.feed.now.releases.items) (content_of c.take.new.feed.releases.items))
+      subst (λ (p : Phase). IsRun c.args.name.now file c.take.new.self.piece p (c.rounds.counter + 1) (recorded c.args.feed.now) (recorded c.take.new.feed))
       (sym c.in_default-take.ensures.phase)
-      (subst (λ (piece : ℕ). IsRun c.args.name.now file piece Offered (c.rounds.counter + 1) (content_of c.args.feed.now.releases.items) (content_of c.take.new.feed.releases.items))
+      (subst (λ (piece : ℕ). IsRun c.args.name.now file piece Offered (c.rounds.counter + 1) (recorded c.args.feed.now) (recorded c.take.new.feed))
       (sym c.in_default-take.ensures.piece)
       (run_more g.D.Dial.responses c.args.host.now c.args.name.now file c.rounds.fetch.piece c.rounds.counter c.rounds.fetch.phase c.in-Ask.request c.send-reply.result
-      (content_of c.args.feed.now.releases.items)
-      (content_of c.rounds.feed.releases.items) (content_of c.take.new.feed.releases.items)
+      (recorded c.args.feed.now)
+      (recorded c.rounds.feed) (recorded c.take.new.feed)
       (record { serves = serves; hosted = c.requires.host; fit = fit; least = c.rounds.fetch.least; most = c.rounds.fetch.most }) c.in-Ask.ensures c.send-reply.ensures.reply
-      (taken_of c.args.name.now file c.rounds.fetch.piece c.rounds.fetch.phase c.send-reply.result (Ok tt) (content_of c.rounds.feed.releases.items) (content_of c.take.new.feed.releases.items) fit
+      (taken_of c.args.name.now file c.rounds.fetch.piece c.rounds.fetch.phase c.send-reply.result (Ok tt) (recorded c.rounds.feed) (recorded c.take.new.feed) fit
       c.in_default-take.ensures.opens c.in_default-take.ensures.fills)
       (c.rounds.invariant.fills file serves fit)));
 }

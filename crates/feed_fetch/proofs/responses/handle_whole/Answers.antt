@@ -1,7 +1,7 @@
 use Rattle.std.proofs.Common.{rules, ◌≡◌, ◌<◌, ◌⊎◌, length, true, false, Result, Err, Bool, sym, subst, arith, IfErr}
 use Rattle.std.specs.Prelude.{None, Ok}
 use Rattle.feed_http.specs.declared.fetching.got.Got.TheVariants.{Whole}
-use Rattle.feed_releases.specs.ReleaseValue.{content_of}
+use Rattle.feed_releases.specs.Feeds.{recorded}
 use Rattle.feed_fetch.specs.declared.machine.Phase.TheVariants.{Offered}
 use Rattle.feed_fetch.specs.declared.stop.Stop.{Stop}
 use Rattle.feed_fetch.specs.declared.stop.Stop.TheVariants.{Print}
@@ -13,13 +13,13 @@ use Rattle.feed_fetch.proofs.responses.handle_whole.Goals as goal
 pub returns-then-not-is_followed-clause-owed : goal.returns-then-not-is_followed-clause-owed
 returns-then-not-is_followed-clause-owed g c =
     let n = c.args.name.now in
-    let before = content_of c.args.feed.now.releases.items in
-    let after = content_of c.handle-answer.new.self.releases.items in
+    let before = recorded c.args.feed.now in
+    let after = recorded c.handle-answer.new.self in
     let lt : c.pieces.first < length c.args.bytes.now = search rules in
     let last : is_followed c.handle-answer.result ≡ false = search rules in
     let so : (c.report_answer.result ≡ response_or_stop c.handle-answer.result) ⊎ (c.report_answer.result ≡ Err Print) = answered_so c.report_answer.ensures.line in
     subst (λ (r : Result Bool Stop). IsSubmitted n Offered (Ok (Whole c.args.bytes.now)) (λ k. IfErr r (λ stop. IsStoppedAt n stop k)) before after) (sym c.add_news-taken.ensures)
-    (last_piece before (content_of c.pieces.feed.releases.items) after n c.args.bytes.now c.pieces.first c.min.result c.handle-answer.result c.pieces.taken c.report_answer.result lt c.min.ensures last
+    (last_piece before (recorded c.pieces.feed) after n c.args.bytes.now c.pieces.first c.min.result c.handle-answer.result c.pieces.taken c.report_answer.result lt c.min.ensures last
     c.pieces.invariant.printed so c.pieces.invariant.passed c.handle-answer.ensures.right)
 
 pub pieces-preserved : goal.pieces-preserved
@@ -29,7 +29,7 @@ pieces-preserved g c =
     let so : (c.report_answer.result ≡ response_or_stop c.handle-answer.result) ⊎ (c.report_answer.result ≡ Err Print) = answered_so c.report_answer.ensures.line in
     record {
       within = let count = c.min.ensures in omega (arith, count, lt);
-      passed = next_piece (content_of c.args.feed.now.releases.items) (content_of c.pieces.feed.releases.items) (content_of c.handle-answer.new.self.releases.items) c.args.name.now c.args.bytes.now
+      passed = next_piece (recorded c.args.feed.now) (recorded c.pieces.feed) (recorded c.handle-answer.new.self) c.args.name.now c.args.bytes.now
           c.pieces.first c.min.result c.handle-answer.result lt c.min.ensures followed c.pieces.invariant.passed c.handle-answer.ensures.right;
       printed = subst (λ (r : Result Bool Stop). IfErr r (λ stop. stop ≡ Print)) (sym c.add_news-taken.ensures)
           (news_printed c.handle-answer.result c.pieces.taken c.report_answer.result followed c.pieces.invariant.printed so);
@@ -40,5 +40,5 @@ pieces-preserved g c =
 
 pub returns-clause-owed : goal.returns-clause-owed
 returns-clause-owed g c =
-    all_pieces (content_of c.args.feed.now.releases.items) (content_of c.pieces.feed.releases.items) c.args.name.now c.args.bytes.now c.pieces.first c.pieces.taken (search rules)
+    all_pieces (recorded c.args.feed.now) (recorded c.pieces.feed) c.args.name.now c.args.bytes.now c.pieces.first c.pieces.taken (search rules)
     c.pieces.invariant.printed c.pieces.invariant.passed

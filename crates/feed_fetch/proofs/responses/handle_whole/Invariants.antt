@@ -1,5 +1,5 @@
 use Rattle.std.proofs.Common.{◌≡◌, ◌≤◌, ◌-◌, IfErr}
-use Rattle.feed_releases.specs.ReleaseValue.{content_of}
+use Rattle.feed_releases.specs.Feeds.{recorded}
 use Rattle.feed_fetch.specs.Answers.{HasCause}
 use Rattle.feed_fetch.specs.declared.stop.Stop.TheVariants.{Print}
 use Rattle.std.specs.Prelude.{None}
@@ -9,7 +9,7 @@ use Rattle.feed_fetch.proofs.responses.handle_whole.Given as goal
 abbrev pub invariant-pieces : goal.invariant-pieces
 invariant-pieces g l = record {
   within : l.first ≤ l.total;
-  passed : IsUnderWay l.name l.bytes l.first (content_of l.fn.feed.releases.items) (content_of l.feed.releases.items);
+  passed : IsUnderWay l.name l.bytes l.first (recorded l.fn.feed) (recorded l.feed);
   printed : IfErr l.taken (λ stop. stop ≡ Print);
   caused : IfErr l.taken (λ stop. HasCause (g.O.Observe.has_failed l.out) None stop);
 }

@@ -1,7 +1,7 @@
 use Rattle.std.proofs.Common.{◌≡◌, ◌⊎◌, ◌∙◌, IfErr, Ok, Result, ap, sym, subst}
 use Rattle.feed_http.specs.declared.fetching.got.Got.{Got}
 use Rattle.feed_http.specs.declared.fetching.got.Got.TheVariants.{Size}
-use Rattle.feed_releases.specs.ReleaseValue.{content_of}
+use Rattle.feed_releases.specs.Feeds.{recorded}
 use Rattle.feed_fetch.specs.declared.machine.Phase.TheVariants.{New}
 use Rattle.feed_fetch.specs.declared.stop.RequestFault.{RequestFault}
 use Rattle.feed_fetch.specs.declared.stop.Stop.{Stop}
@@ -17,8 +17,8 @@ use Rattle.feed_fetch.proofs.responses.take_length.Goals as goal
 pub returns-in-Size-clause-owed : goal.returns-in-Size-clause-owed
 returns-in-Size-clause-owed g c =
     let n = c.args.name.now in
-    let before = content_of c.args.feed.now.releases.items in
-    let after = content_of c.offer_size-offered.new.feed.releases.items in
+    let before = recorded c.args.feed.now in
+    let after = recorded c.offer_size-offered.new.feed in
     let reply : c.args.reply.now ≡ Ok (Size c.in-Size.size) = c.in-Ok.is ∙ ap (λ (given : Got). Ok given) c.in-Size.is in
     let right = offer_reported before after n c.in-Ok.got c.in-Size.size (λ stop. (stop ≡ Missing) ⊎ (stop ≡ NoProgress)) c.report_size-reported.result c.offer_size-offered.result c.in-Size.is
     c.report_size-reported.ensures.stops c.offer_size-offered.ensures.right in
@@ -30,8 +30,8 @@ returns-in-Size-clause-owed g c =
 pub returns-in-Size-clause-opens : goal.returns-in-Size-clause-opens
 returns-in-Size-clause-opens g c file has fit =
     let n = c.args.name.now in
-    let before = content_of c.args.feed.now.releases.items in
-    let after = content_of c.offer_size-offered.new.feed.releases.items in
+    let before = recorded c.args.feed.now in
+    let after = recorded c.offer_size-offered.new.feed in
     let right = offer_reported before after n c.in-Ok.got c.in-Size.size (λ stop. (stop ≡ Missing) ⊎ (stop ≡ NoProgress)) c.report_size-reported.result c.offer_size-offered.result c.in-Size.is
     c.report_size-reported.ensures.stops c.offer_size-offered.ensures.right in
     subst (λ (r : Result (Unit {0}) Stop). IsOpened n file r before after) (sym c.first_stop.ensures)
@@ -39,14 +39,14 @@ returns-in-Size-clause-opens g c file has fit =
 
 pub returns-in-Err-clause-owed : goal.returns-in-Err-clause-owed
 returns-in-Err-clause-owed g c =
-    let before = content_of c.args.feed.now.releases.items in
-    let after = content_of c.report_loss.new.feed.releases.items in
+    let before = recorded c.args.feed.now in
+    let after = recorded c.report_loss.new.feed in
     subst (λ (reply : Result Got RequestFault). IsSubmitted c.args.name.now New reply (IsStoppedAt c.args.name.now c.report_loss.result) before after) (sym c.in-Err.is)
     (lost_submitted c.args.name.now New before after c.report_loss.result c.in-Err.why (λ e. cc (e)) c.report_loss.ensures.owed)
 
 pub returns-in-Err-clause-opens : goal.returns-in-Err-clause-opens
 returns-in-Err-clause-opens g c file has fit =
-    loss_opens (content_of c.args.feed.now.releases.items) (content_of c.report_loss.new.feed.releases.items) c.args.name.now file New c.in-Err.why c.report_loss.result
+    loss_opens (recorded c.args.feed.now) (recorded c.report_loss.new.feed) c.args.name.now file New c.in-Err.why c.report_loss.result
     (subst (HasLength file) c.in-Err.is has) (c.report_loss.ensures.owed New (λ e. cc (e)))
 
 pub returns-in-Err-clause-caused : goal.returns-in-Err-clause-caused

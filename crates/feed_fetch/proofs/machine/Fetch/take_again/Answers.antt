@@ -2,7 +2,7 @@ use Rattle.std.proofs.Common.{rules, ◌≡◌, Ok, Result, refl, sym, subst}
 use Rattle.std.specs.Prelude.{IfErr}
 use Rattle.feed_http.specs.declared.fetching.got.Got.{Got}
 use Rattle.feed_http.specs.declared.fetching.got.Got.TheVariants.{Piece}
-use Rattle.feed_releases.specs.ReleaseValue.{content_of}
+use Rattle.feed_releases.specs.Feeds.{recorded}
 use Rattle.feed_fetch.specs.declared.stop.RequestFault.{RequestFault}
 use Rattle.feed_fetch.specs.declared.stop.Stop.{Stop}
 use Rattle.feed_fetch.specs.declared.machine.Phase.{Phase}
@@ -19,8 +19,8 @@ returns-in-Offered-Ok-Piece-clause-owed g c =
     let i = c.in-Offered-Ok-Piece in
     let n = c.args.name.now in
     let given = Piece i.first i.total i.bytes in
-    let before = content_of c.args.feed.now.releases.items in
-    let after = content_of c.handle_piece-taken.new.feed.releases.items in
+    let before = recorded c.args.feed.now in
+    let after = recorded c.handle_piece-taken.new.feed in
     let phase : c.args.self.now.phase ≡ Offered = search rules in
     let reply : c.args.reply.now ≡ Ok given = search rules in
     let right = piece_as_given before after n i.first i.first i.total i.total i.bytes i.bytes c.as_slice.result.now c.handle_piece-taken.result refl c.as_slice.ensures

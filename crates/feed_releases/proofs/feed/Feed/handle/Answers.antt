@@ -11,4 +11,4 @@ pub returns-in-Piece : goal.returns-in-Piece
 returns-in-Piece g c = rw c.in-Piece.is c.piece.ensures
 
 pub returns-in-Lost : goal.returns-in-Lost
-returns-in-Lost g c = idle c.args.self.now c.args.self.now _ _ refl refl (λ e. cc) (λ e. cc) (rw c.in-Lost.is (loss (content_of c.args.self.now.releases.items) _))
+returns-in-Lost g c = idle c.args.self.now c.args.self.now _ _ refl refl refl (λ e. cc) (λ e. cc) (rw c.in-Lost.is (loss (content_of c.args.self.now.releases.items) _))

@@ -11,7 +11,7 @@ use Rattle.feed_releases.proofs.feed.Feed.piece.Goals as goal
 use Rattle.feed_releases.proofs.feed.Feed.piece.Goals.{then-first-size-via-then-first-size, then-first-size-via-else-first-size+then-bytes-size}
 
 pub returns-then-is_passed : goal.returns-then-is_passed
-returns-then-is_passed g c = idle c.args.self.now c.args.self.now _ _ refl refl (λ e. cc) (λ e. cc) (λ h is. (
+returns-then-is_passed g c = idle c.args.self.now c.args.self.now _ _ refl refl refl (λ e. cc) (λ e. cc) (λ h is. (
     let rs = c.args.self.now.releases.items in
     let later = rw c.deref.ensures.value at (c.if-is_passed.ensures.later refl) in
     piece_older (content_of rs) c.args.name.now c.args.first c.args.total c.args.bytes.now (small c.args.bytes.now c.if-is_empty.ensures c.if-bytes-gt-PIECE_LIMIT.false)
@@ -22,7 +22,7 @@ returns-in_default g c =
     let rs = c.args.self.now.releases.items in
     let free = none_later rs c.args.name.now (rw c.deref.ensures.value at (c.if-is_passed.ensures.none refl)) in
     let none = rw c.deref-2.ensures.value at c.in_default.ensures.none in
-    idle c.args.self.now c.args.self.now _ _ refl refl (λ e. cc) (λ e. cc) (piece_unknown (content_of rs) c.args.name.now c.args.first c.args.total c.args.bytes.now
+    idle c.args.self.now c.args.self.now _ _ refl refl refl (λ e. cc) (λ e. cc) (piece_unknown (content_of rs) c.args.name.now c.args.first c.args.total c.args.bytes.now
     (small c.args.bytes.now c.if-is_empty.ensures c.if-bytes-gt-PIECE_LIMIT.false) free none)
 
 pub returns-then-unwrap_or-size : goal.returns-then-unwrap_or-size
@@ -32,7 +32,7 @@ returns-then-unwrap_or-size g c =
     let r = c.index-release.result.now in
     let found = found_here rs c.args.name.now c.in-Some.at r (rw c.deref-2.ensures.value at c.in-Some.ensures.found) c.index-release.ensures in
     let other = rw c.size-size.ensures.value at (other_size c.args.total c.size-size.result (rw c.unwrap_or.ensures at c.if-unwrap_or-size.true)) in
-    idle c.args.self.now c.args.self.now _ _ refl refl (λ e. cc) (λ e. cc) (piece_wrong_size (content_of rs) c.args.name.now c.args.first c.args.total c.args.bytes.now r.kept
+    idle c.args.self.now c.args.self.now _ _ refl refl refl (λ e. cc) (λ e. cc) (piece_wrong_size (content_of rs) c.args.name.now c.args.first c.args.total c.args.bytes.now r.kept
     (small c.args.bytes.now c.if-is_empty.ensures c.if-bytes-gt-PIECE_LIMIT.false) free found other)
 
 pub returns-then-first-size : goal.returns-then-first-size
@@ -46,7 +46,7 @@ returns-then-first-size g c =
       | then-first-size-via-then-first-size w ↦ omega (arith, w.if-first-size.true)
       | then-first-size-via-else-first-size+then-bytes-size w ↦ omega (arith, w.if-first-size.false, w.if-bytes-size.true)
     ] in
-    idle c.args.self.now c.args.self.now _ _ refl refl (λ e. cc) (λ e. cc) (piece_outside (content_of rs) c.args.name.now c.args.first c.args.total c.args.bytes.now r.kept
+    idle c.args.self.now c.args.self.now _ _ refl refl refl (λ e. cc) (λ e. cc) (piece_outside (content_of rs) c.args.name.now c.args.first c.args.total c.args.bytes.now r.kept
     (small c.args.bytes.now c.if-is_empty.ensures c.if-bytes-gt-PIECE_LIMIT.false) free found same
     (omega (arith, past, c.size-size.ensures.value)))
 
@@ -74,7 +74,7 @@ returns-in-Conflict g c =
     let reach = reaches c.args.self.now.releases.items c.args.name.now c.in-Some.at r c.args.first c.args.total c.args.bytes.now c.size-size.result free
     (rw c.deref-2.ensures.value at c.in-Some.ensures.found) c.index-release.ensures (small c.args.bytes.now c.if-is_empty.ensures c.if-bytes-gt-PIECE_LIMIT.false)
     (rw c.unwrap_or.ensures at c.if-unwrap_or-size.false) c.size-size.ensures.value (omega (arith, c.if-first-size.false, c.if-bytes-size.false)) in
-    idle c.args.self.now c.args.self.now _ _ refl refl (λ e. cc) (λ e. cc)
+    idle c.args.self.now c.args.self.now _ _ refl refl refl (λ e. cc) (λ e. cc)
     (piece_conflict (content_of c.args.self.now.releases.items) c.args.name.now c.args.first c.args.total c.args.bytes.now r.kept reach c.in-Conflict.ensures)
 
 pub returns-in-Kept : goal.returns-in-Kept
@@ -84,5 +84,5 @@ returns-in-Kept g c =
     let reach = reaches c.args.self.now.releases.items c.args.name.now c.in-Some.at r c.args.first c.args.total c.args.bytes.now c.size-size.result free
     (rw c.deref-2.ensures.value at c.in-Some.ensures.found) c.index-release.ensures (small c.args.bytes.now c.if-is_empty.ensures c.if-bytes-gt-PIECE_LIMIT.false)
     (rw c.unwrap_or.ensures at c.if-unwrap_or-size.false) c.size-size.ensures.value (omega (arith, c.if-first-size.false, c.if-bytes-size.false)) in
-    idle c.args.self.now c.args.self.now _ _ refl refl (λ e. cc) (λ e. cc) (piece_repeated
+    idle c.args.self.now c.args.self.now _ _ refl refl refl (λ e. cc) (λ e. cc) (piece_repeated
     (content_of c.args.self.now.releases.items) c.args.name.now c.args.first c.args.total c.args.bytes.now r.kept reach c.in-Kept.ensures.0 c.in-Kept.ensures.1)

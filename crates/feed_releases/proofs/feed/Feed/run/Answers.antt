@@ -1,4 +1,5 @@
 use Rattle.std.proofs.Common.{◌∙◌, arith}
+use Rattle.feed_model.specs.Content.{within}
 use Rattle.feed_model.proofs.Runs.{run_more}
 use Rattle.feed_releases.specs.Events.{event_of}
 use Rattle.feed_releases.specs.ReleaseValue.{content_of}
@@ -7,8 +8,9 @@ use Rattle.feed_releases.proofs.feed.Feed.run.Goals as goal
 
 pub loop-event-preserved : goal.loop-event-preserved
 loop-event-preserved g c = record {
-  stands = run_more event_of _ (content_of c.loop-event.self.releases.items)
-      (content_of c.handle.new.self.releases.items) c.args.events.now c.loop-event.event-index c.event-item.result c.loop-event.answers.items c.push_reserved.new.self.items c.handle.result
+  stands = run_more event_of _ (within c.loop-event.self.most (content_of c.loop-event.self.releases.items))
+      (within c.handle.new.self.most (content_of c.handle.new.self.releases.items))
+      c.args.events.now c.loop-event.event-index c.event-item.result c.loop-event.answers.items c.push_reserved.new.self.items c.handle.result
       c.loop-event-test.true c.event-item.is c.push_reserved.ensures.items c.loop-event.invariant.stands c.handle.ensures.right;
   count = omega (arith, c.push_reserved.ensures.len, c.loop-event.invariant.count);
   room = omega (arith, c.push_reserved.ensures.capacity, c.loop-event.invariant.room);

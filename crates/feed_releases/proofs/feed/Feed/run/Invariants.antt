@@ -1,6 +1,7 @@
 use Rattle.std.proofs.Common.{◌≡◌, ◌≤◌, Err, take, map, length, vec_len, vec_capacity}
 use Rattle.std.specs.List.{Contains}
 use Rattle.feed_model.specs.declared.reply.Refusal.TheVariants.{Device}
+use Rattle.feed_model.specs.Content.{within}
 use Rattle.feed_model.specs.Handles.{Runs}
 use Rattle.feed_releases.specs.Events.{event_of}
 use Rattle.feed_keep.specs.Cause.{HasFailedSince}
@@ -10,7 +11,7 @@ use Rattle.feed_releases.proofs.feed.Feed.run.Given as goal
 -- each answer is right after those before it, and there is room for the rest
 abbrev pub invariant-loop-event : goal.invariant-loop-event
 invariant-loop-event g l = record {
-  stands : Runs (content_of l.fn.self.releases.items) (map event_of (take l.event-index l.events)) l.answers.items (content_of l.self.releases.items);
+  stands : Runs (within l.fn.self.most (content_of l.fn.self.releases.items)) (map event_of (take l.event-index l.events)) l.answers.items (within l.self.most (content_of l.self.releases.items));
   count : vec_len l.answers ≡ l.event-index;
   room : length l.events ≤ vec_capacity l.answers;
   clean : g.K.Keep.clean l.self.keeper → g.K.Keep.clean l.fn.self.keeper;

@@ -37,7 +37,7 @@ returns-in_err-growth g c =
     let lies = c.requires.new r.kept found in
     let p = err_from_is_err_and c.from_residual.result c.from_residual.ensures.1 in
     let memory = only_memory _ c.in_err-growth.ensures.refused in
-    rw (p.1, p.2, memory) (idle c.args.self.now _ _ _ refl refl memory_not (λ e. absurd (memory_not_full e))
+    rw (p.1, p.2, memory) (idle c.args.self.now _ _ _ refl refl refl memory_not (λ e. absurd (memory_not_full e))
     (piece_refused (content_of rs) n c.args.first c.args.total c.args.bytes.now r.kept _ reach lies.0 lies.1 (inl refl)))
 
 pub grow-requires-clause-allowed : goal.grow-requires-clause-allowed
@@ -47,7 +47,7 @@ grow-requires-clause-allowed g c =
     let r = c.index_mut.result.now in
     let found = found_here rs n c.args.at r c.requires.place c.index_mut.ensures.value in
     let same = one_at rs c.args.at c.index.result.now r c.requires.place.within c.index.ensures c.index_mut.ensures.value in
-    λ clean. rw (c.args.self.now.mirrors clean) (growth_allowed (content_of rs) n c.args.first c.args.total c.args.bytes.now r.kept c.in_ok-growth.growth
+    λ clean. rw (c.args.self.now.mirrors clean) (growth_allowed _ (content_of rs) n c.args.first c.args.total c.args.bytes.now r.kept c.in_ok-growth.growth
     (name_at rs n c.args.at r c.requires.place c.index_mut.ensures.value)
     (c.requires.reaches r.kept found) (c.requires.new r.kept found) (rw same at c.in_ok-growth.ensures.growth))
 
@@ -61,7 +61,7 @@ returns-in_err-reply g c =
     let lies = c.requires.new r.kept found in
     let back = set_back rs c.args.at r c.grow.new.self c.index_mut.ensures.value c.in_err-reply.ensures.same in
     let p = err_from_is_err_and c.from_residual-in_err-reply.result c.from_residual-in_err-reply.ensures.1 in
-    rw (p.1, p.2) (refused_with c.args.self.now _ _ c.in_err-reply.field-0.0 back c.in_err-reply.ensures.committed.was
+    rw (p.1, p.2) (refused_with c.args.self.now _ _ c.in_err-reply.field-0.0 back refl c.in_err-reply.ensures.committed.was
     (reported_as c.in_err-reply.ensures.committed.counted (λ e. cc) (λ e. cc)) c.in_err-reply.ensures.committed.unloaded c.in_err-reply.ensures.committed.fault
     (piece_refused (content_of rs) n c.args.first c.args.total c.args.bytes.now r.kept _ reach lies.0 lies.1 (refused c.in_err-reply.field-0.0 c.in_err-reply.ensures.committed.fault)))
 
@@ -91,7 +91,7 @@ returns-in-Activated g c =
     let growth = c.in_ok-growth.growth in
     let content = taken_activated c.args.self.now.releases.items c.drop_earlier.new.releases.items c.args.name.now c.args.at c.index_mut.result.now c.grow.new.self growth _
     c.requires.place c.index_mut.ensures.value (ap (λ (y : ReleaseValue). y.kept) c.in_ok-reply.ensures.taken) c.in_ok-reply.ensures.reply c.in-Activated.is c.drop_earlier.ensures.dropped in
-    rw c.in_ok-reply.ensures.reply (taken_in c.args.self.now _ _ _ c.in_ok-reply.ensures.committed.was (reported_as c.in_ok-reply.ensures.committed.counted (λ e. cc) (λ e. cc))
+    rw c.in_ok-reply.ensures.reply (taken_in c.args.self.now _ _ _ refl c.in_ok-reply.ensures.committed.was (reported_as c.in_ok-reply.ensures.committed.counted (λ e. cc) (λ e. cc))
     c.in_ok-reply.ensures.committed.unloaded (grown_commits growth.missing growth.standing)
     (grown_right c.args.self.now.releases.items _ c.args.name.now c.args.at c.args.first c.args.total c.args.bytes.now c.index.result.now c.index_mut.result.now growth c.requires.place c.index.ensures
     c.index_mut.ensures.value c.requires.reaches c.requires.new c.in_ok-growth.ensures.growth content))
@@ -101,7 +101,7 @@ returns-in_default g c =
     let growth = c.in_ok-growth.growth in
     let content = taken_kept c.args.self.now.releases.items c.args.name.now c.args.at c.index_mut.result.now c.grow.new.self growth _
     c.requires.place c.index_mut.ensures.value (ap (λ (y : ReleaseValue). y.kept) c.in_ok-reply.ensures.taken) c.in_ok-reply.ensures.reply c.in_default.not-Activated in
-    rw c.in_ok-reply.ensures.reply (taken_in c.args.self.now _ _ _ c.in_ok-reply.ensures.committed.was (reported_as c.in_ok-reply.ensures.committed.counted (λ e. cc) (λ e. cc))
+    rw c.in_ok-reply.ensures.reply (taken_in c.args.self.now _ _ _ refl c.in_ok-reply.ensures.committed.was (reported_as c.in_ok-reply.ensures.committed.counted (λ e. cc) (λ e. cc))
     c.in_ok-reply.ensures.committed.unloaded (grown_commits growth.missing growth.standing)
     (grown_right c.args.self.now.releases.items _ c.args.name.now c.args.at c.args.first c.args.total c.args.bytes.now c.index.result.now c.index_mut.result.now growth c.requires.place c.index.ensures
     c.index_mut.ensures.value c.requires.reaches c.requires.new c.in_ok-growth.ensures.growth content))
