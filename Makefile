@@ -10,8 +10,10 @@ OUT = out
 
 SOURCES = crates.txt $(shell find crates -name out -prune -o \( -name '*.rt' -o -name '*.antt' \) -print)
 DOC = share/doc/kbfeed
-PAGES = README.md CHANGELOG.md LICENSE SECURITY.md $(wildcard docs/*.md docs/*.svg docs/*.png samples/*.script samples/*.transcript \
-	samples/lists/* samples/fleet/* samples/vendor/* samples/discovery/*)
+PAGES = README.md CHANGELOG.md LICENSE SECURITY.md $(wildcard docs/*.md docs/*/*.md docs/*/*.svg docs/*/*.png samples/*.script \
+	samples/*.transcript samples/lists/* samples/fleet/* samples/vendor/*)
+# The folders of the pages, each before the one that it is in.
+FOLDERS = samples/lists samples/fleet samples/vendor samples docs/using docs/formats docs/proofs docs/developing docs
 # The scripts to install as programs, each with its place below PREFIX.
 SCRIPTS = samples/fleet/feed:bin/kbfeed-feed samples/fleet/node-restart:bin/kbfeed-node-restart \
 	tools/statistics:bin/kbfeed-statistics tools/convert/kbfeed-convert:bin/kbfeed-convert \
@@ -116,7 +118,7 @@ uninstall:
 	@for place in bin/kbfeed $(foreach file,$(SCRIPTS) $(UNITS) $(DATA),$(lastword $(subst :, ,$(file)))); do \
 		rm -f "$(INTO)/$$place" || exit; \
 	done
-	@for folder in $(foreach folder,samples/lists samples/fleet samples/vendor samples/discovery samples docs,$(DOC)/$(folder)) $(DOC) \
+	@for folder in $(foreach folder,$(FOLDERS),$(DOC)/$(folder)) $(DOC) \
 		share/kbfeed/kbfeed_convert share/kbfeed/kbfeed_collect share/kbfeed; do rmdir "$(INTO)/$$folder" 2> /dev/null; done; true
 
 deb: $(PROGRAM)

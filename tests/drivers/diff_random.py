@@ -3,10 +3,11 @@
 
 diff_random.py PAIRS SEED
 
-Each pair is written as two files in the current folder. The plain program reads them by the rules of docs/KBART.md and
-pairs their rows by search. It has to agree with `kbfeed diff --json` on every member of the object, and on the status
-with random bounds. Prints each pair that differs, and then the number of pairs. Fails if a pair differs, or if fewer
-than one in ten of the pairs has removed, changed and added rows, rows paired by URL, and equal rows."""
+Each pair is written as two files in the current folder. The plain program reads them by the rules of
+docs/formats/KBART.md and pairs their rows by search. It has to agree with `kbfeed diff --json` on every member of the
+object, and on the status with random bounds. Prints each pair that differs, and then the number of pairs. Fails if a
+pair differs, or if fewer than one in ten of the pairs has removed, changed and added rows, rows paired by URL, and
+equal rows."""
 import calendar
 import datetime
 import json

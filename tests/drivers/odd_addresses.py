@@ -7,9 +7,9 @@ odd_addresses.py some FILE ADDRESS.. writes a list with these addresses, one for
 odd_addresses.py show ADDR ADDRESS.. asks a node with that list, and Chromium, and prints a line for each address
 odd_addresses.py texts FILE..        counts the addresses of lists that are none by the rule
 
-Each address that a page links to has to be one by the rule of docs/RESOLVER.md, which this program has once more in its
-own words, and no other address may be. The host that the page shows has to be the host name of Chromium, and so has the
-one in JSON; and Chromium has to find no user in it."""
+Each address that a page links to has to be one by the rule of docs/using/LIBRARIES.md, which this program has once more
+in its own words, and no other address may be. The host that the page shows has to be the host name of Chromium, and so
+has the one in JSON; and Chromium has to find no user in it."""
 import html
 import ipaddress
 import json
@@ -86,7 +86,7 @@ def is_ip(text, kind):
 
 
 def is_address(text):
-    """The rule of docs/RESOLVER.md."""
+    """The rule of docs/using/LIBRARIES.md."""
     parts = re.fullmatch(r"(?i:https?)://(\[[^\[\]/?#@]*\]|[^\[\]/?#@:]*)(?::([0-9]*))?(?:[/?#].*)?", text)
     if parts is None or not re.fullmatch(r"[!-~]{1,8000}", text) or "\\" in text:
         return False

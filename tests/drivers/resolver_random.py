@@ -2,11 +2,11 @@
 
 resolver_random.py [--cases N] [--seed N]
 
-The model is written from docs/RESOLVER.md, docs/KBART.md and docs/OPENURL.md alone. It goes through all rows of all
-lists for each request. Each world has up to three packages with a few rows, a site file or none, and a day; it gets
-twenty requests. In some worlds a list has about as many rows of one ISSN as a query looks at. Compared are the status,
-the address of a redirect, the whole text, the hits and `also` of JSON with most members, the links of a page, in their
-order, and how many hits are left out. `test_http` gives the replies."""
+The model is written from docs/formats/RESOLVER.md, KBART.md and OPENURL.md beside it, and docs/using/LIBRARIES.md
+alone. It goes through all rows of all lists for each request. Each world has up to three packages with a few rows, a
+site file or none, and a day; it gets twenty requests. In some worlds a list has about as many rows of one ISSN as a
+query looks at. Compared are the status, the address of a redirect, the whole text, the hits and `also` of JSON with
+most members, the links of a page, in their order, and how many hits are left out. `test_http` gives the replies."""
 import argparse
 import calendar
 import datetime

@@ -1,4 +1,4 @@
-"""What the proved reader takes from a list, rule by rule (docs/KBART.md). Nothing here mends anything.
+"""What the proved reader takes from a list, rule by rule (docs/formats/KBART.md). Nothing here mends anything.
 
 A row is written only if these rules read it, so `kbfeed check` skips no row of the output. A test compares them with
 the proved reader on random lists."""
