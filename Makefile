@@ -11,9 +11,10 @@ OUT = out
 SOURCES = crates.txt $(shell find crates -name out -prune -o \( -name '*.rt' -o -name '*.antt' \) -print)
 DOC = share/doc/kbfeed
 PAGES = README.md CHANGELOG.md LICENSE SECURITY.md $(wildcard docs/*.md docs/*/*.md docs/*/*.svg docs/*/*.png samples/*.script \
-	samples/*.transcript samples/lists/* samples/fleet/* samples/vendor/*)
+	samples/*.transcript samples/lists/* samples/fleet/* samples/vendor/* samples/discovery/*)
 # The folders of the pages, each before the one that it is in.
-FOLDERS = samples/lists samples/fleet samples/vendor samples docs/using docs/formats docs/proofs docs/developing docs
+FOLDERS = samples/lists samples/fleet samples/vendor samples/discovery samples docs/using docs/formats docs/proofs \
+	docs/developing docs
 # The scripts to install as programs, each with its place below PREFIX.
 SCRIPTS = samples/fleet/feed:bin/kbfeed-feed samples/fleet/node-restart:bin/kbfeed-node-restart \
 	tools/statistics:bin/kbfeed-statistics tools/convert/kbfeed-convert:bin/kbfeed-convert \

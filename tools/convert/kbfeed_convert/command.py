@@ -19,7 +19,7 @@ The status is 0 if the list was written, 1 if it is refused, or with --strict if
 arguments, and 3 if a file cannot be read or written."""
 # The records by which the column of titles is guessed.
 SAMPLE = 50
-# The labels whose absence is worth a warning. Identifiers need none: without them there is no row.
+# The labels whose absence is worth a warning. Identifiers need none: a record without them is dropped.
 EXPECTED = ("publication_title", "title_url")
 
 

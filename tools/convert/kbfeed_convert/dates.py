@@ -36,7 +36,7 @@ MONTHS = words("months")
 TO = sorted(TABLES["dates"]["to"], key=len, reverse=True)
 TO_APART = "|".join(re.escape(it) for it in TO if it < "\u0250")
 TO_BESIDE = "|".join(it for it in TO if it >= "\u0250")
-# What is between the two dates of a range. Words of scripts without spaces may touch others.
+# The text between the two dates of a range. Words of scripts without spaces may touch others.
 RANGE = re.compile(rf"\s*(?:-+|[~〜～]|(?<![^\W\d])(?:{TO_APART})(?![^\W\d])|{TO_BESIDE})\s*", re.I)
 # The rest of a date behind its year, whose hyphens do not connect two dates.
 REST = re.compile(r"-[0-9]{1,2}-[0-9]{1,2}(?![0-9])|-(?:0?[1-9]|1[0-2])(?=\s*(?:[-~〜～]|$|\s))")

@@ -10,7 +10,7 @@ from .faults import Refused
 
 PREFIX = ".kbfeed-convert-"
 CHUNK = 1 << 20
-# What a file system without hard links says.
+# The errors of a file system without hard links.
 NO_LINKS = (errno.EPERM, errno.ENOTSUP, errno.ENOSYS, errno.EMLINK)
 
 

@@ -12,7 +12,7 @@ from .texts import folded, words
 AHEAD = datetime.timedelta(days=31)
 LONGEST = 100
 ENDINGS = re.compile(r"(\.(txt|tsv|tab|csv|xlsx|xlsm|xls|gz|zip|kbart|text|dat))+$", re.I)
-# What programs add to the name of a copy.
+# The text that programs add to the name of a copy.
 COPY = re.compile(r"(\s*\(\d+\)|\s*[-_ ](copy|kopie|copie|copia|final|utf-?8))+$", re.I)
 YEAR = "((?:19|20)[0-9]{2})"
 DAY = re.compile(rf"(?<![0-9]){YEAR}([-_. ]?)([01][0-9])\2([0-3][0-9])(?![0-9])")
@@ -29,7 +29,7 @@ def dated(stem: str) -> tuple[str, str]:
     """Returns the package and the day in a file's name. A month is its first day, and a year alone is no date."""
     days = [it for it in DAY.finditer(stem) if strict.date(f"{it[1]}-{it[3]}-{it[4]}")]
     if days:
-        # Of a period the last day counts, and what is before the first one.
+        # The last day of a period counts, and the text before its first one.
         return around(stem, days[0]), f"{days[-1][1]}-{days[-1][3]}-{days[-1][4]}"
     for found in DAY_FIRST.finditer(stem):
         low, high = sorted((int(found[1]), int(found[2])))

@@ -132,7 +132,7 @@ class Converter:
         if len(pairs) * len(ranges) > MOST_ROWS:
             draft.changes.append(Change("coverage", "", "", f"only {MOST_ROWS} rows of a record are made"))
         for pair, (at, days) in itertools.islice(itertools.product(pairs, enumerate(ranges)), MOST_ROWS):
-            # Of a coverage with gaps, the volumes at its two ends are known.
+            # The volumes at the two ends of a coverage with gaps are known.
             ends = at == 0, at == len(ranges) - 1
             row, found = self.row(draft, kind, pair, days, ends, bool(rows))
             if isinstance(found, str):

@@ -26,7 +26,7 @@ def decoded_again(text: str) -> str:
 
 def clean(text: str) -> str:
     """Returns a text without control characters and characters that nobody sees."""
-    # Each of these characters is not printable, which is faster to ask.
+    # No such character is printable, and that is faster to test.
     if text.isprintable() or not UNSAFE.search(text):
         return text
     return text.translate(C1).translate({**CONTROL, **INVISIBLE, **SPACES})
