@@ -2,8 +2,7 @@
 use Rattle.std.proofs.Common.{◌≡◌, ◌≢◌, ◌<◌, ◌⊎◌, ℕ, zero, suc, List, [], ◌∷◌, length, get_or, Option, Some, None, true, false}
 use Rattle.std.proofs.Common.{Ordering, Less, Equal, Greater, is_lt, refl, sym, ap, ap₂, ◌∙◌, subst, arith, inl, inr}
 use Rattle.std.specs.Prelude.{All}
-use Rattle.std.specs.Cmp.{IsTotalOrder}
-use Rattle.std.specs.Cmp.Lexicographic.{bytes_decides, on_texts}
+use Rattle.std.specs.Cmp.Lexicographic.{bytes_decides}
 use Rattle.std.specs.Ordering.{is_eq, ordering_reverse}
 use Rattle.std.specs.List.{filter_map, AllByRecursion, IsDistinct}
 use Rattle.std.specs.List.Sorted.{IsStrictlySortedBy}
@@ -26,6 +25,7 @@ use Rattle.feed_releases.specs.Actives.{ActiveValue, active_of, actives_of, pack
 use Rattle.feed_releases.specs.Actives.{HasActive, IsReported, AreReported, names_of, ReportAlike}
 use Rattle.feed_releases.proofs.Finding.{apart_at, place_of, reports_at}
 use Rattle.feed_releases.proofs.ActivesReported.{holds, collected, put_in, each_reported}
+use Rattle.feed_releases.proofs.Inserting.{by_packages}
 
 abbrev Ordered : List ActiveValue → Type 0
 Ordered actives = IsStrictlySortedBy package_cmp actives
@@ -44,9 +44,6 @@ IsAmong n [] = ⊥
 IsAmong n (a ∷ actives) = (a.name ≡ n) ⊎ IsAmong n actives
 
 -- ---- the order of packages
-
-by_packages : IsTotalOrder package_cmp
-by_packages = on_texts (λ (a : ActiveValue). a.name.package_name)
 
 not_itself : (a : ActiveValue) → package_cmp a a ≢ Less
 not_itself a e = by (package_cmp a a) e (by_packages.antisymm a a)

@@ -1,6 +1,6 @@
 -- The active releases of a feed, ordered by package.
-use Rattle.std.specs.Prelude.{◌≡◌, ◌↔◌, ◌<◌, ℕ, Bool, if◌then◌else◌, All, List, [], ◌∷◌, length, map, slice_index_or, option_map, Option, Some}
-use Rattle.std.specs.List.{filter_map}
+use Rattle.std.specs.Prelude.{◌≡◌, ◌↔◌, ◌<◌, ℕ, Bool, false, if◌then◌else◌, All, List, [], ◌∷◌, length, map, slice_index_or, option_map, Option, Some}
+use Rattle.std.specs.List.{filter_map, AllByRecursion}
 use Rattle.std.specs.List.Sorted.{IsStrictlySortedBy}
 use Rattle.std.specs.declared.cmp.Ordering.{Ordering}
 use Rattle.std.specs.Ordering.{is_lt, nat_cmp}
@@ -27,6 +27,11 @@ package_cmp a b = slice_cmp nat_cmp a.name.package_name b.name.package_name
 -- the package of the one is less than that of the other
 abbrev pub is_package_before : ActiveValue → ActiveValue → Bool
 is_package_before a b = is_lt (package_cmp a b)
+
+-- no package is less than that of one in front of it
+abbrev pub AreInOrder : List ActiveValue → Type 0
+AreInOrder [] = Unit {0}
+AreInOrder (a ∷ actives) = AllByRecursion (λ b. is_package_before b a ≡ false) actives × AreInOrder actives
 
 -- inserts an active release among others, behind those whose packages are less than its own
 abbrev pub insert_active : ActiveValue → List ActiveValue → List ActiveValue

@@ -1,7 +1,7 @@
 //! The active releases of a feed, ordered by package. There are at most 4,096 of them.
 ghost use Rattle.std.specs.Prelude.{◌≡◌, ◌≤◌, IfOk, OnOk, length, insert};
 ghost use Rattle.feed_releases.specs.Actives.{active_of, actives_of, is_package_before, insert_active};
-ghost use Rattle.feed_releases.specs.Actives.{IsKnownRelease, AreKnown};
+ghost use Rattle.feed_releases.specs.Actives.{AreInOrder, IsKnownRelease, AreKnown};
 
 use crate::release::Release;
 use feed_kbart::Holdings;
@@ -53,23 +53,30 @@ fn is_listed_before(active: &ActiveRelease<'_>, other: &ActiveRelease<'_>) -> bo
     active.name.package().cmp(&other.name.package()).is_lt()
 }
 
+// Returns the place for an active release, behind those whose packages are less than its own. It looks from the end,
+// since the releases of a feed are mostly in this order.
 fn place_for(actives: &[ActiveRelease<'_>], active: &ActiveRelease<'_>) -> usize
+    requires { AreInOrder actives.now }
     ensures within { result ≤ length actives.now }
     ensures place { insert actives.now result active.now ≡ insert_active active.now actives.now }
 {
-    for (at, other) in actives.iter().enumerate() {
-        if !is_listed_before(other, active) {
+    let mut at = actives.len();
+    while at > 0 {
+        if is_listed_before(&actives[at - 1], active) {
             return at;
         }
+        at -= 1;
     }
-    actives.len()
+    0
 }
 
 fn add<'a>(
     actives: &mut Vec<ActiveRelease<'a>>,
     active: ActiveRelease<'a>,
 ) -> Result<(), AllocError>
-    ensures { OnOk result (actives.new.items ≡ insert_active active.entry actives.old.items) }
+    requires { AreInOrder actives.old.items }
+    ensures items { OnOk result (actives.new.items ≡ insert_active active.entry actives.old.items) }
+    ensures order { OnOk result (AreInOrder actives.new.items) }
 {
     let place = place_for(actives, &active);
     actives.insert(place, active)?;

@@ -1,6 +1,10 @@
-use Rattle.std.proofs.Common.{◌≡◌, ◌<◌, ℕ, true, get_or}
+use Rattle.std.proofs.Common.{◌≡◌, ◌<◌, ◌≤◌, ℕ, false, get_or, length}
 use Rattle.feed_releases.specs.Actives.{ActiveValue, is_package_before}
 use Rattle.feed_releases.proofs.actives.place_for.Given as goal
 
-abbrev pub invariant-loop-at : goal.invariant-loop-at
-invariant-loop-at l = (k : ℕ) (d : ActiveValue) → k < l.at → is_package_before (get_or l.actives k d) l.active ≡ true
+-- the releases from here on come no earlier
+abbrev pub invariant-loop : goal.invariant-loop
+invariant-loop l = record {
+  within : l.at ≤ length l.actives;
+  late : (k : ℕ) (d : ActiveValue) → l.at ≤ k → k < length l.actives → is_package_before (get_or l.actives k d) l.active ≡ false;
+}
