@@ -83,9 +83,11 @@ pub fn fetch_from_memory<K: Keep, O: Observe, F: Write>(
         → (h : History) → IsContent (recorded feed.old) h → IsOpenTo (most_of feed.old) order.now.name.now file h
         → (result ≡ 0) ⊎ (result ≡ 3) }
 
-    // An empty feed that may record a release is open to each good file.
+    // An empty feed is open to each good file.
     ensures first { (file : List ℕ) → file_named files.now order.now.name.now ≡ Some file → IsFetchable file
-        → (recorded feed.old).content ≡ [] → 0 < most_of feed.old → (result ≡ 0) ⊎ (result ≡ 3) }
+        → (recorded feed.old).content ≡ [] → (result ≡ 0) ⊎ (result ≡ 3) }
 {
+    // It may record a release.
+    let _most = feed.most();
     fetch_from::<Brand, K, O, F>(alloc, files, feed, order, out, faults)
 }

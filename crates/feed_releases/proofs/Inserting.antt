@@ -9,21 +9,16 @@ use Rattle.std.proofs.lemmas.Map.Text.{is_eq-slice_cmp}
 use Rattle.feed_releases.specs.Actives.{ActiveValue, AreInOrder, package_cmp, is_package_before, insert_active}
 use Rattle.feed_releases.proofs.ActivesReported.{put_in}
 
--- one at this place comes no earlier
-abbrev pub StopsAt : List ActiveValue → ℕ → ActiveValue → Type 0
-StopsAt xs i a = (y : ActiveValue) × (y ≡ get_or xs i y) × (is_package_before y a ≡ false)
-
 -- it goes behind those whose packages come before its own
 pub insert_at : (xs : List ActiveValue) (i : ℕ) (a : ActiveValue) → i ≤ length xs → ((k : ℕ) (d : ActiveValue) → k < i → is_package_before (get_or xs k d) a ≡ true)
-    → (i < length xs → StopsAt xs i a) → insert xs i a ≡ insert_active a xs
-insert_at [] zero a le before stops = refl
-insert_at [] (suc i) a le before stops = absurd (omega arith)
-insert_at (x ∷ xs) zero a le before stops =
-    let stop = stops (omega arith) in
-    let later : is_package_before x a ≡ false = subst (λ (y : ActiveValue). is_package_before y a ≡ false) stop.1 stop.2 in
+    → ((k : ℕ) (d : ActiveValue) → i ≤ k → k < length xs → is_package_before (get_or xs k d) a ≡ false) → insert xs i a ≡ insert_active a xs
+insert_at [] zero a le before late = refl
+insert_at [] (suc i) a le before late = absurd (omega arith)
+insert_at (x ∷ xs) zero a le before late =
+    let later : is_package_before x a ≡ false = late 0 x (omega arith) (omega arith) in
     rw later refl
-insert_at (x ∷ xs) (suc i) a le before stops = rw (before 0 x (omega arith))
-    (ap (λ ys. x ∷ ys) (insert_at xs i a (omega arith) (λ k d lt. before (suc k) d (omega arith)) (λ lt. stops (omega arith))))
+insert_at (x ∷ xs) (suc i) a le before late = rw (before 0 x (omega arith))
+    (ap (λ ys. x ∷ ys) (insert_at xs i a (omega arith) (λ k d lt. before (suc k) d (omega arith)) (λ k d le lt. late (suc k) d (omega arith) (omega arith))))
 
 -- ---- the order of packages
 
@@ -80,7 +75,7 @@ order_inserted a (b ∷ actives) order = by (is_package_before b a) refl (order_
     by true e rest = rw e (put_in (λ c. is_package_before c b ≡ false) a actives (not_both a b e) order.0, rest)
     by false e rest = rw e ((e, late_all a b actives e order.0), order)
 
-late_at : (x : ActiveValue) (xs : List ActiveValue) (i : ℕ) (d : ActiveValue) → AllByRecursion (λ b. is_package_before b x ≡ false) xs → i < length xs
+pub late_at : (x : ActiveValue) (xs : List ActiveValue) (i : ℕ) (d : ActiveValue) → AllByRecursion (λ b. is_package_before b x ≡ false) xs → i < length xs
     → is_package_before (get_or xs i d) x ≡ false
 late_at x [] i d all lt = absurd (omega arith)
 late_at x (y ∷ ys) zero d all lt = all.0

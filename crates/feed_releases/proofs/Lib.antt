@@ -3,6 +3,7 @@ mod Growth
 mod Growing
 mod Judged
 mod NextRange
+mod PackageSearch
 mod Reason
 mod Answered
 mod Answering

@@ -1,5 +1,8 @@
 //! The active releases of a feed, ordered by package. There are at most 4,096 of them.
-ghost use Rattle.std.specs.Prelude.{◌≡◌, ◌≤◌, IfOk, OnOk, length, insert};
+ghost use Rattle.std.specs.Prelude.{◌≡◌, ◌≢◌, ◌<◌, ◌≤◌, All, IfOk, IfNone, IfSome, OnOk, length, insert};
+ghost use Rattle.std.specs.List.{HoldsAt};
+ghost use Rattle.std.specs.Cmp.Lexicographic.{slice_cmp};
+ghost use Rattle.std.specs.Ordering.{nat_cmp};
 ghost use Rattle.feed_releases.specs.Actives.{active_of, actives_of, is_package_before, insert_active};
 ghost use Rattle.feed_releases.specs.Actives.{AreInOrder, IsKnownRelease, AreKnown};
 
@@ -7,6 +10,7 @@ use crate::release::Release;
 use feed_kbart::Holdings;
 use feed_names::ReleaseName;
 use std::alloc::{AllocError, Global};
+use std::cmp::Ordering;
 use std::marker::Model;
 
 /// An active release: its name and its holdings.
@@ -44,6 +48,24 @@ impl<'a> ActiveRelease<'a> {
         ensures { result.now ≡ self.now.holdings }
     {
         self.holdings
+    }
+}
+
+/// Returns the place of a package's release among active ones that are in the order of their packages.
+pub fn find_package(actives: &[ActiveRelease<'_>], package: &[u8]) -> Option<usize>
+    requires { AreInOrder actives.now }
+    ensures within { IfSome result (λ at. at < length actives.now) }
+    ensures found { IfSome result (HoldsAt (λ active. active.name.package_name ≡ «package».now) actives.now) }
+    ensures none { IfNone result (All (λ active. active.name.package_name ≢ «package».now) actives.now) }
+{
+    let place = actives.binary_search_by(
+        |active: &ActiveRelease<'_>| -> Ordering
+            ensures { result ≡ slice_cmp nat_cmp active.now.name.package_name «package».entry.now }
+        { active.name.package().cmp(&package) },
+    );
+    match place {
+        Ok(at) => Some(at),
+        Err(_) => None,
     }
 }
 
@@ -102,6 +124,7 @@ pub(crate) fn actives_of(
     releases: &[Release],
 ) -> Result<Vec<ActiveRelease<'_>>, AllocError>
     ensures value { IfOk result (λ actives. actives.items ≡ actives_of releases.now) }
+    ensures order { IfOk result (λ actives. AreInOrder actives.items) }
     ensures known { OnOk result (AreKnown releases.now) }
 {
     let mut actives = Vec::new(alloc);

@@ -82,7 +82,7 @@ impl<K: Keep> Feed<K> {
     ghost use Rattle.feed_model.specs.Sound.{IsSound};
     ghost use Rattle.feed_model.specs.Content.{IsContent, within};
     ghost use Rattle.feed_model.specs.Handles.{Handles};
-    ghost use Rattle.feed_releases.specs.Actives.{actives_of, AreReported};
+    ghost use Rattle.feed_releases.specs.Actives.{actives_of, AreInOrder, AreReported};
     ghost use Rattle.feed_releases.specs.Answered.{IsAnswered};
     ghost use Rattle.feed_releases.specs.NextRange.{IsNextRange};
     ghost use Rattle.feed_releases.specs.Reason.{HasReason};
@@ -263,6 +263,7 @@ impl<K: Keep> Feed<K> {
     /// Returns the active releases, ordered by package.
     pub fn actives(&self) -> Result<Vec<ActiveRelease<'_>>, AllocError>
         ensures value { IfOk result (λ actives. actives.items ≡ actives_of (releases_of self.now)) }
+        ensures order { IfOk result (λ actives. AreInOrder actives.items) }
         ensures reported { IfOk result (λ actives. (h : History) → IsContent (recorded self.now) h
             → AreReported h actives.items) }
     {
@@ -274,6 +275,15 @@ impl<K: Keep> Feed<K> {
         ensures { IfOk result (λ statuses. statuses.items ≡ map status_of (recorded self.now).content) }
     {
         statuses_of(self.alloc, &self.releases)
+    }
+
+    /// Returns the most releases that it may record: from 256 to the room of its keeper.
+    pub fn most(&self) -> usize
+        ensures value { result ≡ most_of self.now }
+        ensures least { max_held ≤ result }
+        ensures room { result ≤ capacity_with K.more }
+    {
+        self.most
     }
 
     /// Returns whether no release is recorded.

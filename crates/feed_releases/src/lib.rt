@@ -14,7 +14,7 @@ mod releases;
 mod standing;
 mod statuses;
 
-pub use actives::ActiveRelease;
+pub use actives::{ActiveRelease, find_package};
 pub use feed::{AnswerFault, Event, Feed, OpenFault, Opening, OpeningStep, Point};
 pub use laws::{answers_stay, list_alike};
 pub use statuses::ReleaseStatus;
