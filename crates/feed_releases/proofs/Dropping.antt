@@ -108,7 +108,7 @@ work_here rs old ahead r leftovers more is within here none so =
     let same : unread_in rs old ≡ unread_of r.kept ahead.running = ap (unread_in rs) is ∙ unread_here rs ahead r within here in
     (λ t. omega (arith, so.0 t, same, none), λ some. so.1 (omega (arith, some, same, none)))
 
--- what was read or freed is no work any more
+-- the work that is left is less after some of it was read or freed
 pub read_work : (unread rest left more : ℕ) → more ≡ left → left ≡ 0 → (0 < rest → rest < unread) → 0 < rest + more → rest + more < unread + left
 read_work unread rest left more same none less some = omega (arith, same, none, less (omega (arith, some, same, none)))
 

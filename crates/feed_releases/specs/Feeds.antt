@@ -36,9 +36,9 @@ CommitsNothing (Ok replies.Nothing) = Unit {0}
 CommitsNothing (Ok reply) = ⊥
 
 -- the answer is right after every history that the feed may have, and the feed then has that history with the event and
--- the answer added; after an answer that commits nothing its releases are as before; it is full only with the most
--- releases, whose number stays; if its keeper is clean, it was clean before; it reports a device failure exactly if the device failed; and
--- the keeper is not loaded
+-- the answer added. After an answer that commits nothing its releases are as before. It is full only with the most
+-- releases, whose number stays. If its keeper is clean, it was clean before. It reports a device failure exactly if the
+-- device failed, and the keeper is not loaded
 pub record IsAnsweredBy {K : Type 0} {k : Ghosts K} (old new : Feed K k) (event : Event) (answer : Answer) : Type 0 where
   pub right : Handles (recorded old) event answer (recorded new)
   pub refused : OnErr answer (releases_of new ≡ releases_of old)

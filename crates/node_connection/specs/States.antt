@@ -328,11 +328,11 @@ is_closed_before shortage first second =
     nat_lt (closing_rank shortage second) (closing_rank shortage first)
     || ((closing_rank shortage first == closing_rank shortage second) && nat_lt second.elapsed first.elapsed)
 
--- the properties of a connection after any history: the requests with responses are the first in the bytes received;
--- the bytes sent are the beginning of the responses; once the last response is sent, it is freed and all are sent; an
--- open connection holds a response only while it sends it, so never while the next one is made; another request is
--- answered unless the last one ended the connection; while the connection waits for a request, each one before the
--- bytes held was answered, and those bytes are not a whole request; and past its time it waits for nothing
+-- the properties of a connection after any history. The requests with responses are the first in the bytes received,
+-- and the bytes sent are the beginning of the responses. Once the last response is sent, it is freed and all are sent.
+-- An open connection holds a response only while it sends it, so never while the next one is made. Another request is
+-- answered unless the last one ended the connection. While the connection waits for a request, each one before the
+-- bytes held was answered, and those bytes are not a whole request. Past its time it waits for nothing
 pub record IsRightAfter (connection : Connection) (history : List Event) : Type 0 where
   pub first : AreFirst history
   pub front : IsFrontSent history

@@ -342,8 +342,8 @@ impl Connection {
         }
     }
 
-    /// Returns the request whose response is sent: its head and its body, or bytes that are not a head. It is empty if
-    /// there is no response.
+    /// Returns the request whose response is sent: its head and its body, or bytes that are not a head. Without a
+    /// response it is empty.
     pub fn request(&self) -> ReceivedRequest<'_>
         ensures { result.bytes.now ≡ request_of self.now }
     {

@@ -58,9 +58,9 @@ ArticlesComeFirst = (site : site_file.SiteValue) (today : TodayValue) (search : 
 abbrev pub BestLinkRanksHighest : Type 0
 BestLinkRanksHighest = (hits : List ReleaseHitValue) → IsBestLink hits (best_link hits)
 
--- the rank of one hit is higher than that of another exactly if it is a book that comes before its series and the other is
--- not, or else its availability is better, or that is the same and its grade is better, or both are the same and its depth
--- and access are, or these are too and the site lists its package first
+-- the rank of one hit is higher than that of another exactly if it is better in the first respect in which they differ.
+-- A book that comes before its series is better than a hit that does not. Then the availability counts, then the grade,
+-- then the depth with the access, and then which of their packages the site lists first
 abbrev pub RanksInOrder : Type 0
 RanksInOrder = (one other : ReleaseHitValue) → (rank_of other < rank_of one) ↔ IsPreferred one other
 
@@ -112,14 +112,14 @@ LooksAreAtPlaces =
     × (take limit (looks_in site today search name rows)
     ≡ take limit (looks_at site today search name rows (take limit (asked_places search.query rows))))
 
--- the hits in JSON are, by its grammar (RFC 8259), an array with one object for each that is shown, in their order, and
--- one more if others are left out; numbers fit in 64 bits
+-- the hits in JSON are, by its grammar (RFC 8259), an array with one object for each that is shown, in their order. It
+-- has one more if others are left out. The numbers fit in 64 bits
 abbrev pub HitsAreJson : Type 0
 HitsAreJson = (tally : TallyValue) → All (λ found. found.hit.row.number < 2 ^ 64) tally.top → tally.count < 2 ^ 64
     → document (hits_json tally) ≡ Some (array (items_of (item_values tally)))
 
--- an answer in JSON is an object with the citation, the query that is looked up, the reason why none is, the hits, and the
--- titles whose date is covered and whose volume is not
+-- an answer in JSON is an object with the citation, the query that is looked up, the reason why none is, and the hits.
+-- Its last member has the titles whose date is covered and whose volume is not
 abbrev pub AnswerIsJson : Type 0
 AnswerIsJson = (ask : QueryFactsValue) (refused : List ℕ) (tally also : TallyValue)
     → All (λ found. found.hit.row.number < 2 ^ 64) tally.top → tally.count < 2 ^ 64

@@ -1,5 +1,5 @@
 //! Writes the answer to a query as JSON: the version of its form, its citation, the query that is looked up, why none
-//! is, the hits, and the rows whose date is covered and whose volume is not.
+//! is, and the hits. The last member has the rows whose date is covered and whose volume is not.
 ghost use Rattle.std.specs.Prelude.{◌≡◌, ◌++◌, OnOk};
 ghost use Rattle.std.specs.List.{flat_map};
 ghost use Rattle.node_hits.specs.AnswerJson.{also_member, answer_json, answer_start, citation_front};

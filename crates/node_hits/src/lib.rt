@@ -1,5 +1,5 @@
 //! The hits of a query in the releases of a node: what the query asks for, how many hits there are, the first ones, and
-//! the best link among them; and how they are written as text, as JSON and as SFX replies.
+//! the best link among them. They are written as text, as JSON and as SFX replies.
 #![tactic(auto)]
 
 mod answer_json;

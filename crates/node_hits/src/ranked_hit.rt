@@ -12,7 +12,7 @@ use std::marker::Model;
 #[derive(Drop)]
 pub struct RankedHit<'a> {
     rank: u32,
-    // How many bytes its texts leave of those of a response.
+    // How many bytes of a response its texts leave.
     left: u32,
     hit: Box<ReleaseHit<'a>>,
 }

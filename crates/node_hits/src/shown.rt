@@ -54,14 +54,14 @@ fn bytes_after(bytes: usize, found: &ReleaseHit<'_>) -> usize
         .saturating_sub(found.note().len())
 }
 
-/// Returns how many bytes the texts of a hit leave of those of a response. They are read once for each hit.
+/// Returns how many bytes of a response the texts of a hit leave. They are read once for each hit.
 pub(crate) fn bytes_left(found: &ReleaseHit<'_>) -> u32
     ensures { result ≡ text_limit - text_size found.now }
 {
     bytes_after(TEXT_LIMIT as usize, found) as u32
 }
 
-/// Returns how many of some bytes are left after the texts of a hit that leave this many of those of a response.
+/// Returns how many of some bytes the texts of a hit leave. The number that they leave of a response is `left`.
 pub(crate) fn bytes_beside(bytes: usize, left: u32) -> usize
     requires within { bytes ≤ text_limit }
     requires left { left ≤ text_limit }

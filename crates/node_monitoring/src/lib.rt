@@ -1,6 +1,6 @@
-//! Monitoring of a node: its counters with their text in the Prometheus exposition format (version 0.0.4), its
-//! responses about its metrics and its health, what a request adds to the counters, and the line of a request in the
-//! access log, in which each text of a client is escaped.
+//! Monitoring of a node: its counters with their text in the Prometheus exposition format (version 0.0.4), and its
+//! responses about its metrics and its health. A request adds to the counters, and gets a line in the access log, in
+//! which each text of a client is escaped.
 #![tactic(auto)]
 
 mod client;

@@ -1,4 +1,4 @@
--- What a query asks of the reply of SFX. Its fields are separated by `&`, and are not decoded.
+-- The options that a query sets for the reply of SFX. The fields of a query are separated by `&`, and are not decoded.
 use Rattle.std.specs.Prelude.{ℕ, ◌||◌, Bool, true, false, if◌then◌else◌, List, [], ◌∷◌, codes, Option, Some, None}
 use Rattle.std.specs.Option.{option_map_or}
 use Rattle.std.specs.Str.{bytes_eq}

@@ -1,5 +1,5 @@
-//! What a request asks of a node: the host and the route that its target names, the representation that it prefers, and
-//! whether it may make the node fetch a release or read its folder of site files again.
+//! The requests to a node: the host and the route that a target names, and the representation that a client prefers.
+//! The crate also decides whether a request may make the node fetch a release or read its folder of site files again.
 #![tactic(auto)]
 
 mod authorization;

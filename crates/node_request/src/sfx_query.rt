@@ -1,11 +1,11 @@
-//! What a query asks of the reply of SFX: its form, and which services it lists.
+//! The options that a query sets for the reply of SFX: the form of the reply, and which services it lists.
 ghost use Rattle.std.specs.Prelude.{◌≡◌};
 ghost use Rattle.node_request.specs.SfxQueries.{first_form_of, full_texts_only, is_detailed, sfx_form_in};
 ghost use Rattle.node_request.specs.SfxQueries.{sfx_options_in};
 
 use feed_bytes::split_once;
 
-/// What a query asks of the reply of SFX.
+/// The options that a query sets for the reply of SFX.
 #[derive(Clone, Copy, Debug, PartialEq, Eq)]
 pub struct SfxOptions {
     /// Whether targets state what they cover.

@@ -32,8 +32,8 @@ JsonReadsBack = (text : List ℕ) → document (json_string text) ≡ Some (stri
 abbrev pub FaultIsJson : Type 0
 FaultIsJson = (name : List ℕ) → document (fault_body Json name) ≡ Some (object (member (codes "fault") (string name) no_members))
 
--- a response is sent as one head that states its status, the length of its body and whether the connection is closed,
--- and then the body; the response to a HEAD is the same head alone
+-- a response is sent as one head and then the body. The head states the status, the length of the body and whether the
+-- connection is closed. The response to a HEAD is the same head alone
 abbrev pub ResponseReadsBack : Type 0
 ResponseReadsBack = (keeps : Bool) (reply : ResponseValue) → IsSendable reply → (head : ResponseHead) × IsSentAs keeps reply head
 
@@ -41,7 +41,7 @@ ResponseReadsBack = (keeps : Bool) (reply : ResponseValue) → IsSendable reply 
 abbrev pub HaveSame : List ℕ → ResponseHead → ResponseHead → Type 0
 HaveSame name head other = values_named name head.fields ≡ values_named name other.fields
 
--- the response to a client that has the representation is a head without a body, and states the entity tag, how long a
+-- the response to a client that has the representation is a head without a body. It states the entity tag, how long a
 -- cache may keep it and what it depends on as the head of the whole response does (RFC 9110, section 15.4.5)
 abbrev pub NotModifiedIsHeadOfGood : Type 0
 NotModifiedIsHeadOfGood =

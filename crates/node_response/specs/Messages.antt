@@ -96,8 +96,8 @@ pub record IsSendable (reply : ResponseValue) : Type 0 where
   pub tag : AllPass is_uri_byte reply.tag
   pub age : reply.max_age < 2 ^ 64
 
--- the response is one head and a body whose length the head states, or the head alone; a status without a body has neither
--- of them; the head announces that the connection is closed exactly if it is not kept
+-- the response is one head and a body whose length the head states, or the head alone. A status without a body has
+-- neither of them. The head announces that the connection is closed exactly if it is not kept
 pub record IsMessageFor (keeps : Bool) (head_alone : Bool) (response : ResponseTextValue) : Type 0 where
   pub head : ResponseHead
   pub body : List ℕ

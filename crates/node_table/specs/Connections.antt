@@ -13,8 +13,8 @@ use Rattle.node_connection.specs.Streams.{AreResponses, IsStopped}
 abbrev pub IsConnection : Connection → Type 0
 IsConnection connection = ∥ ((history : List Event) × HasState connection history) ∥₁
 
--- more events occurred, with responses that are right, and the connection has the state that they determine; the share
--- covers the bytes received and the responses made, and nothing else uses it up but a response for which there was no
+-- more events occurred, with responses that are right, and the connection has the state that they determine. The share
+-- covers the bytes received and the responses made. Nothing else uses it up but a response for which there was no
 -- memory
 pub record HasMoved (replies : Responses) (share left : Share) (new : Connection) (history : List Event) : Type 0 where
   pub more : List Event

@@ -1,5 +1,6 @@
-//! The connections of a node as a value, without their sockets: at most so many, which of them are ready and in
-//! which order they are served, how many bytes they hold, and which one is closed for its place or its memory.
+//! The connections of a node as a value, without their sockets and up to a limit. The table knows which of them are
+//! ready, in which order they are served and how many bytes they hold. It finds the one that is closed for its place or
+//! its memory.
 #![tactic(auto)]
 
 mod key_queue;
