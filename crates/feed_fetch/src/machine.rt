@@ -2,7 +2,7 @@
 ghost use Rattle.std.specs.Prelude.{ℕ, List, Option, ◌≡◌, ◌≤◌, ◌⊎◌, Some, None, Err, IfErr};
 ghost use Rattle.feed_model.specs.Content.{IsContent};
 ghost use Rattle.feed_model.specs.History.{History, Piece};
-ghost use Rattle.feed_releases.specs.Feeds.{recorded};
+ghost use Rattle.feed_releases.specs.Feeds.{most_of, recorded};
 ghost use Rattle.feed_limits.specs.Limits.{piece_limit};
 ghost use Rattle.feed_fetch.specs.Answers.{HasCause, HasRightAnswer, IsStoppedAt, piece_result, response_or_stop};
 ghost use Rattle.feed_fetch.specs.Effects.{IsExtension, IsTakenFrom};
@@ -130,6 +130,7 @@ impl Fetch {
             (λ k. IfErr result (λ stop. IsStoppedAt name.now stop k)) (recorded feed.old) (recorded feed.new) }
         ensures opens { Opens name.now self.phase reply.now result (recorded feed.old) (recorded feed.new) }
         ensures fills { Fills name.now self.phase reply.now result (recorded feed.old) (recorded feed.new) }
+        ensures room { most_of feed.new ≡ most_of feed.old }
         ensures caused { (refused : Option DialFault)
             → ((fault : DialFault) → reply.now ≡ Err (RequestFault.Dial fault) → refused ≡ Some fault)
             → IfErr result (λ stop. HasCause (O.has_failed out.new) refused stop) }
@@ -154,6 +155,7 @@ impl Fetch {
             (λ k. IfErr result (λ stop. IsStoppedAt name.now stop k)) (recorded feed.old) (recorded feed.new) }
         ensures opens { Opens name.now self.old.phase reply.now result (recorded feed.old) (recorded feed.new) }
         ensures fills { Fills name.now self.old.phase reply.now result (recorded feed.old) (recorded feed.new) }
+        ensures room { most_of feed.new ≡ most_of feed.old }
         ensures caused { (refused : Option DialFault)
             → ((fault : DialFault) → reply.now ≡ Err (RequestFault.Dial fault) → refused ≡ Some fault)
             → IfErr result (λ stop. HasCause (O.has_failed out.new) refused stop) }
@@ -176,6 +178,7 @@ impl Fetch {
     ) -> Result<(), Stop>
         ensures owed { IsSubmitted name.now self.old.phase reply.now
             (λ k. IfErr result (λ stop. IsStoppedAt name.now stop k)) (recorded feed.old) (recorded feed.new) }
+        ensures room { most_of feed.new ≡ most_of feed.old }
         ensures phase { self.new.phase ≡ phase_after result }
         ensures piece { self.new.piece ≡ self.old.piece }
     {
@@ -212,6 +215,7 @@ impl Fetch {
         ensures extends { (file : List ℕ) → IsArrivedPart file part.now.first part.now.length part.now.bytes.now
             → IsExtension (IsTakenFrom name.now (Got.Whole file))
             (λ k. IfErr result (λ stop. IsStoppedAt name.now stop k)) (recorded feed.old) (recorded feed.new) }
+        ensures room { most_of feed.new ≡ most_of feed.old }
         ensures right { HasRightAnswer
             (λ answer. (result ≡ piece_result (response_or_stop answer)) ⊎ (result ≡ Err Stop.Print))
             (recorded feed.old) (Piece name.now part.now.first (Some part.now.length) part.now.bytes.now)

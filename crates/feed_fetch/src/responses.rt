@@ -1,7 +1,7 @@
 //! Passes responses to the feed as events, and its answers to an observer.
 ghost use Rattle.std.specs.Prelude.{ℕ, List, Option, Some, None, ◌≡◌, ◌≢◌, ◌⊎◌, Ok, Err, IfOk, IfErr, IsTrue};
 ghost use Rattle.feed_model.specs.History.{Offered, Piece};
-ghost use Rattle.feed_releases.specs.Feeds.{recorded};
+ghost use Rattle.feed_releases.specs.Feeds.{most_of, recorded};
 ghost use Rattle.feed_releases.specs.Events.{event_of};
 ghost use Rattle.feed_fetch.specs.Answers.{HasCause, HasRightAnswer, IsStoppedAt, add_news, first_stop};
 ghost use Rattle.feed_fetch.specs.Answers.{has_new_bytes, offer_result, piece_result, response_or_stop, round_result};
@@ -54,6 +54,7 @@ pub fn handle_event<K: Keep, O: Observe>(
         (recorded feed.old) (event_of event.now) (recorded feed.new) }
     ensures line { HasRightAnswer (λ answer. IsPrintedAs (O.lines out.old) (O.lines out.new) answer result)
         (recorded feed.old) (event_of event.now) (recorded feed.new) }
+    ensures room { most_of feed.new ≡ most_of feed.old }
     ensures caused { IfErr result (λ stop. HasCause (O.has_failed out.new) None stop) }
     ensures kept { IsTrue (O.has_failed out.old) → IsTrue (O.has_failed out.new) }
 {
@@ -83,6 +84,7 @@ pub fn handle_piece<K: Keep, O: Observe>(
     ensures right { HasRightAnswer
         (λ answer. (result ≡ piece_result (response_or_stop answer)) ⊎ (result ≡ Err Stop.Print))
         (recorded feed.old) (Piece name.now first total bytes.now) (recorded feed.new) }
+    ensures room { most_of feed.new ≡ most_of feed.old }
     ensures caused { IfErr result (λ stop. HasCause (O.has_failed out.new) None stop) }
 {
     let event = Event::Piece {
@@ -118,6 +120,7 @@ fn handle_whole<K: Keep, O: Observe>(
 ) -> Result<bool, Stop>
     ensures owed { IsSubmitted name.now Phase.Offered (Ok (Got.Whole bytes.now))
         (λ k. IfErr result (λ stop. IsStoppedAt name.now stop k)) (recorded feed.old) (recorded feed.new) }
+    ensures room { most_of feed.new ≡ most_of feed.old }
     ensures caused { IfErr result (λ stop. HasCause (O.has_failed out.new) None stop) }
 {
     let total = bytes.len();
@@ -153,6 +156,7 @@ pub fn handle_response<K: Keep, O: Observe>(
     ensures piece { (first : ℕ) (total : Option ℕ) (bytes : List ℕ) → got.now ≡ Got.Piece first total bytes
         → HasRightAnswer (λ answer. (result ≡ piece_result (response_or_stop answer)) ⊎ (result ≡ Err Stop.Print))
         (recorded feed.old) (Piece name.now first total bytes) (recorded feed.new) }
+    ensures room { most_of feed.new ≡ most_of feed.old }
     ensures caused { IfErr result (λ stop. HasCause (O.has_failed out.new) None stop) }
 {
     match got {
@@ -185,6 +189,7 @@ fn report_loss<K: Keep, O: Observe>(
         (λ k. ((result ≡ Stop.Request why) ⊎ (result ≡ Stop.Print)) × IsStoppedAt name.now result k)
         (recorded feed.old) (recorded feed.new) }
     ensures kept { (fault : DialFault) → why ≡ RequestFault.Dial fault → recorded feed.new ≡ recorded feed.old }
+    ensures room { most_of feed.new ≡ most_of feed.old }
     ensures caused { (refused : Option DialFault)
         → ((fault : DialFault) → why ≡ RequestFault.Dial fault → refused ≡ Some fault)
         → HasCause (O.has_failed out.new) refused result }
@@ -208,6 +213,7 @@ fn offer_size<K: Keep, O: Observe>(
     ensures right { HasRightAnswer
         (λ answer. (result ≡ offer_result (response_or_stop answer)) ⊎ (result ≡ Err Stop.Print))
         (recorded feed.old) (Offered name.now size) (recorded feed.new) }
+    ensures room { most_of feed.new ≡ most_of feed.old }
     ensures caused { IfErr result (λ stop. HasCause (O.has_failed out.new) None stop) }
     ensures kept { IsTrue (O.has_failed out.old) → IsTrue (O.has_failed out.new) }
 {
@@ -265,6 +271,7 @@ pub fn take_length<K: Keep, O: Observe>(
         (λ k. IfErr result (λ stop. IsStoppedAt name.now stop k)) (recorded feed.old) (recorded feed.new) }
     ensures opens { (file : List ℕ) → HasLength file reply.now → IsFetchable file
         → IsOpened name.now file result (recorded feed.old) (recorded feed.new) }
+    ensures room { most_of feed.new ≡ most_of feed.old }
     ensures caused { (refused : Option DialFault)
         → ((fault : DialFault) → reply.now ≡ Err (RequestFault.Dial fault) → refused ≡ Some fault)
         → IfErr result (λ stop. HasCause (O.has_failed out.new) refused stop) }
@@ -293,6 +300,7 @@ pub fn take_range<K: Keep, O: Observe>(
         (λ k. IfErr result (λ stop. IsStoppedAt name.now stop k)) (recorded feed.old) (recorded feed.new) }
     ensures fills { (file : List ℕ) (piece first last : ℕ) → HasRange file first last reply.now → IsFetchable file
         → IsFilled name.now file piece first last result (recorded feed.old) (recorded feed.new) }
+    ensures room { most_of feed.new ≡ most_of feed.old }
     ensures caused { (refused : Option DialFault)
         → ((fault : DialFault) → reply.now ≡ Err (RequestFault.Dial fault) → refused ≡ Some fault)
         → IfErr result (λ stop. HasCause (O.has_failed out.new) refused stop) }

@@ -1,4 +1,4 @@
-use Rattle.std.proofs.Common.{rules, ◌≡◌, ◌<◌, ◌⊎◌, length, true, false, Result, Err, Bool, sym, subst, arith, IfErr}
+use Rattle.std.proofs.Common.{rules, ◌≡◌, ◌<◌, ◌⊎◌, ◌∙◌, length, true, false, Result, Err, Bool, sym, subst, arith, IfErr}
 use Rattle.std.specs.Prelude.{None, Ok}
 use Rattle.feed_http.specs.declared.fetching.got.Got.TheVariants.{Whole}
 use Rattle.feed_releases.specs.Feeds.{recorded}
@@ -31,6 +31,7 @@ pieces-preserved g c =
       within = let count = c.min.ensures in omega (arith, count, lt);
       passed = next_piece (recorded c.args.feed.now) (recorded c.pieces.feed) (recorded c.handle-answer.new.self) c.args.name.now c.args.bytes.now
           c.pieces.first c.min.result c.handle-answer.result lt c.min.ensures followed c.pieces.invariant.passed c.handle-answer.ensures.right;
+      room = c.handle-answer.ensures.room ∙ c.pieces.invariant.room;
       printed = subst (λ (r : Result Bool Stop). IfErr r (λ stop. stop ≡ Print)) (sym c.add_news-taken.ensures)
           (news_printed c.handle-answer.result c.pieces.taken c.report_answer.result followed c.pieces.invariant.printed so);
       caused = subst (λ (r : Result Bool Stop). IfErr r (λ stop. HasCause (g.O.Observe.has_failed c.report_answer.new.out) None stop)) (sym c.add_news-taken.ensures)

@@ -1,5 +1,5 @@
 use Rattle.std.proofs.Common.{◌≡◌, ◌≤◌, ◌-◌, IfErr}
-use Rattle.feed_releases.specs.Feeds.{recorded}
+use Rattle.feed_releases.specs.Feeds.{most_of, recorded}
 use Rattle.feed_fetch.specs.Answers.{HasCause}
 use Rattle.feed_fetch.specs.declared.stop.Stop.TheVariants.{Print}
 use Rattle.std.specs.Prelude.{None}
@@ -10,6 +10,7 @@ abbrev pub invariant-pieces : goal.invariant-pieces
 invariant-pieces g l = record {
   within : l.first ≤ l.total;
   passed : IsUnderWay l.name l.bytes l.first (recorded l.fn.feed) (recorded l.feed);
+  room : most_of l.feed ≡ most_of l.fn.feed;
   printed : IfErr l.taken (λ stop. stop ≡ Print);
   caused : IfErr l.taken (λ stop. HasCause (g.O.Observe.has_failed l.out) None stop);
 }
