@@ -13,8 +13,8 @@ abbrev pub IsSlotClean : {K : Type 0} {k : Ghosts K} → (K → Type 0) → Node
 IsSlotClean clean (Up feed) = clean (keeper_of feed)
 IsSlotClean clean (Down keeper) = clean keeper
 
--- the node is up, and its feed has room for 256 releases, which are a content of the history; or it is down, and so is its
--- keeper's content, which is a list of records
+-- the node is up, and its feed has room for 256 releases, which are a content of the history. Or it is down, and the
+-- content of its keeper, which is a list of records, is one of the history
 abbrev pub HasSlotState : {K : Type 0} {k : Ghosts K} → (K → Content) → (K → Type 0) → NodeSlot K k → Bool → History → Type 0
 HasSlotState content listed (Up feed) up h = (up ≡ true) × (most_of feed ≡ max_held) × IsContent (recorded feed) h
 HasSlotState content listed (Down keeper) up h = (up ≡ false) × IsContent (within max_held (content keeper)) h × ∥ listed keeper ∥₁

@@ -1,5 +1,5 @@
 //! The feed of a node, which stores releases in pieces over any keeper and reports and queries the latest complete and
-//! good one of each package; and a world of published files and nodes, replayed from a list of events.
+//! good one of each package. Published files and nodes form a world, which is replayed from a list of events.
 #![tactic(auto)]
 
 mod node;

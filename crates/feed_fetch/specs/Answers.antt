@@ -65,7 +65,7 @@ abbrev pub IsLastEvent : Event → Answer → History → Type 0
 IsLastEvent e a k = (before : History) × (k ≡ (e, a) ∷ before)
 
 -- the feed after a fetch that stops for this reason: a later release is active, or the reason is the feed's last
--- answer; and after a failed request its last event is the loss
+-- answer. After a failed request its last event is the loss
 abbrev pub IsStoppedAt : Name → Stop → History → Type 0
 IsStoppedAt n stops.Older k = IsPassed k n
 IsStoppedAt n stops.Broken k = (e : Event) × (why : BadFile) × IsLastEvent e (Ok (replies.Broken why)) k

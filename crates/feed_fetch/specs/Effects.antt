@@ -65,8 +65,8 @@ abbrev pub IsStatusAfter : Name → Result (Unit {0}) Stop → ℕ → History �
 IsStatusAfter n (Ok done) status k = IsAllFetched n k × (((status ≡ 0) × IsReported n k) ⊎ ((status ≡ 1) × ¬ (IsReported n k)))
 IsStatusAfter n (Err stop) status k = status ≡ status_of stop
 
--- a fetch ends with this status: 0 only if the release is reported, or a later one; and it is that of the fetch's stop,
--- if there is one, with which the feed, the prints and the connections agree
+-- a fetch ends with this status: 0 only if the release is reported, or a later one. It is that of the fetch's stop, if
+-- there is one, with which the feed, the prints and the connections agree
 abbrev pub EndsWithStatus : Name → ℕ → Bool → Option DialFault → History → Type 0
 EndsWithStatus n status unprinted refused k =
     (status ≡ 0 → IsCurrent n k) × ((outcome : Result (Unit {0}) Stop) × IfErr outcome (λ stop. IsStoppedAt n stop k × HasCause unprinted refused stop) × IsStatusAfter n outcome status k)
@@ -85,8 +85,8 @@ pub record IsFetchable (file : List ℕ) : Type 0 where
 abbrev pub IsOfFile : Name → List ℕ → History → Type 0
 IsOfFile n file h = (place byte : ℕ) → kept h n place ≡ Some byte → slice_get file place ≡ Some byte
 
--- the release may be offered with this file to a feed that holds at most this many: no later release is active, its size
--- agrees if it was recorded, otherwise there is room for it, and its stored bytes are those of the file
+-- the release may be offered with this file to a feed that holds at most this many. No later release is active, and the
+-- stored bytes of the release are those of the file. Its size agrees if it was recorded; otherwise there is room for it
 pub record IsOpenTo (most : ℕ) (n : Name) (file : List ℕ) (h : History) : Type 0 where
   pub current : ¬ (IsPassed h n)
   pub size : IfSome (size_of h n) (λ size. size ≡ length file)

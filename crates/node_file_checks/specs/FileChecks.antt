@@ -15,8 +15,8 @@ pub record HasSeen (sum : FrontSum) (seen : List ℕ) : Type 0 where
   pub digest : Holds256 sum.hasher seen
   pub count : sum.count ≡ length seen
 
--- the bytes from this place on may be submitted as a part of a file of this length and sum: none before them is missing, they
--- are inside the file, and the file does not end with them or has the sum
+-- the bytes from this place on may be submitted as a part of a file of this length and sum. None before them is
+-- missing, and they are inside the file. The file does not end with them or has the sum
 pub record MayTake (seen : List ℕ) (first : ℕ) (bytes : List ℕ) (size : ℕ) (sum : List ℕ) : Type 0 where
   pub joined : first ≤ length seen
   pub within : first + length bytes ≤ size

@@ -57,9 +57,9 @@ IsGateMismatch h package_name (Some gate) seen first bytes size (Some mismatch.R
 IsGateMismatch h package_name (Some gate) seen first bytes size (Some mismatch.Memory) = IsChecked h package_name gate.percent seen first bytes size (Err Memory)
 IsGateMismatch h package_name (Some gate) seen first bytes size _ = ⊥
 
--- the result of the check of bytes from the place `first` on, behind those that arrived, of a file of this length: it differs
--- by its length exactly if it has another one than is wanted; else by its digest exactly if they may not be submitted by it;
--- else by its rows exactly as the bound says
+-- the result of the check of bytes from the place `first` on, behind those that arrived, of a file of this length. The
+-- file differs by its length exactly if it has another one than is wanted. Otherwise it differs by its digest exactly
+-- if the bytes may not be submitted by it, and otherwise by its rows exactly as the bound says
 abbrev pub IsPartMismatch : History → List ℕ → FileCheck → List ℕ → ℕ → List ℕ → ℕ → Option Mismatch → Type 0
 IsPartMismatch h package_name check seen first bytes size (Some mismatch.Size) = has_size check.expected.size size ≡ false
 IsPartMismatch h package_name check seen first bytes size (Some mismatch.Sum) =

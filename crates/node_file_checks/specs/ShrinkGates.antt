@@ -41,8 +41,8 @@ IsWholeChecked h package_name percent text (Err Memory) = ⊤
 abbrev pub IsInFront : List ℕ → ℕ → List ℕ → ℕ → Type 0
 IsInFront seen first bytes size = (first ≤ length seen) × (first + length bytes ≤ size)
 
--- the result of the check of bytes from this place on, before they are submitted as a part of a file of this length: they
--- join those from the front on, and the file does not end with them or is checked as a whole
+-- the result of the check of bytes from this place on, before they are submitted as a part of a file of this length.
+-- They join those from the front on, and the file does not end with them or is checked as a whole
 abbrev pub IsChecked : History → List ℕ → ℕ → List ℕ → ℕ → List ℕ → ℕ → Result (Unit {0}) Hindrance → Type 0
 IsChecked h package_name percent seen first bytes size (Err OtherRange) = ¬ (IsInFront seen first bytes size)
 IsChecked h package_name percent seen first bytes size result =

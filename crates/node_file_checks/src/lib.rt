@@ -1,5 +1,5 @@
-//! The checks of a file that a node fetches, before its feed gets it: the type that the server states, its length and
-//! its digest, and whether it has far fewer rows than the active list.
+//! The checks of a file that a node fetches, before its feed gets it. They are of the type that the server states, of
+//! the length and the digest, and of whether the file has far fewer rows than the active list.
 //!
 //! `FileCheck` has all checks of one fetch.
 #![tactic(auto)]

@@ -11,14 +11,15 @@ use Rattle.node_connection.specs.Events.{Event, Elapsed}
 use Rattle.node_request.specs.declared.sites_target.SitesRequest.{SitesRequest}
 use Rattle.node_machine.specs.Exchanges.{ExchangeEvent, Requested, exchange_with}
 
--- a connection was accepted under a key; the connection with this key had these events, the newest first; time passed, of
--- which the clock of each connection counted so many milliseconds; a day began; the request with these bytes, on the
--- connection with this key, asked for this release, or has an invalid name; the fetch of this release began, or was refused for
--- its name; the fetch ended; the fetch of a release took the response of the knowledge base to its request, and the
--- feed handled these events, the newest first; it took a part of a whole file, which the feed answered; on the
--- connection to the knowledge base there was this event; the request with these bytes, on the connection with this key,
--- asked that the folder of site files be read again, or checked; the node began to respond with these sites; the folder was
--- read, and the node keeps its sites; or the process ended, and the node was opened again. V is the type of its sites
+-- an event of a node, which is one of these. A connection was accepted under a key. The connection with this key had
+-- these events, the newest first. Time passed, and the clock of each connection counted this many milliseconds of it. A
+-- day began. The request with these bytes, on the connection with this key, asked for this release, or has an invalid
+-- name. The fetch of this release began, or was refused for its name. The fetch ended. The fetch of a release took the
+-- response of the knowledge base to its request, and the feed handled these events, the newest first. It took a part of
+-- a whole file, which the feed answered. On the connection to the knowledge base there was this event. The request with
+-- these bytes, on the connection with this key, asked that the folder of site files be read again, or checked. The node
+-- began to respond with these sites. The folder was read, and the node keeps its sites. The process ended, and the node
+-- was opened again. V is the type of its sites
 pub data NodeEvent (V : Type 0) : Type 0 where
   Accepted : (key : ℕ) → NodeEvent V
   Served : (key : ℕ) → (share : List Event) → NodeEvent V

@@ -115,9 +115,9 @@ abbrev pub IsOwedAfter : ExchangeEvent → History → Type 0
 IsOwedAfter (Requested name piece phase front request) h = IsOwed name piece phase front h request
 IsOwedAfter event h = Unit {0}
 
--- in this run and the earlier ones, the node requested what the fetch needed next; each response that it took is the
--- one to its last request, which was for this release, by the bytes received on that connection, and the feed handled
--- exactly the events that the fetch owes for it; and each part that it took is one of the file that was arriving
+-- in this run and the earlier ones, the node requested what the fetch needed next. Each response that it took is the
+-- one to its last request, which was for this release, by the bytes received on that connection. The feed handled
+-- exactly the events that the fetch owes for it. Each part that the node took is one of the file that was arriving
 abbrev pub AreGiven : {V : Type 0} → List (NodeEvent V) → Type 0
 AreGiven [] = Unit {0}
 AreGiven (Took name phase reply steps ∷ earlier) =

@@ -266,7 +266,7 @@ impl<'a, T: Stream, K: Keep, S: FeedRespond + Drop> NodeMachine<'a, T, K, S> {
 
     /// Begins the exchange that the fetch under way needs next: returns the request with its bytes, for a server with
     /// this host, or none if the fetch needs nothing. If its file is read from the front on, `front` has the first and
-    /// the last place that were not read; they are requested in place of those that the feed lacks.
+    /// the last place that were not read. This range is then requested, and not the one that the feed lacks.
     ///
     /// # Errors
     ///

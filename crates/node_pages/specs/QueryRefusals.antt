@@ -105,8 +105,8 @@ abbrev pub asks_for_form : List ℕ → Representation → Bool
 asks_for_form [] Html = true
 asks_for_form query representation = false
 
--- the response to an OpenURL for which nothing is looked up: the form, if it is empty and the response is a page; one for an
--- OpenURL without a number; and an OpenURL with too many numbers is rejected
+-- the response to an OpenURL for which nothing is looked up: the form, if it is empty and the response is a page. An
+-- OpenURL without a number gets a response of its own, and one with too many numbers is rejected
 abbrev pub unasked_response : site_file.SiteValue → List ℕ → Status → Representation → QueryFactsValue → OpenUrlFault → ResponseValue
 unasked_response site query code representation ask why =
     if asks_for_form query representation then response_with status.Good Html (form_page site)

@@ -1,6 +1,7 @@
-//! The pages that a reader of a resolver sees, each as a list of templates with values for their slots: the citation of
-//! a query with a card for each hit, the forms, and the packages; and the responses to requests that are not answered,
-//! to queries for which nothing is looked up, and to queries for titles; and fragments for pages of other sites.
+//! The pages that a reader of a resolver sees, each as a list of templates with values for their slots. They show the
+//! citation of a query with a card for each hit, the forms, and the packages. There are also fragments for pages of
+//! other sites, and the responses to requests that are not answered, to queries for which nothing is looked up, and to
+//! queries for titles.
 #![tactic(auto)]
 
 mod card;

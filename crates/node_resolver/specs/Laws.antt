@@ -35,9 +35,10 @@ SameReleasesSameBytes =
     → KeepsPublished file h → KeepsPublished file k → ReportAlike h k
     → IsResponseAt site today h bytes body keeps response → IsResponseAt site today k bytes body keeps reply → response ≡ reply
 
--- two nodes of the same version and settings that have the same site for the host of a request, report the same releases,
--- and have stored the published files, respond to it on a day with the same bytes, unless it asks them to fetch: whatever
--- their other sites and their tokens are, and whether they are fetching
+-- two nodes of the same version and settings respond to a request on a day with the same bytes, unless it asks them to
+-- fetch. The condition is that they have the same site for the host of the request, report the same releases, and have
+-- stored the published files. Their other sites and their tokens make no difference, nor does it matter whether they
+-- are fetching
 abbrev pub SameReleasesSameNodeBytes : Type 0
 SameReleasesSameNodeBytes =
     (file : Name → List ℕ) (sites others : NodeSites) (today : TodayValue) (h k : History) (policy other : FetchPolicyValue)

@@ -27,7 +27,7 @@ use Rattle.node_request.specs.Forms.{form_of}
 use Rattle.node_resolver.specs.Responses.{IsResponse, library_target, untagged_response, has_coded_body, path_of, resolve_response, site_response, target_query}
 
 -- the response to these bytes is one head and a body whose length the head states, or the head alone if the bytes begin
--- with a HEAD; the head announces that the connection is closed exactly if it is not kept
+-- with a HEAD. The head announces that the connection is closed exactly if it is not kept
 abbrev pub IsMessageTo : List ℕ → Bool → ResponseTextValue → Type 0
 IsMessageTo bytes keeps response =
     ((head : RequestHead) × BeginsWith bytes head × IsMessageFor keeps (is_head head) response)
@@ -92,8 +92,8 @@ GoesToBest =
     (library_target site.library (outcome_of (tally_among search (sited site actives))) search) target
     × GoesTo target (tally_among search (sited site actives)).is_whole response
 
--- `/resolve` redirects only a browser, only if the library wants it, and to the link of the only hit: one that is available,
--- covers the whole of what is asked for, in full text, and the library has all those days
+-- `/resolve` redirects only a browser, only if the library wants it, and to the link of the only hit. That hit is
+-- available, covers the whole of what is asked for, in full text, and the library has all those days
 abbrev pub RedirectsSoleHit : Type 0
 RedirectsSoleHit =
     (representation : Representation) (text : List ℕ) (search : SearchValue) (actives : Sited)
@@ -109,9 +109,9 @@ pub record IsGetOfForm (post get : RequestHead) (body : List ℕ) : Type 0 where
   pub path : path_of get ≡ path_of post
   pub query : target_query get ≡ body
 
--- the response to a form that is read is that to the GET whose query is the form, before any condition: it has the same
--- status, media type, body and location, whatever follows the GET, and no entity tag, since If-None-Match speaks of GET
--- and HEAD alone (RFC 9110, section 13.1.2)
+-- the response to a form that is read is that to the GET whose query is the form, before any condition. It has the same
+-- status, media type, body and location, whatever follows the GET. It has no entity tag, since If-None-Match speaks of
+-- GET and HEAD alone (RFC 9110, section 13.1.2)
 abbrev pub FormIsGet : Type 0
 FormIsGet =
     (site : SiteValue) (keeps : Bool) (actives : Dated) (bytes body other : List ℕ) (post get : RequestHead) (n : ℕ)

@@ -27,8 +27,8 @@ pub record IsForResolver (bytes : List ℕ) (head : RequestHead) : Type 0 where
   pub host : lacks_host head ≡ false
   pub no_fetch : name_to_fetch head ≡ None
 
--- the response to a request for a host that has a site is that of a resolver with this site, so it has all that is proved
--- of such a response: its hits are held, its links are linked to, its tag is that of the site
+-- the response to a request for a host that has a site is that of a resolver with this site. So it has all that is
+-- proved of such a response: its hits are held, its links are linked to, its tag is that of the site
 abbrev pub HostHasItsSite : Type 0
 HostHasItsSite =
     (sites : NodeSites) (site : SiteValue) (policy : FetchPolicyValue) (bytes body : List ℕ) (keeps : Bool) (actives : Dated)

@@ -23,7 +23,7 @@ SameReleasesSameTag =
     → ReportAlike h k → AreReported h one → AreReported k other
     → tag_of site (dated today one) representation ≡ tag_of site (dated today other) representation
 
--- what a tag is made of determines the response: from published files of the same names, two nodes of the same version,
+-- the inputs of a tag determine the response. From published files of the same names, two nodes of the same version,
 -- settings and site file give each request of a day the same bytes
 abbrev pub SameInputsSameBytes : Type 0
 SameInputsSameBytes =

@@ -1,5 +1,5 @@
-//! The responses of a node about its feed: to a GET of `/feed`, which lists releases and fetches, to a DELETE of it,
-//! which ends the fetch that is under way, and to a GET of what is below it, which takes only a POST.
+//! The responses of a node about its feed. A GET of `/feed` lists releases and fetches, and a DELETE of it ends the
+//! fetch that is under way. A target below it takes only a POST, so a GET of it is rejected.
 ghost use Rattle.std.specs.Prelude.{◌≡◌, IfOk, IfSome, MatchBool};
 ghost use Rattle.httparse.specs.Grammar.{RequestHead};
 ghost use Rattle.feed_http_heads.specs.Options.{SaysWhetherItKeeps};

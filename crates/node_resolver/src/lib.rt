@@ -1,4 +1,4 @@
-//! A link resolver over HTTP/1.1: the target of a request is an OpenURL (ANSI/NISO Z39.88-2004), and the response is a
+//! A link resolver over HTTP/1.1. The target of a request is an OpenURL (ANSI/NISO Z39.88-2004), and the response is a
 //! function of the request's head, of the site of its host and of the active releases of a feed.
 #![tactic(auto)]
 

@@ -38,9 +38,10 @@ pub record IsFromFiles (file : Name → List ℕ) (history : List (NodeEvent Nod
   pub given : AreGiven history
   pub of_files : AreOfFiles file history
 
--- two nodes of the same version and settings, whose knowledge bases serve slices of the same published files: two responses to
--- a request of a reader, each made on the same day as its node reported the same releases and had the same site for the host of
--- the request, are the same bytes. Whatever else the nodes did, and whatever their other sites and their tokens are
+-- two nodes of the same version and settings, whose knowledge bases serve slices of the same published files, respond
+-- to a request of a reader with the same bytes. The condition is that both respond on the same day, report the same
+-- releases then, and have the same site for the host of the request. The nodes may differ in all else that they did, in
+-- their other sites and in their tokens
 abbrev pub NodesAgree : Type 0
 NodesAgree =
     (file : Name → List ℕ) (one other : FeedResponder) (here there : Terms NodeSites) (moment another : List (NodeEvent NodeSites))

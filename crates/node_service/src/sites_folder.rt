@@ -1,5 +1,5 @@
-//! The folder with the site file of each library, named after the host whose requests it is for, as a node reads it:
-//! all at once before it starts, and later in steps between the turns of its loop.
+//! The folder with the site file of each library, named after the host whose requests it is for. A node reads it all at
+//! once before it starts, and later in steps between the turns of its loop.
 use crate::site_faults::report_file;
 use feed_console::{Console, DONE, FAILED, REFUSED, open_plain_file, read_front};
 use feed_options::NodeOptions;

@@ -8,8 +8,8 @@ abbrev pub left_at : (EntryValue → Bool) → List EntryValue → Option ℕ �
 left_at test rows None = []
 left_at test rows (Some place) = filter test (drop place rows)
 
--- a walk finds the first of the rows that pass the test, at most 50, and the others are those from its `next` on, which
--- is behind its start, by 20,000 rows at most
+-- a walk finds the first of the rows that pass the test, at most 50, and the others are those from its `next` on. This
+-- place is behind the start of the walk, by 20,000 rows at most
 pub record FindsFirst (test : EntryValue → Bool) (rows : List EntryValue) (start : ℕ) : Type 0 where
   pub all : filter test (drop start rows) ≡ (walk_from test start rows).found ++ left_at test rows (walk_from test start rows).next
   pub few : length (walk_from test start rows).found ≤ found_limit

@@ -1,5 +1,5 @@
 //! The titles of the active releases that contain a text, without regard to case: what a query for titles asks for,
-//! and a walk over the rows, which looks at 20,000 rows at most and then says where the next walk begins.
+//! and a walk over the rows. A walk looks at 20,000 rows at most, and then says where the next one begins.
 #![tactic(auto)]
 
 mod folded;
