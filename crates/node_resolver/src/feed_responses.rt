@@ -4,6 +4,7 @@ ghost use Rattle.std.specs.Prelude.{◌≡◌, IfOk, IfSome, MatchBool};
 ghost use Rattle.httparse.specs.Grammar.{RequestHead};
 ghost use Rattle.feed_http_heads.specs.Options.{SaysWhetherItKeeps};
 ghost use Rattle.feed_http_heads.specs.Requests.{HasHead};
+ghost use Rattle.feed_releases.specs.Actives.{AreInOrder};
 ghost use Rattle.node_resolver.specs.FeedResponses.{asked_below, asked_by, ends_by, feed_target, has_token_of, is_end};
 ghost use Rattle.node_resolver.specs.FeedResponses.{EndsFetch, EndsNoFetch, IsEndResponse, IsFeedResponse};
 ghost use Rattle.node_resolver.specs.FeedResponses.{IsResponseToFeedTarget};
@@ -13,7 +14,7 @@ use feed_bytes::put_all;
 use feed_http_heads::origin_form;
 use feed_keep::Keep;
 use feed_names::ReleaseName;
-use feed_releases::{ActiveRelease, Feed, ReleaseStatus};
+use feed_releases::{ActiveRelease, Feed, ReleaseStatus, find_package};
 use node_request::{
     FetchPolicy, ParsedRequest, ReceivedRequest, Representation, Route, is_authorized,
     is_unsupported_method, query_in, representation_of,
@@ -56,18 +57,6 @@ pub struct Activity<'a> {
     pub fetches: &'a [LastFetch],
     /// The last fetch of each package that activated its release.
     pub activations: &'a [LastFetch],
-}
-
-impl Activity<'_> {
-    // Returns when the node began to answer from its active release with this name.
-    fn active_since(&self, name: &ReleaseName) -> u64 {
-        for it in self.activations {
-            if it.name.text() == name.text() {
-                return it.seconds;
-            }
-        }
-        self.started
-    }
 }
 
 // Returns what a request asks of `/feed`.
@@ -130,17 +119,53 @@ fn put_reason(
 fn active_named<'a, 'b>(
     actives: &'b [ActiveRelease<'a>],
     name: &ReleaseName,
-) -> Option<&'b ActiveRelease<'a>> {
-    actives
-        .iter()
-        .find(|active| active.name().text() == name.text())
+) -> Option<&'b ActiveRelease<'a>>
+    requires { AreInOrder actives.now }
+{
+    let active = &actives[find_package(actives, name.package())?];
+    if active.name().text() == name.text() {
+        Some(active)
+    } else {
+        None
+    }
+}
+
+// The end of a fetch, in seconds since 1970-01-01, and its name.
+#[derive(Drop)]
+struct NamedEnd<'a> {
+    name: &'a [u8],
+    seconds: u64,
+}
+
+// Returns the ends of fetches in the order of their names.
+fn sorted_ends<'a>(
+    alloc: Global,
+    fetches: &'a [LastFetch],
+) -> Result<Vec<NamedEnd<'a>>, AllocError> {
+    let mut ends = Vec::new(alloc);
+    for fetch in fetches {
+        ends.push(NamedEnd {
+            name: fetch.name.text(),
+            seconds: fetch.seconds,
+        })?;
+    }
+    ends.sort_unstable_by(|one, other| one.name.cmp(&other.name));
+    Ok(ends)
+}
+
+// Returns when the fetch of this name ended, among some in the order of their names.
+fn end_of(ends: &[NamedEnd<'_>], name: &[u8]) -> Option<u64> {
+    match ends.binary_search_by(|end| end.name.cmp(&name)) {
+        Ok(place) => Some(ends[place].seconds),
+        Err(_) => None,
+    }
 }
 
 // Writes the counts of a release, and when this node began to answer from it. They are null unless it is active.
 fn put_active_members(
     out: &mut Vec<u8>,
     active: Option<&ActiveRelease<'_>>,
-    activity: Activity<'_>,
+    since: u64,
 ) -> Result<(), AllocError> {
     let Some(active) = active else {
         return put_all(
@@ -156,18 +181,18 @@ fn put_active_members(
             Fragment::Plain(b",\"skipped\":"),
             Fragment::Number(active.holdings().aside().len() as u64),
             Fragment::Plain(b",\"active_since\":"),
-            Fragment::Number(activity.active_since(active.name())),
+            Fragment::Number(since),
         ],
     )
 }
 
-// Writes the status of a release as an object of JSON.
+// Writes the status of a release as an object of JSON. If it is active, the node answers from it since this second.
 fn put_object(
     alloc: Global,
     out: &mut Vec<u8>,
     status: &ReleaseStatus<'_>,
     active: Option<&ActiveRelease<'_>>,
-    activity: Activity<'_>,
+    since: u64,
 ) -> Result<(), AllocError> {
     put_all(
         out,
@@ -184,7 +209,7 @@ fn put_object(
         ],
     )?;
     put_reason(alloc, out, status)?;
-    put_active_members(out, active, activity)?;
+    put_active_members(out, active, since)?;
     put_all(out, &[Fragment::Plain(b"}")])
 }
 
@@ -224,17 +249,16 @@ fn put_json(
     statuses: &[ReleaseStatus<'_>],
     actives: &[ActiveRelease<'_>],
     activity: Activity<'_>,
-) -> Result<(), AllocError> {
+) -> Result<(), AllocError>
+    requires { AreInOrder actives.now }
+{
+    let ends = sorted_ends(alloc, activity.activations)?;
     put_list_start(out)?;
     for (place, status) in statuses.iter().enumerate() {
         put_comma(out, place)?;
-        put_object(
-            alloc,
-            out,
-            status,
-            active_named(actives, status.name),
-            activity,
-        )?;
+        let active = active_named(actives, status.name);
+        let since = end_of(&ends, status.name.text()).unwrap_or(activity.started);
+        put_object(alloc, out, status, active, since)?;
     }
     for (place, fetch) in activity.fetches.iter().enumerate() {
         put_comma(out, statuses.len().saturating_add(place))?;

@@ -1,10 +1,11 @@
 //! The last fetch of each package, of a bounded number of packages.
+use feed_keep::LARGE_CAPACITY;
 use feed_names::ReleaseName;
 use node_resolver::LastFetch;
 use std::alloc::{AllocError, Global};
 
-// The most packages. A feed records as many releases.
-const MOST: usize = 256;
+// The most packages: as many as a node may record releases.
+const MOST: usize = LARGE_CAPACITY;
 
 /// The last fetch of each package, the latest one last.
 #[derive(Drop)]
