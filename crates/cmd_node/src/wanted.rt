@@ -1,16 +1,17 @@
 //! The file with the packages that readers of a node wait for.
 use feed_console::{Console, DONE, FAILED, MISUSED, open_plain_file, read_front};
-use feed_keep::Keep;
+use feed_keep::{Keep, LARGE_CAPACITY};
 use feed_names::{NameFault, ReleaseName};
-use feed_releases::Feed;
+use feed_releases::{Feed, find_package};
 use node_service::WantedPackage;
 use std::alloc::Global;
 use std::io::Write;
 
-// The most bytes of the file, and the most packages: as many as a feed records releases.
-const BYTE_LIMIT: usize = 65_536;
+// The most bytes of the file.
+const BYTE_LIMIT: usize = 1_048_576;
 
-const PACKAGE_LIMIT: usize = 256;
+// The most packages: as many as a node may record releases.
+const PACKAGE_LIMIT: usize = LARGE_CAPACITY;
 
 // The end that makes a release name of the name of a package.
 const SOME_DAY: &[u8] = b"_2000-01-01.txt";
@@ -56,7 +57,7 @@ pub fn read_wanted<O: Write, F: Write + Drop>(
             console.faults.report_with(
                 "Wanted TooLong",
                 path,
-                "it has more than 65536 bytes",
+                "it has more than 1048576 bytes",
                 MISUSED,
             ),
         );
@@ -115,7 +116,7 @@ fn report_line<O: Write, F: Write + Drop>(
         LineFault::Memory => return console.faults.report("Memory", FAILED),
         LineFault::NoName =>
             "it is neither a package, as Acme_Global_All, nor the name of a release",
-        LineFault::TooMany => "there are more than 256 packages",
+        LineFault::TooMany => "there are more than 4096 packages",
     };
     let line = place.saturating_add(1);
     console
@@ -123,15 +124,19 @@ fn report_line<O: Write, F: Write + Drop>(
         .report_with(format_args!("Wanted line {line}"), path, why, MISUSED)
 }
 
-/// Reports each wanted package without an active release.
+/// Reports each wanted package without an active release, or that memory ran out.
 pub fn note_missing<K: Keep, O: Write, F: Write + Drop>(
     feed: &Feed<K>,
     wanted: &[WantedPackage],
     console: &mut Console<'_, O, F>,
 ) {
+    let Ok(actives) = feed.actives() else {
+        let _ = console.faults.report("Memory", DONE);
+        return;
+    };
     for package in wanted {
         let text = str::from_utf8(package.text()).unwrap_or("");
-        if feed.report(package.text()).is_none() {
+        if find_package(&actives, package.text()).is_none() {
             let _ = console.faults.report_with(
                 format_args!("NoRelease {text}"),
                 text,

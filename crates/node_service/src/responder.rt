@@ -151,7 +151,7 @@ impl<'a> FeedResponder<'a> {
         match self.operator_response(alloc, occasion, request)? {
             Some(response) => Ok(Some(response)),
             None => {
-                if !is_answerable(feed, self.wanted, received) {
+                if !is_answerable(feed, self.wanted, received)? {
                     return Ok(None);
                 }
                 let response = respond_as_node(

@@ -1,9 +1,11 @@
 //! The packages that a node waits for before it answers readers.
 ghost use Rattle.std.specs.Prelude.{◌≡◌, ◌&&◌, ◌++◌, IfOk, MatchBool, OnOk, is_some, not};
+ghost use Rattle.std.specs.List.{list_all};
 ghost use Rattle.httparse.specs.Grammar.{RequestHead};
 ghost use Rattle.feed_http_heads.specs.Requests.{HasHead, lacks_host};
 ghost use Rattle.feed_model.specs.History.{History};
 ghost use Rattle.feed_model.specs.Content.{IsContent};
+ghost use Rattle.feed_releases.specs.Actives.{AreInOrder};
 ghost use Rattle.feed_releases.specs.Feeds.{recorded};
 ghost use Rattle.node_request.specs.FetchRequests.{name_to_fetch};
 ghost use Rattle.node_resolver.specs.NodeResponses.{AsksForFetch, AsksForNoFetch};
@@ -11,7 +13,7 @@ ghost use Rattle.node_service.specs.Wanted.{HasEach, IsAnswerable, IsUnanswerabl
 ghost use Rattle.node_service.specs.Wanted.{has_package, missing_line, missing_text};
 
 use feed_keep::Keep;
-use feed_releases::{ActiveRelease, Feed};
+use feed_releases::{ActiveRelease, Feed, find_package};
 use node_request::{ParsedRequest, ReceivedRequest, name_to_fetch};
 use std::alloc::{AllocError, Global};
 use std::marker::Model;
@@ -49,24 +51,34 @@ impl WantedPackage {
 pub(crate) const MISSING: &[u8] = b"no active release of ";
 
 fn has_package(actives: &[ActiveRelease<'_>], package: &[u8]) -> bool
+    requires { AreInOrder actives.now }
     ensures { result ≡ has_package actives.now «package».now }
 {
-    actives
-        .iter()
-        .any(|active| active.name().package() == package)
+    find_package(actives, package).is_some()
 }
 
-// Returns whether each wanted package has an active release.
-fn has_each<K: Keep>(feed: &Feed<K>, wanted: &[WantedPackage]) -> bool
-    ensures { (h : History) → IsContent (recorded feed.now) h
-        → MatchBool result (HasEach h wanted.now) (LacksOne h wanted.now) }
+// Returns whether one of these active releases is of each wanted package.
+fn have_each(actives: &[ActiveRelease<'_>], wanted: &[WantedPackage]) -> bool
+    requires { AreInOrder actives.now }
+    ensures { result ≡ list_all (has_package actives.now) wanted.now }
 {
     for awaited in wanted {
-        if feed.report(awaited.text()).is_none() {
+        if !has_package(actives, awaited.text()) {
             return false;
         }
     }
     true
+}
+
+// Returns whether each wanted package has an active release.
+fn has_each<K: Keep>(feed: &Feed<K>, wanted: &[WantedPackage]) -> Result<bool, AllocError>
+    ensures { IfOk result (λ has. (h : History) → IsContent (recorded feed.now) h
+        → MatchBool has (HasEach h wanted.now) (LacksOne h wanted.now)) }
+{
+    if wanted.is_empty() {
+        return Ok(true);
+    }
+    Ok(have_each(&feed.actives()?, wanted))
 }
 
 fn put_missing_line(
@@ -74,6 +86,7 @@ fn put_missing_line(
     actives: &[ActiveRelease<'_>],
     package: &[u8],
 ) -> Result<(), AllocError>
+    requires { AreInOrder actives.now }
     ensures { OnOk result (out.new.items ≡ out.old.items ++ missing_line actives.now «package».now) }
 {
     if has_package(actives, package) {
@@ -90,6 +103,7 @@ pub(crate) fn missing_text(
     actives: &[ActiveRelease<'_>],
     wanted: &[WantedPackage],
 ) -> Result<Vec<u8>, AllocError>
+    requires { AreInOrder actives.now }
     ensures { IfOk result (λ text. text.items ≡ missing_text actives.now wanted.now) }
 {
     let mut text = Vec::new(alloc);
@@ -122,13 +136,13 @@ pub(crate) fn is_answerable<K: Keep>(
     feed: &Feed<K>,
     wanted: &[WantedPackage],
     received: &ReceivedRequest<'_>,
-) -> bool
-    ensures { (h : History) → IsContent (recorded feed.now) h
-        → MatchBool result (IsAnswerable wanted.now h received.now.bytes.now)
-        (IsUnanswerable wanted.now h received.now.bytes.now) }
+) -> Result<bool, AllocError>
+    ensures { IfOk result (λ is. (h : History) → IsContent (recorded feed.now) h
+        → MatchBool is (IsAnswerable wanted.now h received.now.bytes.now)
+        (IsUnanswerable wanted.now h received.now.bytes.now)) }
 {
-    if has_each(feed, wanted) {
-        return true;
+    if has_each(feed, wanted)? {
+        return Ok(true);
     }
-    asks_for_fetch(received)
+    Ok(asks_for_fetch(received))
 }
