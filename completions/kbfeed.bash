@@ -30,7 +30,8 @@ _kbfeed() {
     serve) options='-h --help -v --verbose --count --timeout' ;;
     node)
       options='-h --help -v --verbose --check --from --token --site --sites --wanted --piece --fetch-timeout
-        --any-type --max-shrink --clients --timeout --idle --max-age --metrics --forwarded --log-queries' ;;
+        --any-type --max-shrink --clients --timeout --idle --max-age --metrics --metrics-packages --forwarded
+        --log-queries' ;;
     fetch) options='-h --help -v --verbose --piece --timeout' ;;
     export) options='-h --help -v --verbose --scholar' ;;
     replay | answer | ask | status | why) options='-h --help -v --verbose' ;;

@@ -88,6 +88,7 @@ complete -c kbfeed -n '__kbfeed_at "node/*" "fetch/*"' -x -l piece -d 'The most 
 complete -c kbfeed -n '__kbfeed_at "node/*"' -x -l idle -d 'Seconds that a connection may wait between two requests'
 complete -c kbfeed -n '__kbfeed_at "node/*"' -x -l max-age -d 'Seconds that a cache may use an answer without asking again'
 complete -c kbfeed -n '__kbfeed_at "node/*"' -x -l metrics -a 'local any' -d 'Which clients may get the metrics and the health'
+complete -c kbfeed -n '__kbfeed_at "node/*"' -l metrics-packages -d 'Has the metrics name each package, even of more than 256'
 complete -c kbfeed -n '__kbfeed_at "node/*"' -l forwarded -d 'Logs the address in X-Forwarded-For of a client on this machine'
 complete -c kbfeed -n '__kbfeed_at "node/*"' -x -l log-queries -a 'yes no' -d 'Whether the log has the queries of readers'
 complete -c kbfeed -n '__kbfeed_at "export/*"' -r -F -l scholar -d 'The database of the node, for library links of Google Scholar'

@@ -10,7 +10,7 @@ use std::alloc::{AllocError, Global};
 const TOKEN_USES: &str = "from or sites";
 
 /// The arguments of `node`.
-pub static NODE: [Argument; 19] = [
+pub static NODE: [Argument; 20] = [
     DATABASE,
     LISTENING_ADDRESS,
     Argument {
@@ -115,6 +115,11 @@ pub static NODE: [Argument; 19] = [
         help: "Which clients may get /metrics and /health",
     },
     Argument {
+        id: "metrics-packages",
+        kind: ArgumentKind::Flag { excludes: &[] },
+        help: "Has /metrics name each package, even if there are more than 256",
+    },
+    Argument {
         id: "forwarded",
         kind: ArgumentKind::Flag { excludes: &[] },
         help: "Logs the address in X-Forwarded-For of a client on this machine",
@@ -149,6 +154,7 @@ pub fn node_options<'a>(given: &ArgMatches<'a>) -> NodeOptions<'a> {
             is_forwarded: given.get_flag("forwarded"),
             has_queries: text(given, "log-queries") != "no",
             has_open_reports: text(given, "metrics") == "any",
+            has_all_series: given.get_flag("metrics-packages"),
         },
         is_check: given.get_flag("check"),
         site: site_path(given),

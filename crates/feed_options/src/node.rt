@@ -47,7 +47,7 @@ pub enum SitePath<'a> {
     Folder(&'a str),
 }
 
-/// The fields that the log of a node shows, and the clients that may have reports of the node.
+/// The fields that the log of a node shows, the clients that may have its reports, and the series of its metrics.
 #[derive(Clone, Copy)]
 pub struct LogOptions {
     /// Whether a peer on the same machine is a proxy, which states the address of its client.
@@ -56,6 +56,8 @@ pub struct LogOptions {
     pub has_queries: bool,
     /// Whether all clients may have reports of the node, and not only those on the same machine.
     pub has_open_reports: bool,
+    /// Whether the metrics have a series for each package even if more than 256 have an active release.
+    pub has_all_series: bool,
 }
 
 /// The server that a node fetches releases from, and the limits of its fetches.

@@ -1,5 +1,5 @@
 -- The text of the metrics, in the Prometheus exposition format, version 0.0.4.
-use Rattle.std.specs.Prelude.{◌≡◌, ℕ, zero, suc, List, [], ◌∷◌, ◌++◌, codes, length, nat_lt, if◌then◌else◌, slice_index, Option, Some, None}
+use Rattle.std.specs.Prelude.{◌≡◌, ℕ, zero, suc, List, [], ◌∷◌, ◌++◌, codes, length, nat_lt, if◌then◌else◌, slice_index, Option, Some, None, Bool, ◌||◌, nat_le}
 use Rattle.std.specs.List.{flat_map}
 use Rattle.std.specs.Fmt.{decimal}
 use Rattle.node_monitoring.specs.declared.counter.Counter.{Counter}
@@ -157,9 +157,17 @@ release_line release = joined (
 abbrev pub release_lines : List ReleaseTime → List ℕ
 release_lines releases = flat_map release_line releases
 
+-- each active release has a series: at most 256 are active, or the operator asks for the series of all
+abbrev pub has_series : Gauges → Bool
+has_series g = g.has_all_series || nat_le (length g.releases.now) 256
+
+-- the lines of the active releases, if these have series, or else nothing
+abbrev pub series_text : Gauges → List ℕ
+series_text g = if has_series g then release_lines g.releases.now else []
+
 -- the active releases
-abbrev pub releases_text : List ReleaseTime → List ℕ
-releases_text releases = RELEASES.now ++ release_lines releases
+abbrev pub releases_text : Gauges → List ℕ
+releases_text g = RELEASES.now ++ series_text g
 
 -- the time since the last switch, if there was one
 abbrev pub switch_text : Option ℕ → List ℕ
@@ -168,7 +176,7 @@ switch_text None = []
 
 -- what a node is now, behind what it has counted
 abbrev pub state_text : Gauges → List ℕ
-state_text g = releases_text g.releases.now ++ switch_text g.since_switch
+state_text g = releases_text g ++ switch_text g.since_switch
 
 -- the text
 abbrev pub metrics_text : MetricsValue → Gauges → List ℕ

@@ -3,7 +3,7 @@ ghost use Rattle.std.specs.Prelude.{◌≡◌, ◌<◌, ◌++◌, OnOk};
 ghost use Rattle.std.specs.List.{flat_map};
 ghost use Rattle.node_monitoring.specs.MetricsTexts.{bucket_at, bucket_line, buckets_text, counter_line, request_line};
 ghost use Rattle.node_monitoring.specs.MetricsTexts.{class_lines, gauges_text, metrics_text, release_line};
-ghost use Rattle.node_monitoring.specs.MetricsTexts.{releases_text};
+ghost use Rattle.node_monitoring.specs.MetricsTexts.{has_series, releases_text, series_text};
 ghost use Rattle.node_monitoring.specs.MetricsTexts.{counted_text, release_lines, requests_text, state_text};
 ghost use Rattle.node_monitoring.specs.MetricsTexts.{named_sites_text, site_line, site_lines, sites_text};
 ghost use Rattle.node_monitoring.specs.MetricsTexts.{switch_text};
@@ -27,6 +27,8 @@ pub struct Gauges<'a> {
     /// The bytes that are allocated for responses to be sent.
     pub held_bytes: u64,
     pub releases: &'a [ReleaseTime<'a>],
+    /// Whether each release has a series even if more than 256 are active.
+    pub has_all_series: bool,
     /// The seconds since the node last switched to a release, if it has.
     pub since_switch: Option<u64>,
 }
@@ -77,7 +79,8 @@ pub(crate) const SUM: &[u8] = b"\nkbfeed_request_duration_seconds_sum ";
 pub(crate) const COUNT: &[u8] = b"\nkbfeed_request_duration_seconds_count ";
 
 pub(crate) const RELEASES: &[u8] =
-    b"# HELP kbfeed_active_release_timestamp_seconds Day of the active release of each package.\n\
+    b"# HELP kbfeed_active_release_timestamp_seconds Day of the active release of each package; \
+    of more than 256 only with --metrics-packages.\n\
     # TYPE kbfeed_active_release_timestamp_seconds gauge\n";
 
 pub(crate) const RELEASE: &[u8] = b"kbfeed_active_release_timestamp_seconds{package=\"";
@@ -86,6 +89,9 @@ pub(crate) const SWITCH: &[u8] =
     b"# HELP kbfeed_since_switch_seconds Time since the last switch to a release.\n\
     # TYPE kbfeed_since_switch_seconds gauge\n\
     kbfeed_since_switch_seconds ";
+
+// The most active releases whose series are never left out. Past them, each scrape would bring thousands of lines.
+const SERIES_LIMIT: usize = 256;
 
 fn put_gauges(out: &mut Vec<u8>, gauges: &Gauges<'_>) -> Result<(), AllocError>
     ensures { OnOk result (out.new.items ≡ out.old.items ++ gauges_text gauges.now) }
@@ -290,11 +296,28 @@ fn put_release_lines(out: &mut Vec<u8>, releases: &[ReleaseTime<'_>]) -> Result<
     Ok(())
 }
 
-fn put_releases(out: &mut Vec<u8>, releases: &[ReleaseTime<'_>]) -> Result<(), AllocError>
-    ensures { OnOk result (out.new.items ≡ out.old.items ++ releases_text releases.now) }
+// Returns whether each active release has a series.
+fn has_series(gauges: &Gauges<'_>) -> bool
+    ensures { result ≡ has_series gauges.now }
+{
+    gauges.has_all_series || gauges.releases.len() <= SERIES_LIMIT
+}
+
+fn put_series(out: &mut Vec<u8>, gauges: &Gauges<'_>) -> Result<(), AllocError>
+    ensures { OnOk result (out.new.items ≡ out.old.items ++ series_text gauges.now) }
+{
+    if has_series(gauges) {
+        put_release_lines(out, gauges.releases)
+    } else {
+        Ok(())
+    }
+}
+
+fn put_releases(out: &mut Vec<u8>, gauges: &Gauges<'_>) -> Result<(), AllocError>
+    ensures { OnOk result (out.new.items ≡ out.old.items ++ releases_text gauges.now) }
 {
     put(out, RELEASES)?;
-    put_release_lines(out, releases)
+    put_series(out, gauges)
 }
 
 fn put_switch(out: &mut Vec<u8>, since_switch: Option<u64>) -> Result<(), AllocError>
@@ -340,7 +363,7 @@ fn put_counted(out: &mut Vec<u8>, metrics: &Metrics) -> Result<(), AllocError>
 fn put_state(out: &mut Vec<u8>, gauges: &Gauges<'_>) -> Result<(), AllocError>
     ensures { OnOk result (out.new.items ≡ out.old.items ++ state_text gauges.now) }
 {
-    put_releases(out, gauges.releases)?;
+    put_releases(out, gauges)?;
     put_switch(out, gauges.since_switch)
 }
 

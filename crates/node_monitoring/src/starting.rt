@@ -38,6 +38,7 @@ pub fn respond_at_start(
         open,
         held_bytes: 0,
         releases: &[],
+        has_all_series: false,
         since_switch: None,
     };
     let found = respond_about_node(alloc, received, request.keeps, metrics, &gauges, b"")?;

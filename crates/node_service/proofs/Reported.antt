@@ -19,16 +19,18 @@ gets_none is_local is_open bytes (inr (head, begins, none)) =
 
 pub report_in : (responder : FeedResponder) (is_local : Bool) (h : History) (bytes : List ℕ) (keeps : Bool) (actives : List ActiveValue) (releases : List ReleaseTime)
     (missing : List ℕ) (found : Option ReportResponse) → HasReport responder is_local bytes → AreReported h actives → map time_of releases ≡ map active_time actives
-    → missing ≡ missing_text actives responder.wanted.now → IsSomeResponse bytes keeps releases missing found → IsReportIn responder is_local h bytes keeps found
-report_in responder is_local h bytes keeps actives releases missing None allowed reported same lines (metrics, gauges, of, is) =
+    → missing ≡ missing_text actives responder.wanted.now → IsSomeResponse bytes keeps releases responder.has_all_series missing found
+    → IsReportIn responder is_local h bytes keeps found
+report_in responder is_local h bytes keeps actives releases missing None allowed reported same lines (metrics, gauges, of, series, is) =
     gets_none is_local responder.has_open_reports bytes is
-report_in responder is_local h bytes keeps actives releases missing (Some reply) allowed reported same lines (metrics, gauges, of, is) = record {
+report_in responder is_local h bytes keeps actives releases missing (Some reply) allowed reported same lines (metrics, gauges, of, series, is) = record {
   allowed = allowed;
   metrics = metrics;
   gauges = gauges;
   actives = actives;
   reported = reported;
   releases = ap (map time_of) of ∙ same;
+  series = series;
   is = subst (λ (text : List ℕ). IsReportAnswer metrics gauges text bytes keeps reply) lines is;
 }
 
@@ -37,7 +39,7 @@ pub report_of_slices : (responder : FeedResponder) (is_local : Bool) (h : Histor
     (releases times : List ReleaseTime) (missing lines : List ℕ) (found : Option ReportResponse) → HasReport responder is_local bytes → AreReported h actives
     → timed ≡ actives → map time_of releases ≡ map active_time timed → times ≡ releases
     → listed ≡ actives → missing ≡ missing_text listed responder.wanted.now → lines ≡ missing
-    → IsSomeResponse bytes keeps times lines found → IsReportIn responder is_local h bytes keeps found
+    → IsSomeResponse bytes keeps times responder.has_all_series lines found → IsReportIn responder is_local h bytes keeps found
 report_of_slices responder is_local h bytes keeps actives timed listed releases times missing lines found allowed reported as_timed same as_times as_listed text as_lines is =
     report_in responder is_local h bytes keeps actives times lines found allowed reported
     (ap (map time_of) as_times ∙ same ∙ ap (map active_time) as_timed)

@@ -22,6 +22,7 @@ same_report old sites is_local h bytes keeps reply is = record {
   actives = is.actives;
   reported = is.reported;
   releases = is.releases;
+  series = is.series;
   is = is.is;
 }
 

@@ -96,6 +96,7 @@ fn run_over<'a, K: Keep, W: Write, F: Write>(
         sites: setup.sites,
         version: setup.options.version_number().as_bytes(),
         has_open_reports: setup.options.log.has_open_reports,
+        has_all_series: setup.options.log.has_all_series,
         wanted: setup.wanted,
         has_folder: has_folder(setup.options),
     };

@@ -243,8 +243,9 @@ impl NodeState {
         }
     }
 
-    /// Returns the response to a request for a report, from what was counted, these active releases, and a line for
-    /// each wanted one that is missing. Returns none for any other request.
+    /// Returns the response to a request for a report, from what was counted, these active releases, which have series
+    /// in any case or only if there are at most 256, and a line for each wanted one that is missing. Returns none for
+    /// any other request.
     ///
     /// # Errors
     ///
@@ -255,10 +256,12 @@ impl NodeState {
         request: &IncomingRequest<'_>,
         version: &[u8],
         releases: &[ReleaseTime<'_>],
+        has_all_series: bool,
         missing: &[u8],
     ) -> Result<Option<ReportResponse>, AllocError>
         ensures value { IfOk result
-            (IsSomeResponse request.now.received.bytes.now request.now.persists releases.now missing.now) }
+            (IsSomeResponse request.now.received.bytes.now request.now.persists releases.now has_all_series
+            missing.now) }
         ensures says { IfOk result (λ found. IfSome found (λ reply.
             SaysWhetherItKeeps request.now.persists reply.bytes.items)) }
     {
@@ -270,6 +273,7 @@ impl NodeState {
                     open: counts.open,
                     held_bytes: facts.held_bytes,
                     releases,
+                    has_all_series,
                     since_switch: facts.since_switch,
                 };
                 respond_about_node(

@@ -42,6 +42,8 @@ pub struct FeedResponder<'a> {
     pub version: &'a [u8],
     /// Whether clients on other machines may have reports of the node, too.
     pub has_open_reports: bool,
+    /// Whether the metrics have a series for each active release even if these are more than 256.
+    pub has_all_series: bool,
     /// The packages that readers wait for.
     pub wanted: &'a [WantedPackage],
     /// Whether the node has a folder of site files, which an operator may have it read again.
@@ -196,8 +198,14 @@ impl<'a> FeedResponder<'a> {
         let actives = occasion.feed.actives()?;
         let releases = release_times(alloc, &actives)?;
         let missing = missing_text(alloc, &actives, self.wanted)?;
-        self.state
-            .report(alloc, request, self.version, &releases, &missing)
+        self.state.report(
+            alloc,
+            request,
+            self.version,
+            &releases,
+            self.has_all_series,
+            &missing,
+        )
     }
 
     // Returns the response to a reader, or to a client that has the token. It is streamed exactly if the request makes

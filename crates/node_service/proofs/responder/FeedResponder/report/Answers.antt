@@ -8,7 +8,7 @@ use Rattle.node_service.proofs.responder.FeedResponder.report.Goals as goal
 
 pub returns-clause-value : goal.returns-clause-value
 returns-clause-value g c = IfOk-weaker c.report.result
-    (IsSomeResponse c.args.request.now.received.bytes.now c.args.request.now.persists c.deref-3.result.now c.deref-4.result.now)
+    (IsSomeResponse c.args.request.now.received.bytes.now c.args.request.now.persists c.deref-3.result.now c.args.self.now.has_all_series c.deref-4.result.now)
     (λ found. (h : History) → IsContent (recorded c.args.occasion.now.feed.now) h
     → IsReportIn c.args.self.now c.args.occasion.now.is_local h c.args.request.now.received.bytes.now c.args.request.now.persists found)
     (λ found is. λ h content. report_of_slices c.args.self.now c.args.occasion.now.is_local h c.args.request.now.received.bytes.now c.args.request.now.persists
