@@ -4,7 +4,7 @@ use Rattle.httparse.specs.Grammar.{RequestHead}
 use Rattle.feed_keep.specs.declared.keep.Keep.{Ghosts}
 use Rattle.feed_names.specs.ReleaseName.{Name}
 use Rattle.feed_model.specs.History.{History, Answer, Piece}
-use Rattle.feed_releases.specs.Feeds.{recorded}
+use Rattle.feed_releases.specs.Feeds.{most_of, recorded}
 use Rattle.feed_releases.specs.declared.feed.Feed.{Feed}
 use Rattle.feed_http.specs.declared.fetching.got.Got.{Got}
 use Rattle.feed_fetch.specs.Answers.{HasRightAnswer}
@@ -111,11 +111,11 @@ module _ {T K S V : Type 0} {k : Ghosts K} (wanted : S → RequestHead → ℕ)
 
   -- after an event of the exchange, if its response is arriving
   pub later_either : (event : ExchangeEvent) (old new : NodeMachine T K S k) → (is_arriving (exchange_of old.fetching) ≡ true → HasExchanged wanted replies sites event old new)
-      → (is_arriving (exchange_of old.fetching) ≡ false → new ≡ old) → IsLater wanted replies sites old new
-  later_either event old new has same = by (is_arriving (exchange_of old.fetching)) refl
+      → (is_arriving (exchange_of old.fetching) ≡ false → new ≡ old) → most_of new.feed ≡ most_of old.feed → IsLater wanted replies sites old new
+  later_either event old new has same room = by (is_arriving (exchange_of old.fetching)) refl
     where
       by : (b : Bool) → is_arriving (exchange_of old.fetching) ≡ b → IsLater wanted replies sites old new
-      by true is = later_exchanged wanted replies sites event old new (has is)
+      by true is = later_exchanged wanted replies sites event old new room (has is)
       by false is = subst (λ node. IsLater wanted replies sites old node) (sym (same is)) (later_same {wanted = wanted} {replies = replies} {sites = sites} old)
 
   -- the response that was taken is the one that the exchange ended with
@@ -142,11 +142,12 @@ module _ {T K S V : Type 0} {k : Ghosts K} (wanted : S → RequestHead → ℕ)
   -- after such a part, if one has arrived
   pub later_part : (old new : NodeMachine T K S k) (was : Fetching) → old.fetching ≡ Some was
       → (◌≡◌ {A = Option (ℕ × ℕ × List ℕ)} (part_of (exchange_of old.fetching)) None → new ≡ old)
-      → ((history : List (NodeEvent V)) → HasHistory wanted replies sites old history → HasTakenPart wanted replies sites old new history) → IsLater wanted replies sites old new
-  later_part old new was is idle taken = by (part_of was.exchange) refl
+      → ((history : List (NodeEvent V)) → HasHistory wanted replies sites old history → HasTakenPart wanted replies sites old new history)
+      → most_of new.feed ≡ most_of old.feed → IsLater wanted replies sites old new
+  later_part old new was is idle taken room = by (part_of was.exchange) refl
     where
       by : (part : Option (ℕ × ℕ × List ℕ)) → part_of was.exchange ≡ part → IsLater wanted replies sites old new
       by None none =
           subst (λ node. IsLater wanted replies sites old node) (sym (idle (ap (λ (f : Option Fetching). part_of (exchange_of f)) is ∙ none)))
           (later_same {wanted = wanted} {replies = replies} {sites = sites} old)
-      by (Some (first, size, bytes)) some = later_taken_part wanted replies sites was first size bytes old new is some taken
+      by (Some (first, size, bytes)) some = later_taken_part wanted replies sites was first size bytes old new is some room taken

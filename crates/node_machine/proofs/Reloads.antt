@@ -4,6 +4,7 @@ use Rattle.std.specs.Prelude.{◌⊎◌, IfSome, IsSome, option_copied}
 use Rattle.httparse.specs.Grammar.{RequestHead}
 use Rattle.feed_keep.specs.declared.keep.Keep.{Ghosts}
 use Rattle.feed_model.specs.History.{History}
+use Rattle.feed_releases.specs.Feeds.{most_of}
 use Rattle.node_request.specs.declared.sites_target.SitesRequest.{SitesRequest}
 use Rattle.node_request.specs.declared.sites_target.SitesRequest.TheVariants.{Reload}
 use Rattle.node_connection.specs.Events.{Event}
@@ -157,9 +158,10 @@ module _ {T K S V : Type 0} {k : Ghosts K} (wanted : S → RequestHead → ℕ)
   }
 
   -- either, by what a client had asked
-  pub kept_later : (old new : NodeMachine T K S k) → (old.reload ≡ None → new ≡ old) → HasKeptSites wanted replies sites old new → IsLater wanted replies sites old new
-  kept_later old new same has = by old.reload refl
+  pub kept_later : (old new : NodeMachine T K S k) → (old.reload ≡ None → new ≡ old)
+      → most_of new.feed ≡ most_of old.feed → HasKeptSites wanted replies sites old new → IsLater wanted replies sites old new
+  kept_later old new same room has = by old.reload refl
     where
       by : (asked : Option SitesRequest) → old.reload ≡ asked → IsLater wanted replies sites old new
       by None is = later_as old new (same is)
-      by (Some asked) is = later_kept_sites wanted replies sites asked old new is has
+      by (Some asked) is = later_kept_sites wanted replies sites asked old new is room has

@@ -1,14 +1,13 @@
 -- The node after a history.
-use Rattle.std.specs.Prelude.{◌≡◌, ◌⊎◌, ◌∷◌, ◌++◌, ◌||◌, ◌≤◌, ℕ, Bool, true, List, Option, None, Some, IfSome, is_some, Result, option_copied}
+use Rattle.std.specs.Prelude.{◌≡◌, ◌⊎◌, ◌∷◌, ◌++◌, ◌||◌, ℕ, Bool, true, List, Option, None, Some, IfSome, is_some, Result, option_copied}
 use Rattle.std.specs.Option.{option_or}
 use Rattle.httparse.specs.Grammar.{RequestHead}
 use Rattle.feed_names.specs.ReleaseName.{Name}
 use Rattle.feed_names.specs.declared.release_name.NameFault.{NameFault}
 use Rattle.feed_keep.specs.declared.keep.Keep.{Ghosts}
 use Rattle.feed_model.specs.History.{History, Answer}
-use Rattle.feed_model.specs.Content.{Content, IsContent, within}
-use Rattle.feed_model.specs.Reply.{max_held}
-use Rattle.feed_releases.specs.Feeds.{recorded}
+use Rattle.feed_model.specs.Content.{IsContent}
+use Rattle.feed_releases.specs.Feeds.{most_of, recorded}
 use Rattle.feed_http.specs.declared.fetching.got.Got.{Got}
 use Rattle.feed_fetch.specs.declared.stop.RequestFault.{RequestFault}
 use Rattle.node_connection.specs.Events.{Event}
@@ -48,10 +47,6 @@ release_of (Some fetching) = Some fetching.name
 abbrev pub exchange_of : Option Fetching → Option Exchange
 exchange_of None = None
 exchange_of (Some fetching) = fetching.exchange
-
--- the content is one of the history, for a feed that may record at least 256 releases and at most this many
-abbrev pub IsContentUpTo : ℕ → Content → History → Type 0
-IsContentUpTo room c h = (most : ℕ) × (max_held ≤ most) × (most ≤ room) × IsContent (within most c) h
 
 module _ {T K S : Type 0} {k : Ghosts K} where
   -- the connections of a node
@@ -165,6 +160,7 @@ module _ {T K S V : Type 0} {k : Ghosts K} (wanted : S → RequestHead → ℕ)
   abbrev pub KeepsHistory : NodeMachine T K S k → NodeMachine T K S k → Type 0
   KeepsHistory old new = (history : List (NodeEvent V)) → HasHistory old history → HasHistory new history
 
-  -- each history that the node had continues with some events to one that it has
+  -- each history that the node had continues with some events to one that it has. Its feed may record as many releases
   pub record IsLater (old new : NodeMachine T K S k) : Type 0 where
     pub history : (history : List (NodeEvent V)) → HasHistory old history → (later : List (NodeEvent V)) × HasHistory new (later ++ history)
+    pub room : most_of new.feed ≡ most_of old.feed

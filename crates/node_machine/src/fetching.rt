@@ -3,10 +3,9 @@ ghost use Rattle.std.specs.Prelude.{◌≡◌, ◌≤◌, ◌⊎◌, ◌∷◌, 
 ghost use Rattle.std.specs.Prelude.{IfErr, IfOk, IfSome, IsOkAnd, IsSome, IsTrue};
 ghost use Rattle.feed_names.specs.ReleaseName.{Name, text_of};
 ghost use Rattle.feed_limits.specs.Limits.{piece_limit};
-ghost use Rattle.feed_model.specs.Content.{IsContent};
+ghost use Rattle.feed_model.specs.Content.{IsContent, within};
 ghost use Rattle.feed_model.specs.History.{History, Piece};
-ghost use Rattle.feed_keep.specs.Capacity.{capacity_with};
-ghost use Rattle.feed_releases.specs.Feeds.{recorded};
+ghost use Rattle.feed_releases.specs.Feeds.{most_of, recorded};
 ghost use Rattle.feed_http.specs.RequestTexts.{is_host};
 ghost use Rattle.feed_fetch.specs.Answers.{HasRightAnswer, IsStoppedAt, piece_result, response_or_stop};
 ghost use Rattle.feed_fetch.specs.Owed.{IsSubmitted};
@@ -17,7 +16,7 @@ ghost use Rattle.node_machine.specs.Exchanges.{is_arriving, method_of, part_of, 
 ghost use Rattle.node_machine.specs.NodeEvents.{NodeEvent, feed_history};
 ghost use Rattle.node_machine.specs.Rules.{AreGiven};
 ghost use Rattle.node_machine.specs.Nodes.{HasBegun, HasExchanged, HasFinished, HasHistory, HasRequested};
-ghost use Rattle.node_machine.specs.Nodes.{HasTaken, HasTakenPart, IsContentUpTo, IsLater, KeepsHistory};
+ghost use Rattle.node_machine.specs.Nodes.{HasTaken, HasTakenPart, IsLater, KeepsHistory};
 ghost use Rattle.node_machine.specs.Nodes.{exchange_of, release_of};
 
 use crate::exchange::{Arrival, Exchange};
@@ -104,8 +103,9 @@ fn submit<K: Keep, O: Observe>(
     reply: &Result<Got, RequestFault>,
     out: &mut O,
 ) -> Result<(), Stop>
-    ensures { IsSubmitted name.now fetch.old.phase reply.now
+    ensures owed { IsSubmitted name.now fetch.old.phase reply.now
         (λ k. IfErr result (λ stop. IsStoppedAt name.now stop k)) (recorded feed.old) (recorded feed.new) }
+    ensures room { most_of feed.new ≡ most_of feed.old }
 {
     if is_read_again {
         fetch.take_again(feed, name, reply, out)
@@ -183,6 +183,7 @@ fn submit_part<K: Keep, O: Observe>(
         → part_of (Some (Exchange.Arriving arrival)) ≡ Some (first, size, bytes)
         → (events : List ExchangeEvent) (given : List ℕ) → HasArrived arrival events given
         → HasArrived result.0 events (given ++ bytes) × HasArrivedPart events size first bytes }
+    ensures room { most_of feed.new ≡ most_of feed.old }
     ensures idle { part_of (Some (Exchange.Arriving arrival)) ≡ None
         → (result.0 ≡ arrival) × (fetch.new ≡ fetch.old) × (feed.new ≡ feed.old) }
 {
@@ -463,7 +464,8 @@ impl<'a, T: Stream, K: Keep, S: FeedRespond + Drop> NodeMachine<'a, T, K, S> {
     pub fn into_keeper(self) -> K
         ensures { (history : List (NodeEvent S.Sites))
             → HasHistory S.wanted S.responses S.sites self.entry history → K.clean result
-            → IsContentUpTo (capacity_with K.more) (K.content result) (feed_history history) × AreGiven history }
+            → IsContent (within (most_of self.entry.feed) (K.content result)) (feed_history history)
+            × AreGiven history }
     {
         let NodeMachine {
             alloc: _,

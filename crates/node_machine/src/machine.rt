@@ -4,7 +4,7 @@ ghost use Rattle.std.specs.Prelude.{option_copied};
 ghost use Rattle.node_table.specs.Queues.{MayServe};
 ghost use Rattle.node_table.specs.Turns.{behind_keys, fresh_keys, IsFromBehind, IsFromFresh, IsTaken};
 ghost use Rattle.feed_model.specs.Content.{IsContent};
-ghost use Rattle.feed_releases.specs.Feeds.{recorded};
+ghost use Rattle.feed_releases.specs.Feeds.{most_of, recorded};
 ghost use Rattle.node_table.specs.Peers.{held_limit};
 ghost use Rattle.node_table.specs.Tables.{peer_at, size_of, bytes_held, HasClosed, IsExpired, IsFirstToClose};
 ghost use Rattle.node_table.specs.Tables.{IsRemoved};
@@ -58,6 +58,7 @@ impl<'a, T: Stream, K: Keep, S: FeedRespond + Drop> NodeMachine<'a, T, K, S> {
             → AreGiven history → HasHistory S.wanted S.responses S.sites result
             (SitesBegan (S.sites responder) ∷ DayBegan today ∷ Reopened ∷ history) }
         ensures token { option_copied result.token ≡ option_copied token.entry }
+        ensures room { most_of result.feed ≡ most_of feed }
     {
         NodeMachine {
             alloc,
@@ -115,7 +116,8 @@ impl<'a, T: Stream, K: Keep, S: FeedRespond + Drop> NodeMachine<'a, T, K, S> {
     }
 
     fn make_room_if_full<L: Log>(&mut self, now: u64, log: &mut L)
-        ensures { KeepsHistory S.wanted S.responses S.sites self.old self.new }
+        ensures history { KeepsHistory S.wanted S.responses S.sites self.old self.new }
+        ensures room { most_of self.new.feed ≡ most_of self.old.feed }
     {
         if self.table.is_full() {
             self.make_room(now, log);

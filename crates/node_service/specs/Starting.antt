@@ -28,7 +28,7 @@ abbrev pub IsStartingText : StartingResponder → Terms (Unit {0}) → History �
 IsStartingText responder terms h bytes body keeps text =
     (reply : ReportResponse) × IsSomeStartingResponse terms.is_local responder.has_open_reports bytes keeps (Some reply) × (text ≡ reply.bytes.items)
 
--- each history that the node had continues with some events to one that it has
+-- each history that the node had continues with some events to one that it has. Its feed may record as many releases
 abbrev pub IsLaterStart : {K : Type 0} {k : Ghosts K} → NodeMachine Socket K StartingResponder k → NodeMachine Socket K StartingResponder k → Type 0
 IsLaterStart old new = IsLater (λ responder head. 0) IsStartingText (λ responder. tt) old new
 

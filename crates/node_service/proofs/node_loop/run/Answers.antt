@@ -5,13 +5,4 @@ use Rattle.node_service.proofs.node_loop.run.Goals as goal
 
 pub returns-in_default : goal.returns-in_default
 returns-in_default g c = λ history is given clean.
-    let most = c.args.feed.most in (
-      [],
-      (
-        most,
-        c.restart.ensures.room.0,
-        c.restart.ensures.room.1,
-        subst (λ (content : Content). IsContentWithin most content (feed_history history)) (sym (c.restart.ensures.content clean)) is,
-      ),
-      given,
-    )
+    ([], subst (λ (content : Content). IsContentWithin c.args.feed.most content (feed_history history)) (sym (c.restart.ensures.content clean)) is, given)

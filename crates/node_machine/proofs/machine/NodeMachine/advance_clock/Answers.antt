@@ -1,3 +1,4 @@
+use Rattle.std.proofs.Common.{refl}
 use Rattle.node_machine.proofs.Connections.{at_passed, millis_at}
 use Rattle.node_machine.specs.NodeEvents.{Passed}
 use Rattle.node_machine.proofs.Later.{later_by}
@@ -23,5 +24,5 @@ returns-clause-history g c = λ history has. (
 pub returns-clause-later : goal.returns-clause-later
 unfolding returns-clause-history
 returns-clause-later g c =
-    later_by g.S.FeedRespond.wanted g.S.FeedRespond.responses g.S.FeedRespond.sites (Passed (millis_at c.args.self.now.table c.args.now)) _ _
+    later_by g.S.FeedRespond.wanted g.S.FeedRespond.responses g.S.FeedRespond.sites (Passed (millis_at c.args.self.now.table c.args.now)) _ _ refl
     (λ history has. (returns-clause-history g c history has).1)

@@ -4,7 +4,7 @@ use Rattle.node_machine.proofs.Later.{later_by}
 use Rattle.node_machine.proofs.machine.NodeMachine.begin_day.Goals as goal
 
 pub returns-clause-later : goal.returns-clause-later
-returns-clause-later g c = later_by g.S.FeedRespond.wanted g.S.FeedRespond.responses g.S.FeedRespond.sites (DayBegan c.args.today) _ _ (λ history has. record {
+returns-clause-later g c = later_by g.S.FeedRespond.wanted g.S.FeedRespond.responses g.S.FeedRespond.sites (DayBegan c.args.today) _ _ refl (λ history has. record {
   connections = has.connections;
   feed = has.feed;
   fetching = has.fetching;

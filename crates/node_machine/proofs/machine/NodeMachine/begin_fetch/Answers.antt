@@ -23,7 +23,7 @@ returns-in-Ok-clause-begun g c asked history is has =
 pub returns-in-Ok-clause-later : goal.returns-in-Ok-clause-later
 returns-in-Ok-clause-later g c =
     let was : c.args.self.now.requested ≡ Some (Ok c.in-Ok.name) = search rules in
-    later_begun g.S.FeedRespond.wanted g.S.FeedRespond.responses g.S.FeedRespond.sites (Ok c.in-Ok.name) _ _ was (returns-in-Ok-clause-begun g c)
+    later_begun g.S.FeedRespond.wanted g.S.FeedRespond.responses g.S.FeedRespond.sites (Ok c.in-Ok.name) _ _ was refl (returns-in-Ok-clause-begun g c)
 
 pub returns-in-Err-clause-begun : goal.returns-in-Err-clause-begun
 returns-in-Err-clause-begun g c asked history is has =
@@ -39,4 +39,4 @@ returns-in-Err-clause-begun g c asked history is has =
 pub returns-in-Err-clause-later : goal.returns-in-Err-clause-later
 returns-in-Err-clause-later g c =
     let was : c.args.self.now.requested ≡ Some (Err c.in-Err.fault) = search rules in
-    later_begun g.S.FeedRespond.wanted g.S.FeedRespond.responses g.S.FeedRespond.sites (Err c.in-Err.fault) _ _ was (returns-in-Err-clause-begun g c)
+    later_begun g.S.FeedRespond.wanted g.S.FeedRespond.responses g.S.FeedRespond.sites (Err c.in-Err.fault) _ _ was refl (returns-in-Err-clause-begun g c)

@@ -13,5 +13,5 @@ returns-in-Some-Reload-clause-begun g c = λ history is has.
 pub returns-in-Some-Reload-clause-later : goal.returns-in-Some-Reload-clause-later
 returns-in-Some-Reload-clause-later g c =
     let is : c.args.self.now.reload ≡ Some Reload = search rules in
-    later_by g.S.FeedRespond.wanted g.S.FeedRespond.responses g.S.FeedRespond.sites (SitesBegan c.args.sites) _ _
+    later_by g.S.FeedRespond.wanted g.S.FeedRespond.responses g.S.FeedRespond.sites (SitesBegan c.args.sites) _ _ refl
     (λ history has. returns-in-Some-Reload-clause-begun g c history is has)

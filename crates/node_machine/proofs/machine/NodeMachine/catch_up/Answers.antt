@@ -22,4 +22,4 @@ returns-clause-history g c = λ history has. record {
 }
 
 pub returns-clause-later : goal.returns-clause-later
-returns-clause-later g c = later_kept g.S.FeedRespond.wanted g.S.FeedRespond.responses g.S.FeedRespond.sites _ _ (returns-clause-history g c)
+returns-clause-later g c = later_kept g.S.FeedRespond.wanted g.S.FeedRespond.responses g.S.FeedRespond.sites _ _ c.catch_up.ensures.room (returns-clause-history g c)

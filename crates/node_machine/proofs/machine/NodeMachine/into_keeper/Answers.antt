@@ -5,7 +5,4 @@ use Rattle.node_machine.proofs.machine.NodeMachine.into_keeper.Goals as goal
 
 pub returns : goal.returns
 returns g c = λ history has clean.
-    let most = c.args.self.feed.most in (
-      (most, c.restart.ensures.room.0, c.restart.ensures.room.1, subst (λ (content : Content). IsContentWithin most content (feed_history history)) (sym (c.restart.ensures.content clean)) has.feed),
-      has.given,
-    )
+    (subst (λ (content : Content). IsContentWithin c.args.self.feed.most content (feed_history history)) (sym (c.restart.ensures.content clean)) has.feed, has.given)

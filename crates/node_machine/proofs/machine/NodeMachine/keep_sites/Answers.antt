@@ -1,4 +1,4 @@
-use Rattle.std.proofs.Common.{rules, ◌≡◌, None}
+use Rattle.std.proofs.Common.{refl, rules, ◌≡◌, None}
 use Rattle.node_machine.proofs.Reloads.{kept_later, kept_sites}
 use Rattle.node_machine.proofs.machine.NodeMachine.keep_sites.Goals as goal
 
@@ -12,4 +12,4 @@ returns-clause-kept g c = search rules
 
 pub returns-clause-later : goal.returns-clause-later
 returns-clause-later g c =
-    kept_later g.S.FeedRespond.wanted g.S.FeedRespond.responses g.S.FeedRespond.sites c.args.self.now _ (returns-clause-kept g c) (returns-clause-ended g c)
+    kept_later g.S.FeedRespond.wanted g.S.FeedRespond.responses g.S.FeedRespond.sites c.args.self.now _ (returns-clause-kept g c) refl (returns-clause-ended g c)

@@ -1,3 +1,4 @@
+use Rattle.std.proofs.Common.{refl}
 use Rattle.node_machine.proofs.Connections.{keeps_all}
 use Rattle.node_machine.proofs.Later.{later_kept}
 use Rattle.node_machine.proofs.Tabled.{tabled}
@@ -9,4 +10,4 @@ returns-clause-history g c =
     (keeps_all c.args.self.now.table c.mark_ready.new.self c.mark_ready.ensures.peers)
 
 pub returns-clause-later : goal.returns-clause-later
-returns-clause-later g c = later_kept g.S.FeedRespond.wanted g.S.FeedRespond.responses g.S.FeedRespond.sites _ _ (returns-clause-history g c)
+returns-clause-later g c = later_kept g.S.FeedRespond.wanted g.S.FeedRespond.responses g.S.FeedRespond.sites _ _ refl (returns-clause-history g c)

@@ -5,7 +5,7 @@ use Rattle.node_machine.specs.Exchanges.{Requested}
 use Rattle.node_machine.specs.NodeEvents.{Exchanged, feed_history}
 use Rattle.node_machine.specs.Nodes.{HasHistory}
 use Rattle.node_machine.proofs.Exchanged.{exchanged_on}
-use Rattle.node_machine.proofs.Later.{later_exchanged}
+use Rattle.node_machine.proofs.Later.{later_exchanged, room_as}
 use Rattle.node_machine.proofs.machine.NodeMachine.next_request.Goals as goal
 
 requested : goal.returns-clause-requested
@@ -30,4 +30,6 @@ pub returns-clause-later : goal.returns-clause-later
 returns-clause-later g c =
     later_exchanged g.S.FeedRespond.wanted g.S.FeedRespond.responses g.S.FeedRespond.sites
     (Requested c.in-Some.fetching.name c.in-Some.fetching.fetch.piece c.in-Some.fetching.fetch.phase c.args.front c.request_for-request.result) _ _
+    (room_as (record c.args.self.now { fetching = Some (record c.in-Some.fetching { exchange = Some (Arriving c.new.result) }) }) c.await_response.new.self
+    (c.await_response.ensures c.in-Some.fetching c.in-Some.is))
     (requested g c c.in-Some.fetching c.in-Some.is)

@@ -1,4 +1,4 @@
-use Rattle.std.proofs.Common.{rules, ◌≡◌, ◌∷◌, Option, Some, true, sym, subst}
+use Rattle.std.proofs.Common.{refl, rules, ◌≡◌, ◌∷◌, Option, Some, true, sym, subst}
 use Rattle.node_machine.specs.declared.fetching.Fetching.{Fetching}
 use Rattle.node_machine.specs.Exchanges.{Received, IsExchangeOf, is_arriving}
 use Rattle.node_machine.specs.NodeEvents.{exchange_in, given_in}
@@ -22,4 +22,4 @@ returns-in-Some-clause-kept g c = search rules
 
 pub returns-in-Some-clause-later : goal.returns-in-Some-clause-later
 returns-in-Some-clause-later g c =
-    later_either g.S.FeedRespond.wanted g.S.FeedRespond.responses g.S.FeedRespond.sites (Received c.args.bytes.now) _ _ (returns-in-Some-clause-received g c) (returns-in-Some-clause-kept g c)
+    later_either g.S.FeedRespond.wanted g.S.FeedRespond.responses g.S.FeedRespond.sites (Received c.args.bytes.now) _ _ (returns-in-Some-clause-received g c) (returns-in-Some-clause-kept g c) refl

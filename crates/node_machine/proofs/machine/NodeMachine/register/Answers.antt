@@ -1,3 +1,4 @@
+use Rattle.std.proofs.Common.{refl}
 use Rattle.node_machine.proofs.Later.{later_kept}
 use Rattle.node_machine.proofs.Tabled.{tabled}
 use Rattle.node_machine.proofs.machine.NodeMachine.register.Goals as goal
@@ -8,4 +9,4 @@ returns-clause-history g c =
     c.register.ensures.connections
 
 pub returns-clause-later : goal.returns-clause-later
-returns-clause-later g c = later_kept g.S.FeedRespond.wanted g.S.FeedRespond.responses g.S.FeedRespond.sites _ _ (returns-clause-history g c)
+returns-clause-later g c = later_kept g.S.FeedRespond.wanted g.S.FeedRespond.responses g.S.FeedRespond.sites _ _ refl (returns-clause-history g c)

@@ -1,3 +1,4 @@
+use Rattle.std.proofs.Common.{refl}
 use Rattle.node_machine.proofs.Connections.{keeps_removed}
 use Rattle.node_machine.proofs.Later.{later_kept}
 use Rattle.node_machine.proofs.Tabled.{tabled}
@@ -10,4 +11,4 @@ returns-clause-history g c =
     (λ some. (let gone = c.remove.ensures.removed some in (gone.others, gone.gone))) (λ none. (c.remove.ensures.absent none).0))
 
 pub returns-clause-later : goal.returns-clause-later
-returns-clause-later g c = later_kept g.S.FeedRespond.wanted g.S.FeedRespond.responses g.S.FeedRespond.sites _ _ (returns-clause-history g c)
+returns-clause-later g c = later_kept g.S.FeedRespond.wanted g.S.FeedRespond.responses g.S.FeedRespond.sites _ _ refl (returns-clause-history g c)

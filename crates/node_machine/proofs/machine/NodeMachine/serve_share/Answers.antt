@@ -1,6 +1,6 @@
 use Rattle.std.proofs.Common.{◌∙◌, inl, inr}
 use Rattle.node_machine.proofs.Asked.{noted_behind}
-use Rattle.node_machine.proofs.Later.{later_advanced, later_served}
+use Rattle.node_machine.proofs.Later.{later_advanced, later_served, room_same}
 use Rattle.node_machine.proofs.machine.NodeMachine.serve_share.Goals as goal
 
 pub returns-then-share-replies-clause-history : goal.returns-then-share-replies-clause-history
@@ -27,7 +27,10 @@ returns-then-share-replies-clause-rest g c = record {
 
 pub returns-then-share-replies-clause-later : goal.returns-then-share-replies-clause-later
 returns-then-share-replies-clause-later g c =
-    later_advanced g.S.FeedRespond.wanted g.S.FeedRespond.responses g.S.FeedRespond.sites c.args.turn.key _ _ (returns-then-share-replies-clause-history g c)
+    later_advanced g.S.FeedRespond.wanted g.S.FeedRespond.responses g.S.FeedRespond.sites c.args.turn.key _ _
+    (room_same c.args.self.now.feed c.note_request.new.self.feed (c.note_request.ensures.rest.feed ∙ c.serve_from_feed-progress.ensures.rest.feed)) (returns-then-share-replies-clause-history g c)
 
 pub returns-else-share-replies-clause-later : goal.returns-else-share-replies-clause-later
-returns-else-share-replies-clause-later g c = later_served g.S.FeedRespond.wanted g.S.FeedRespond.responses g.S.FeedRespond.sites c.args.turn.key _ _ c.serve_from_feed-progress.ensures.history
+returns-else-share-replies-clause-later g c =
+    later_served g.S.FeedRespond.wanted g.S.FeedRespond.responses g.S.FeedRespond.sites c.args.turn.key _ _
+    (room_same c.args.self.now.feed c.serve_from_feed-progress.new.self.feed c.serve_from_feed-progress.ensures.rest.feed) c.serve_from_feed-progress.ensures.history

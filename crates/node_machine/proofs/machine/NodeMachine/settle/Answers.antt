@@ -1,3 +1,4 @@
+use Rattle.std.proofs.Common.{refl}
 use Rattle.std.specs.Prelude.{option_copied}
 use Rattle.node_machine.specs.Nodes.{rules_of}
 use Rattle.node_machine.proofs.Later.{later_served}
@@ -14,4 +15,4 @@ returns-clause-history g c = λ history has.
     c.settle.ensures.settled.others c.settle.ensures.absent has.connections has.today has.sites_had) has
 
 pub returns-clause-later : goal.returns-clause-later
-returns-clause-later g c = later_served g.S.FeedRespond.wanted g.S.FeedRespond.responses g.S.FeedRespond.sites c.args.key _ _ (returns-clause-history g c)
+returns-clause-later g c = later_served g.S.FeedRespond.wanted g.S.FeedRespond.responses g.S.FeedRespond.sites c.args.key _ _ refl (returns-clause-history g c)

@@ -29,6 +29,7 @@ pub returns-in-Ok-clause-later : goal.returns-in-Ok-clause-later
 returns-in-Ok-clause-later g c =
     let is : c.args.self.now.fetching ≡ Some c.in-Some.fetching = search rules in
     later_part g.S.FeedRespond.wanted g.S.FeedRespond.responses g.S.FeedRespond.sites c.args.self.now _ c.in-Some.fetching is (returns-in-Ok-clause-idle g c) (returns-in-Ok-clause-taken g c)
+    c.submit_part-arrival.ensures.room
 
 pub returns-in-Err-clause-idle : goal.returns-in-Err-clause-idle
 returns-in-Err-clause-idle g c = search rules

@@ -19,12 +19,13 @@ returns-in-Ok-clause-taken g c history has =
     let next : Fetching = record { name = was.name; fetch = c.submit-outcome.new.fetch; exchange = None } in
     taken_as wanted replies g.S.FeedRespond.sites c.args.self.now _ history was c.in-Ok.reply is c.in-Ok.ensures.ended
     (took_reply wanted replies g.S.FeedRespond.sites c.args.self.now c.submit-outcome.new.feed was next c.in-Ok.reply
-    (λ k. IfErr c.submit-outcome.result (λ stop. IsStoppedAt was.name stop k)) history is refl refl c.in-Ok.ensures.ended c.submit-outcome.ensures has)
+    (λ k. IfErr c.submit-outcome.result (λ stop. IsStoppedAt was.name stop k)) history is refl refl c.in-Ok.ensures.ended c.submit-outcome.ensures.owed has)
 
 pub returns-in-Ok-clause-later : goal.returns-in-Ok-clause-later
 returns-in-Ok-clause-later g c =
     let is : c.args.self.now.fetching ≡ Some c.in-Some.fetching = search rules in
-    later_taken g.S.FeedRespond.wanted g.S.FeedRespond.responses g.S.FeedRespond.sites c.in-Some.fetching c.in-Ok.reply _ _ is c.in-Ok.ensures.ended (returns-in-Ok-clause-taken g c)
+    later_taken g.S.FeedRespond.wanted g.S.FeedRespond.responses g.S.FeedRespond.sites c.in-Some.fetching c.in-Ok.reply _ _ is c.in-Ok.ensures.ended
+    c.submit-outcome.ensures.room (returns-in-Ok-clause-taken g c)
 
 pub returns-in-Err-clause-idle : goal.returns-in-Err-clause-idle
 returns-in-Err-clause-idle g c = search rules
