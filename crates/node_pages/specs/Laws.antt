@@ -1,5 +1,5 @@
 -- Laws of the pages.
-use Rattle.std.specs.Prelude.{◌≡◌, ℕ, Bool, true, List}
+use Rattle.std.specs.Prelude.{◌≡◌, ℕ, Bool, true, List, Option}
 use Rattle.std.specs.List.{list_all}
 use Rattle.node_templates.specs.Filled.{is_filled}
 use Rattle.node_templates.specs.Laws.{page_html}
@@ -19,7 +19,7 @@ use Rattle.node_pages.specs.ErrorPages.{error_page, error_parts}
 use Rattle.node_pages.specs.Fragments.{error_fragment, error_fragment_parts, fragment_end, fragment_of_hits, fragment_of_nothing, fragment_start}
 use Rattle.node_pages.specs.Fragments.{nothing_fragment_parts}
 use Rattle.node_pages.specs.HitsPage.{hits_end, hits_start, page_of_hits}
-use Rattle.node_pages.specs.HomePage.{form_page, home_page, package_parts}
+use Rattle.node_pages.specs.HomePage.{form_page, home_page, package_parts, packages_end, status_page}
 use Rattle.node_pages.specs.QueryRefusals.{nothing_parts, page_of_nothing}
 use Rattle.node_pages.specs.TitlesPage as titles
 use Rattle.node_pages.specs.declared.card.Fit.{Fit}
@@ -43,6 +43,7 @@ pub record SlotsAreGiven : Type 0 where
   pub title : (site : site_file.SiteValue) (entry : EntryValue) → are_filled (titles.title_card site entry) ≡ true
   pub titles_end : (asked : List ℕ) (walk : WalkValue) → are_filled (titles.titles_end asked walk) ≡ true
   pub item : (site : site_file.SiteValue) (active : ActiveValue) → are_filled (package_parts site active) ≡ true
+  pub packages_end : (mark : List ℕ) (left : Option ℕ) → are_filled (packages_end mark left) ≡ true
   pub fragment_start : (site : site_file.SiteValue) (tally : TallyValue) (is_none : Bool) → are_filled (fragment_start site tally is_none) ≡ true
   pub fragment_end : (site : site_file.SiteValue) (pairs : List (List ℕ × List ℕ)) (ask : QueryFactsValue) (tally : TallyValue) (is_none : Bool)
       → are_filled (fragment_end site pairs ask tally is_none) ≡ true
@@ -69,6 +70,7 @@ pub record PagesHaveTheirTags : Type 0 where
       → HasItsTags site (error_page site pairs advice name)
   pub form : (site : site_file.SiteValue) → HasItsTags site (form_page site)
   pub home : (site : site_file.SiteValue) (actives : List ActiveValue) → HasItsTags site (home_page site actives)
+  pub status : (site : site_file.SiteValue) (actives : List ActiveValue) → HasItsTags site (status_page site actives)
   pub titles_form : (site : site_file.SiteValue) (heading note name : List ℕ)
       → HasItsTags site (titles.titles_form_page site heading note name)
   pub titles : (site : site_file.SiteValue) (asked : List ℕ) (walk : WalkValue) → HasItsTags site (titles.titles_page site asked walk)

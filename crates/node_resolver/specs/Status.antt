@@ -10,7 +10,7 @@ use Rattle.node_request.specs.declared.representation.Representation.{Representa
 use Rattle.node_request.specs.declared.representation.Representation.TheVariants.{Text, Json, Html, Fragment, Sfx}
 use Rattle.node_response.specs.JsonLists.{json_list}
 use Rattle.node_response.specs.Fragments.{joined}
-use Rattle.node_pages.specs.HomePage.{home_page}
+use Rattle.node_pages.specs.HomePage.{status_page}
 use Rattle.node_site.specs.Site as site_file
 use Rattle.node_hits.specs.Hits.{name_text}
 use Rattle.node_hits.specs.HitsJson.{release_members, text_member}
@@ -32,8 +32,8 @@ active_object active = release_members active.name ++ counts_end active.holdings
 unfoldable pub status_body : site_file.SiteValue → Representation → List ActiveValue → List ℕ
 status_body site Text actives = flat_map active_line actives
 status_body site Json actives = json_list active_object actives
-status_body site Html actives = home_page site actives
-status_body site Fragment actives = home_page site actives
+status_body site Html actives = status_page site actives
+status_body site Fragment actives = status_page site actives
 status_body site Sfx actives = flat_map active_line actives
 
 -- the object that states an active release

@@ -8,7 +8,7 @@ use feed_bytes::put_all;
 use feed_kbart::Holdings;
 use feed_releases::ActiveRelease;
 use node_hits::{name_text, put_release_members};
-use node_pages::put_home_page;
+use node_pages::put_status_page;
 use node_request::Representation;
 use node_response::{Fragment, put, put_comma, put_list_end, put_list_start};
 use node_site::SiteFile;
@@ -89,6 +89,6 @@ pub(crate) fn put_status(
     match representation {
         Representation::Text | Representation::Sfx => put_lines(out, actives),
         Representation::Json => put_json(out, actives),
-        Representation::Html | Representation::Fragment => put_home_page(out, site, actives),
+        Representation::Html | Representation::Fragment => put_status_page(out, site, actives),
     }
 }

@@ -74,4 +74,8 @@ pub(crate) const PACKAGES: &[TemplateLine] = template![
 
 pub(crate) const PACKAGE: &[TemplateLine] = template![["<li><bdi>" {Package} "</bdi></li>"]];
 
-pub(crate) const PACKAGES_END: &[TemplateLine] = template![if (Listed) ["</ul>"]];
+/// The end of the list, and a link to the page of all packages if some are left out.
+pub(crate) const PACKAGES_END: &[TemplateLine] = template![
+    if (Listed) ["</ul>"]
+    if (LeftOut) [r#"<p><a href="/status?format=html">"# {text NotShown} " " {LeftOut} "</a></p>"]
+];

@@ -72,7 +72,8 @@ pub enum Template {
     TitlesEnd,
     /// The faults of the ISSN and of the ISBN, if they have any.
     NumberFaults,
-    /// The beginning of the list of packages, if it has any, a package, and the end of the list.
+    /// The beginning of the list of packages, if it has any, a package, and the end of the list with the number of
+    /// packages that are left out, if any are.
     Packages,
     Package,
     PackagesEnd,

@@ -24,7 +24,7 @@ use Rattle.node_pages.specs.Citations.{cited_top, names_with, place_parts, work_
 use Rattle.node_pages.specs.Fragments.{error_fragment_parts, fragment_end, fragment_reasons, fragment_reasons_with, fragment_start, fragment_ways}
 use Rattle.node_pages.specs.Fragments.{fragment_ways_to, nothing_fragment_parts}
 use Rattle.node_pages.specs.HitsPage.{hits_end, list_end}
-use Rattle.node_pages.specs.HomePage.{package_parts}
+use Rattle.node_pages.specs.HomePage.{package_parts, packages_end}
 use Rattle.node_pages.specs.Laws.{are_filled}
 use Rattle.node_pages.specs.Lists.{list_mark}
 use Rattle.node_pages.specs.QueryRefusals.{reasons, reasons_with}
@@ -100,7 +100,7 @@ unfolding is_filled lines_of form_end
 form_filled pairs = refl
 
 pub returns : goal.returns
-unfolding is_filled lines_of cited_top work_parts place_parts names_with coins_with reasons reasons_with card_with hits_end list_end package_parts title_card titles_end form_end
+unfolding is_filled lines_of cited_top work_parts place_parts names_with coins_with reasons reasons_with card_with hits_end list_end package_parts packages_end title_card titles_end form_end
 returns c = record {
   citation = λ site heading pairs ask. refl;
   hits_start = λ site tally is_none. refl;
@@ -117,6 +117,7 @@ returns c = record {
   title = λ site entry. refl;
   titles_end = λ asked walk. refl;
   item = λ site active. refl;
+  packages_end = λ mark left. refl;
   fragment_start = fragment_start_filled;
   fragment_end = fragment_end_filled;
   nothing_fragment = nothing_fragment_filled;
