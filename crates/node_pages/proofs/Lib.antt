@@ -1,1 +1,2 @@
 pub mod NothingTold
+pub mod Packages

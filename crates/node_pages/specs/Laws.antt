@@ -1,11 +1,16 @@
 -- Laws of the pages.
-use Rattle.std.specs.Prelude.{◌≡◌, ℕ, Bool, true, List, Option}
-use Rattle.std.specs.List.{list_all}
+use Rattle.std.specs.Prelude.{◌≡◌, ◌<◌, ◌≤◌, ◌^◌, ◌-◌, ℕ, Bool, true, List, ◌++◌, Option, codes, length, take}
+use Rattle.std.specs.Fmt.{decimal}
+use Rattle.std.specs.List.{flat_map, list_all}
+use Rattle.node_response.specs.Escapes.{escaped}
 use Rattle.node_templates.specs.Filled.{is_filled}
 use Rattle.node_templates.specs.Laws.{page_html}
 use Rattle.node_templates.specs.Pages.{Part, page_text}
 use Rattle.node_templates.specs.Tags.{HasTagsOf, OtherPage, OwnPage, Place}
+use Rattle.node_site.specs.Packages.{shown_package}
+use Rattle.node_site.specs.Texts.{text_of}
 use Rattle.node_site.specs.declared.text_table.Text.{Text}
+use Rattle.node_site.specs.declared.text_table.Text.TheVariants as words
 use Rattle.feed_releases.specs.Actives.{ActiveValue}
 use Rattle.node_site.specs.Site as site_file
 use Rattle.node_hits.specs.QueryFacts.{QueryFactsValue}
@@ -19,7 +24,7 @@ use Rattle.node_pages.specs.ErrorPages.{error_page, error_parts}
 use Rattle.node_pages.specs.Fragments.{error_fragment, error_fragment_parts, fragment_end, fragment_of_hits, fragment_of_nothing, fragment_start}
 use Rattle.node_pages.specs.Fragments.{nothing_fragment_parts}
 use Rattle.node_pages.specs.HitsPage.{hits_end, hits_start, page_of_hits}
-use Rattle.node_pages.specs.HomePage.{form_page, home_page, package_parts, packages_end, status_page}
+use Rattle.node_pages.specs.HomePage.{form_page, home_limit, home_page, listed, package_parts, packages_end, status_page}
 use Rattle.node_pages.specs.QueryRefusals.{nothing_parts, page_of_nothing}
 use Rattle.node_pages.specs.TitlesPage as titles
 use Rattle.node_pages.specs.declared.card.Fit.{Fit}
@@ -83,3 +88,32 @@ pub record FragmentsSuitOtherPages : Type 0 where
   pub nothing : (site : site_file.SiteValue) (pairs : List (List ℕ × List ℕ)) (ask : QueryFactsValue)
       → HasPlacedTags OtherPage site (fragment_of_nothing site pairs ask)
   pub error : (site : site_file.SiteValue) (name : List ℕ) → HasPlacedTags OtherPage site (error_fragment site name)
+
+-- a package as an item of a list
+abbrev pub item_text : site_file.SiteValue → ActiveValue → List ℕ
+item_text site active = codes "<li><bdi>" ++ (escaped (shown_package site active.name.package_name) ++ codes "</bdi></li>\n")
+
+-- packages as a list
+abbrev pub list_text : site_file.SiteValue → List ActiveValue → List ℕ
+list_text site actives = codes "<ul>\n" ++ (flat_map (item_text site) actives ++ codes "</ul>\n")
+
+-- how many packages are not shown, as a link to all
+abbrev pub left_text : site_file.SiteValue → ℕ → List ℕ
+left_text site left =
+    codes "<p><a href=\"/status?format=html\">" ++ (escaped (text_of site words.NotShown) ++ (codes " " ++ (decimal left ++ codes "</a></p>\n")))
+
+-- a page has this text in it
+pub record HasText (page text : List ℕ) : Type 0 where
+  pub before : List ℕ
+  pub after : List ℕ
+  pub same : page ≡ before ++ (text ++ after)
+
+-- the page of `/status` lists all packages whose lists have rows. The home page is the same if they are few. Else it lists the
+-- first ones, and then says how many it does not show, if 64 bits can count the packages
+pub record PackagesAreListed : Type 0 where
+  pub all : (site : site_file.SiteValue) (actives : List ActiveValue) → 0 < length (listed actives)
+      → HasText (status_page site actives) (list_text site (listed actives))
+  pub few : (site : site_file.SiteValue) (actives : List ActiveValue) → length (listed actives) ≤ home_limit
+      → home_page site actives ≡ status_page site actives
+  pub many : (site : site_file.SiteValue) (actives : List ActiveValue) → home_limit < length (listed actives) → length actives < 2 ^ 64
+      → HasText (home_page site actives) (list_text site (take home_limit (listed actives)) ++ left_text site (length (listed actives) - home_limit))

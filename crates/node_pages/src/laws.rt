@@ -1,5 +1,5 @@
 //! Laws of the pages, each stated as the contract of a function with an empty body.
-ghost use Rattle.node_pages.specs.Laws.{FragmentsSuitOtherPages, PagesHaveTheirTags, SlotsAreGiven};
+ghost use Rattle.node_pages.specs.Laws.{FragmentsSuitOtherPages, PackagesAreListed, PagesHaveTheirTags, SlotsAreGiven};
 
 /// States that each slot of a template has a value in each page, but for the fields of the empty form.
 pub fn slots_are_given()
@@ -16,4 +16,10 @@ pub fn pages_have_their_tags()
 /// neither a form, nor a style, nor a script, and each of its addresses is one of `http` or of `https`.
 pub fn fragments_suit_other_pages()
     ensures { FragmentsSuitOtherPages }
+{}
+
+/// States that the page of `/status` lists all packages whose lists have rows. The home page lists the first 200, and
+/// has the number of the others as a link to that page.
+pub fn packages_are_listed()
+    ensures { PackagesAreListed }
 {}

@@ -31,7 +31,9 @@ pub use error_page::error_response;
 pub use fragment::put_hits_fragment;
 pub use hits_page::{Tallies, put_hits_page};
 pub use home_page::{put_home_page, put_status_page};
-pub use laws::{fragments_suit_other_pages, pages_have_their_tags, slots_are_given};
+pub use laws::{
+    fragments_suit_other_pages, packages_are_listed, pages_have_their_tags, slots_are_given,
+};
 pub use openurl_text::OpenUrlText;
 pub use refusals::unasked_response;
 pub use titles_page::titles_response;
