@@ -7,7 +7,7 @@ _kbfeed() {
     '<' | '>' | '>>' | --token | --site | --sites | --wanted | --db | --scholar) compopt -o default; return ;;
   esac
 
-  # The command, and how many words stand behind it before the cursor. Bash splits --name=VALUE at its =.
+  # The command, and how many words are behind it before the cursor. Bash splits --name=VALUE at its =.
   for ((index = 1; index < COMP_CWORD; index++)); do
     case $has_options${COMP_WORDS[index]} in
       yes--) has_options= ;;

@@ -1,6 +1,6 @@
 # Completion of kbfeed for fish.
 
-# The command of the line, and how many words stand behind it before the cursor, as fetch/1.
+# The command of the line, and how many words are behind it before the cursor, as fetch/1.
 function __kbfeed_place
     set -l words
     set -l has_options yes

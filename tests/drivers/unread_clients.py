@@ -92,7 +92,7 @@ def main():
             most = max(most, kib_of(process))
     print(f"answered {good} of {len(targets)}")
     print("closed for memory:", metric(address, 'connections_closed_total{cause="unread"}') > 0)
-    # What is allocated for a reply is at most twice its length.
+    # The memory that is allocated for a reply is at most twice its length.
     print("held within the limit:", LIMIT // 2 < held <= LIMIT + 2 * longest)
     print("memory within the limit:", most - before <= MEMORY)
 

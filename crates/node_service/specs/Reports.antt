@@ -11,8 +11,8 @@ use Rattle.node_monitoring.specs.Reports.{IsReportAnswer, IsReportResponse}
 use Rattle.node_service.specs.declared.responder.FeedResponder.{FeedResponder}
 use Rattle.node_service.specs.Wanted.{missing_text}
 
--- the response to a request for a report, by some counters, by gauges with these active releases, which have series
--- in any case or not, and by these lines about what is missing, exactly if the bytes are such a request
+-- the response to a request for a report, exactly if the bytes are such a request. It is by some counters, by gauges with
+-- these active releases, which have series in any case or not, and by these lines about what is missing
 abbrev pub IsSomeResponse : List ℕ → Bool → List ReleaseTime → Bool → List ℕ → Option ReportResponse → Type 0
 IsSomeResponse bytes keeps releases has_all missing found =
     (metrics : MetricsValue) × (gauges : Gauges) × (gauges.releases.now ≡ releases) × (gauges.has_all_series ≡ has_all)
@@ -36,7 +36,7 @@ HasReport responder is_local bytes = reports.GetsReport is_local responder.has_o
 
 -- they are such a request, and this is the response to it: by some counters, by gauges that have the packages and the
 -- days of the releases that a feed with this history reports, and by the lines that name the wanted packages without
--- one. Each of these releases has a series if there are at most 256, or the settings ask for it (`has_series`)
+-- one. Each reported release has a series if there are at most 256, or the settings ask for it (`has_series`)
 pub record IsReportFor (responder : FeedResponder) (is_local : Bool) (h : History) (bytes : List ℕ) (keeps : Bool) (reply : ReportResponse) : Type 0 where
   pub allowed : HasReport responder is_local bytes
   pub metrics : MetricsValue

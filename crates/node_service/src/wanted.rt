@@ -57,7 +57,7 @@ fn has_package(actives: &[ActiveRelease<'_>], package: &[u8]) -> bool
     find_package(actives, package).is_some()
 }
 
-// Returns whether one of these active releases is of each wanted package.
+// Returns whether each wanted package has a release among active ones.
 fn have_each(actives: &[ActiveRelease<'_>], wanted: &[WantedPackage]) -> bool
     requires { AreInOrder actives.now }
     ensures { result ≡ list_all (has_package actives.now) wanted.now }

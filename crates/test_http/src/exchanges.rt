@@ -177,7 +177,7 @@ struct ArrivedResponse {
     end: Option<usize>,
 }
 
-// Returns the response in a text of which `step` bytes arrive at a time, until the server closes the connection.
+// Returns the response in a text. Its bytes arrive `step` at a time, until the server closes the connection.
 fn arrive(alloc: Global, method: Method, text: &[u8], step: usize) -> ArrivedResponse {
     let mut machine = ResponseMachine::new(method);
     let mut body = Vec::new(alloc);

@@ -33,7 +33,7 @@ pub struct DriverNode<'a> {
     today: Today,
 }
 
-/// What a site is made of.
+/// The parts of a site.
 #[derive(Drop)]
 struct GivenSite {
     version: Vec<u8>,

@@ -1,5 +1,5 @@
-//! A program that runs commands from its standard input on a feed over a keeper in memory, on the kept parts of a file
-//! or on fetches, or replays a script over such keepers, for the sessions of tests/.
+//! A program for the sessions of tests/. It runs commands from its standard input on a feed over a keeper in memory, on
+//! the kept parts of a file or on fetches, or replays a script over such keepers.
 //!
 //!     test_releases                          commands on a feed and its keeper
 //!     test_releases segments                 commands on the kept parts of one file
