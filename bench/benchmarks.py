@@ -10,7 +10,7 @@ import threading
 import time
 
 import make_script
-from measuring import (BUILT, CALLS, KBFEED, MIB, PEER, PEERS, TIMED, Benchmark, Failed, free_port, is_listening,
+from measuring import (BENCH, BUILT, CALLS, KBFEED, MIB, PEER, PEERS, TIMED, Benchmark, Failed, free_port, is_listening,
                        usage_of)
 
 TOKEN = "benchmark-of-kbfeed-on-127.0.0.1"
@@ -300,10 +300,9 @@ def until_it_answers(port):
     return longest
 
 
-def started(shop, path):
-    """Starts a node with a list. Returns the times until it listens and until it answers readers, with its memory then,
-    and the longest wait for a response in between."""
-    database = database_with(shop, shop.program, path)
+def started(shop, database):
+    """Starts a node. Returns the times until it listens and until it answers readers, with its memory then, and the
+    longest wait for a response in between."""
     began = time.monotonic()
     child, port = started_node(shop, database)
     listens = time.monotonic() - began
@@ -316,20 +315,21 @@ def started(shop, path):
     return [{"value": value * 1e3, "cpu": cpu, "memory": memory} for value in (listens, answers, longest)]
 
 
-def figures_of(name, units, measured, needs):
+def figures_of(name, units, runners, needs, once=False):
     """Returns a benchmark for each of the figures that one run measures, by the endings of their names and their units.
-    The first has the run made, and the others take theirs from it."""
-    kept = {ending: [] for ending in units}
+    The first has each of the runners make its runs, and the others take their figures from these."""
+    kept = {(who, ending): [] for who in runners for ending in units}
 
-    def figure(ending):
-        if not kept[ending]:
-            for key, value in zip(units, measured()):
-                kept[key].append(value)
-        return kept[ending].pop(0)
+    def figure(who, ending):
+        if not kept[who, ending]:
+            for key, value in zip(units, runners[who]()):
+                kept[who, key].append(value)
+        return kept[who, ending].pop(0)
 
     for ending, unit in units.items():
         bench = Benchmark(f"{name}{ending}", unit)
-        bench.add(KBFEED, "=", lambda ending=ending: figure(ending), needs=needs)
+        for who in runners:
+            bench.add(who, "=", lambda who=who, ending=ending: figure(who, ending), needs=needs, once=once)
         yield bench
 
 
@@ -338,9 +338,11 @@ def node_start(shop):
     the longest wait for a response in between."""
     units = {"": "ms", "-answers": "ms", "-wait": "ms, longest wait"}
     lists = [(str(mib), lambda mib=mib: shop.list_of(mib)) for mib in shop.sizes]
-    for label, made in [*lists, ("short", lambda: shop.short_list(max(shop.sizes)))]:
+    big = max(shop.sizes)
+    for label, made in [*lists, (f"short-{big}", lambda: shop.short_list(big))]:
         name = f"node-start-{label}"
-        for bench in figures_of(name, units, lambda made=made: started(shop, made()), ("nginx",)):
+        runner = {KBFEED: lambda made=made: started(shop, database_with(shop, shop.program, made()))}
+        for bench in figures_of(name, units, runner, ("nginx",)):
             if bench.name == name:
                 bench.add("rust, opens and loads", "-",
                           lambda made=made: shop.timed([PEER, "load", database_with(shop, PEER, made())]),
@@ -409,6 +411,44 @@ def node_requests(shop):
             yield bench
 
 
+def seconds_of(connection, target):
+    """Sends a request with the token, and returns the time to the end of its response."""
+    began = time.monotonic()
+    connection.request("GET", target, headers={"Authorization": f"Bearer {TOKEN}"})
+    reply = connection.getresponse()
+    reply.read()
+    if reply.status != 200:
+        raise Failed(f"{target}: {reply.status}")
+    return time.monotonic() - began
+
+
+def asked(port, targets):
+    """Returns for each target the second shortest time of seven requests of one client."""
+    connection = http.client.HTTPConnection("127.0.0.1", port, timeout=60)
+    return [{"value": sorted(seconds_of(connection, it) for _ in range(7))[1] * 1e3} for it in targets]
+
+
+def asked_of(shop, path, targets):
+    """The same of a node with a list."""
+    child, port = serving_node(shop, database_with(shop, shop.program, path))
+    try:
+        return asked(port, targets)
+    finally:
+        shop.stop(child)
+
+
+def node_hits(shop):
+    """Responses with many hits, from a list whose 300,000 rows have one ISSN; searches for titles in 341,857 rows."""
+    hits = {f"-{kind}": f"/resolve?rft.issn=0000-0000&format={kind}" for kind in ("text", "json", "html")}
+    titles = {"-titles": "/titles?q=title", "-titles-none": "/titles?q=none"}
+
+    def measured():
+        of_hits, of_titles = shop.list_of_rows(300_000, 1), shop.list_of_rows()
+        return asked_of(shop, of_hits, hits.values()) + asked_of(shop, of_titles, titles.values())
+
+    yield from figures_of("node-hits", dict.fromkeys([*hits, *titles], "ms"), {KBFEED: measured}, ("nginx",))
+
+
 def waits(port, target, is_done):
     """Returns the begin and the end of requests, one each 5 ms, until `is_done`."""
     connection, times = http.client.HTTPConnection("127.0.0.1", port, timeout=60), []
@@ -474,13 +514,45 @@ def node_switch(shop):
     units = {"": "ms, longest wait", "-next": "ms, next longest wait", "-commit": "ms, last commit",
              "-sync": "ms, syncs of it", "-beside": "ms, wait at it without it"}
     lists = [(str(mib), lambda day, mib=mib: shop.list_of(mib, day)) for mib in shop.sizes]
-    for label, made in [*lists, ("rows", shop.list_of_rows)]:
+    for label, made in [*lists, ("rows", lambda day: shop.list_of_rows(day=day))]:
         def measured(made=made):
             return switched(shop, made("2024-01-01"), made("2024-02-01"))
 
-        yield from figures_of(f"node-switch-{label}", units, measured, ("nginx",))
+        yield from figures_of(f"node-switch-{label}", units, {KBFEED: measured}, ("nginx",))
 
 
-GROUPS = {"start": start, "check": check, "diff": diff, "serve": serve, "fetch": fetch, "store": store, "ask": ask,
-          "load": ask, "replay": replay, "node-start": node_start, "node-requests": node_requests,
-          "node-closing": node_requests, "node-switch": node_switch}
+def instructions(shop):
+    """The instructions of a node for a request, by valgrind."""
+    def measured():
+        run = subprocess.run([sys.executable, BENCH / "instructions", "--program", shop.program], capture_output=True,
+                             text=True, check=False)
+        if run.returncode:
+            raise Failed(run.stderr.strip()[-200:])
+        return [{"value": int(line.split()[0].replace(",", ""))} for line in run.stdout.splitlines()]
+
+    units = {f"-{it}": "instructions" for it in ("status", "text", "json", "page")}
+    yield from figures_of("instructions", units, {KBFEED: measured}, ("valgrind",), once=True)
+
+
+def convert(shop):
+    """`kbfeed-convert` of a list of the largest size, with a report."""
+    def measured():
+        tools = BENCH.parent / "tools/convert"
+        run = subprocess.run([BENCH.parent / "tests/drivers/convert_speed.py", str(size * MIB), "100000", "100000"],
+                             env={**os.environ, "PATH": f"{shop.program.parent}:{tools}:{os.environ['PATH']}"},
+                             capture_output=True, text=True, check=False)
+        found = re.search(r"([0-9.]+) s, ([0-9]+) MB$", run.stderr.strip())
+        if run.returncode or not found or "all rows" not in run.stdout:
+            raise Failed((run.stderr or run.stdout).strip()[-200:])
+        return {"value": float(found[1]), "memory": float(found[2])}
+
+    size = max(shop.sizes)
+    bench = Benchmark(f"convert-{size}", "s of a processor")
+    bench.add(KBFEED, "=", measured, needs=(), once=True)
+    yield bench
+
+
+GROUPS = {"start": start, "check": check, "diff": diff, "convert": convert, "serve": serve, "fetch": fetch,
+          "store": store, "ask": ask, "load": ask, "replay": replay, "node-start": node_start,
+          "node-requests": node_requests, "node-closing": node_requests, "node-hits": node_hits,
+          "node-switch": node_switch, "instructions": instructions}

@@ -16,6 +16,9 @@ num_last_issue_online title_url first_author title_id embargo_info coverage_dept
 publisher_name publication_type date_monograph_published_print date_monograph_published_online
 monograph_volume monograph_edition first_editor parent_publication_title_id
 preceding_publication_title_id access_type""".split()
+# The columns of a list with an ISSN for each row and nothing else to tell them apart.
+PLAIN = ["publication_title", "print_identifier", "online_identifier", "date_first_issue_online",
+         "num_first_vol_online", "date_last_issue_online", "num_last_vol_online", "title_url", "coverage_depth"]
 
 HEADS = ["Journal of", "Annals of", "Archives of", "International Journal of", "European Journal of",
          "Advances in", "Studies in", "Review of", "Bulletin of", "Proceedings of the Society for",
@@ -175,6 +178,20 @@ def lines(size, seed):
                 return
             left -= len(line)
             yield line
+
+
+def plain_issn(number):
+    """Returns the ISSN of a number of seven digits (ISO 3297)."""
+    digits = f"{number:07}"
+    check = -sum(int(digit) * (8 - at) for at, digit in enumerate(digits)) % 11
+    return f"{digits[:4]}-{digits[4:]}{'X' if check == 10 else check}"
+
+
+def plain_list(first, end):
+    """Returns a list whose rows have the numbers from the first to the one before the end: an ISSN for each."""
+    rows = [f"Journal {at}\t{plain_issn(at)}\t\t1990\t1\t\t\thttps://a.example/{at}\tfulltext\n"
+            for at in range(first, end)]
+    return ("\t".join(PLAIN) + "\n" + "".join(rows)).encode()
 
 
 def main():

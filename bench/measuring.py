@@ -18,6 +18,9 @@ CALLS = BUILT / "calls.so"
 PEERS = BENCH / "peers"
 MIB = 1 << 20
 KBFEED = "kbfeed"
+# The figures of the last measurement, and the columns behind the benchmark and who.
+FIGURES = BENCH / "figures.tsv"
+COLUMNS = ["value", "unit", "cpu", "memory", "ratio"]
 # Seconds for one command, and for a server to listen.
 LONGEST = 1_800
 STARTING = 60
@@ -119,11 +122,11 @@ class Workshop:
         args = ["--bytes", mib * MIB, "--seed", mib * 31 + int(day[5:7])]
         return self.once(path, lambda: self.generated(path, "make_list.py", *args))
 
-    def list_of_rows(self, day="2024-01-01"):
-        """Returns a list of 341,857 rows, 21.6 MB, on the shelf."""
-        path = self.shelf / f"Rows_All_{day}.txt"
+    def list_of_rows(self, rows=341_857, titles=100_000, day="2024-01-01"):
+        """Returns a list of so many rows, of some titles in turn, on the shelf: by default one of 21.6 MB."""
+        path = self.shelf / f"Rows{rows}_All_{day}.txt"
         script = BENCH.parent / "tests/drivers/many_rows.py"
-        return self.once(path, lambda: self.generated(path, script, 341_857, 100_000))
+        return self.once(path, lambda: self.generated(path, script, rows, titles))
 
     def edited_list(self, mib):
         """Returns the list of so many MiB with edits: of 200 rows one is replaced, and two have another URL."""
@@ -239,6 +242,12 @@ class Workshop:
             self.nginx(port, self.shelf)
             self.shelf_at = f"127.0.0.1:{port}"
         return self.shelf_at
+
+
+def read_figures():
+    """Returns the columns of each line of figures.tsv, by its benchmark and who."""
+    rows = [line.split("\t") for line in FIGURES.read_text(encoding="utf-8").splitlines()]
+    return {(row[0], row[1]): dict(zip(COLUMNS, row[2:])) for row in rows}
 
 
 def free_port():

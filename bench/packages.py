@@ -1,0 +1,173 @@
+"""The benchmarks of a node with many packages, each beside one with few."""
+import contextlib
+import hashlib
+import pathlib
+import re
+import shutil
+import sqlite3
+import statistics
+import time
+
+from benchmarks import TOKEN, asked, figures_of, post_feed, remove_database, serving_node, started
+from make_list import plain_issn, plain_list
+from measuring import BENCH, KBFEED, MIB, Benchmark, Failed
+
+MANY, SOME, FEW = 4_000, 1_000, 10
+ROWS = 3_000_000
+DAYS = ["2024-01-01", "2024-02-01"]
+# The first of the days, as a number of days since 1970-01-01.
+DAY = 19_723
+TABLES = re.search("```sql\n(.*?)```", (BENCH.parent / "docs/formats/DATABASE.md").read_text(encoding="utf-8"), re.S)[1]
+# The targets by the endings of benchmarks. The package and the ISSN are those of a list in the middle.
+TARGETS = {"status": "/status", "of-one": "/resolve/{package}?issn={issn}", "of-all": "/resolve?issn={issn}",
+           "titles": "/titles?q=Journal", "metrics": "/metrics", "front": "/", "feed": "/feed",
+           "feed-json": "/feed?format=json"}
+SWITCHES = 9
+
+
+def lists_of(packages, rows, day=DAYS[0]):
+    """Yields the names and the bytes of the lists of so many packages, which have so many rows together."""
+    for at in range(packages):
+        yield f"P{at:04}_{day}.txt", plain_list(rows * at // packages, rows * (at + 1) // packages)
+
+
+def database_of(shop, packages, rows):
+    """Returns a database with an active release of each of so many packages. Python's sqlite3 makes it, in seconds."""
+    def make():
+        path = shop.fresh(".db")
+        with contextlib.closing(sqlite3.connect(path)) as base:
+            base.execute("PRAGMA journal_mode = WAL")
+            base.executescript(f"{TABLES} INSERT INTO feed_layout VALUES (2);")
+            for name, text in lists_of(packages, rows):
+                base.execute("INSERT INTO feed_release VALUES (?, ?, ?, ?, 2)", (name, name[:-15], DAY, len(text)))
+                base.executemany("INSERT INTO feed_piece VALUES (?, ?, ?)",
+                                 [(name, first, text[first:first + MIB]) for first in range(0, len(text), MIB)])
+            base.commit()
+        return path
+    return shop.once(("packages", packages, rows), make)
+
+
+def token_of(shop):
+    def make():
+        path = shop.fresh(".token")
+        path.write_text(f"{TOKEN}\n")
+        return path
+    return shop.once("token", make)
+
+
+@contextlib.contextmanager
+def node_with(shop, packages, rows=None, calls=None):
+    """Runs a node over a copy of a database with so many packages, by default of a row each."""
+    database = shop.fresh(".db")
+    shutil.copy(database_of(shop, packages, rows or packages), database)
+    child, port = serving_node(shop, database, "--from", shop.shelf_address(), "--token", token_of(shop), calls=calls)
+    try:
+        yield child, port
+    finally:
+        shop.stop(child)
+        remove_database(database)
+
+
+def packages_open(shop):
+    """A start over 3,000,000 rows in 1,000 packages, beside one over the same rows in 10."""
+    units = {"": "ms, until it listens", "-answers": "ms", "-wait": "ms, longest wait"}
+    runners = {who: lambda packages=packages: started(shop, database_of(shop, packages, ROWS))
+               for who, packages in [(KBFEED, SOME), (f"{FEW} packages", FEW)]}
+    yield from figures_of("packages-open", units, runners, ())
+
+
+def commits(calls, since, until):
+    """Returns the seconds of the commits of a fetch. The calls on files between two connections are those of one."""
+    total, last = 0.0, None
+    for name, begin, end, _ in calls:
+        if since <= float(begin) <= until:
+            total += 0.0 if name == "connect" else float(end) - (last or float(begin))
+            last = None if name == "connect" else float(end)
+    return total
+
+
+def switches(shop, packages):
+    """Has a node with so many packages fetch the next release of some of them, one row each. Returns the medians of the
+    time of a fetch, as its client sees it, of its commits, and of what is left."""
+    step, calls, spans = packages // SWITCHES, shop.fresh(".calls"), []
+    names = dict(list(lists_of(packages, packages, DAYS[1]))[::step][:SWITCHES])
+    for name, text in names.items():
+        (shop.shelf / name).write_bytes(text)
+    with node_with(shop, packages, calls=calls) as (_, port):
+        for name in names:
+            result, since = [], time.monotonic()
+            post_feed(port, name, result)
+            spans.append((since, time.monotonic()))
+            if result != ["status 0"]:
+                raise Failed(f"the fetch ends with {result}")
+    lines = [line.split() for line in calls.read_text().splitlines()]
+    times = [(until - since, commits(lines, since, until)) for since, until in spans]
+    columns = [*zip(*times), [whole - commit for whole, commit in times]]
+    return [{"value": statistics.median(column) * 1e3} for column in columns]
+
+
+def packages_switch(shop):
+    """The fetch of a list of one row that becomes active, on a node with 4,000 packages beside one with 10."""
+    units = {"": "ms", "-commits": "ms, both commits", "-beside": "ms, without them"}
+    runners = {who: lambda packages=packages: switches(shop, packages)
+               for who, packages in [(KBFEED, MANY), (f"{FEW} packages", FEW)]}
+    yield from figures_of("packages-switch", units, runners, ("nginx",))
+
+
+def asked_among(shop, packages):
+    """Returns the time of a request for each target, of a node with so many packages of a row each."""
+    places = {"package": f"P{packages // 2:04}", "issn": plain_issn(packages // 2)}
+    with node_with(shop, packages) as (_, port):
+        return asked(port, [target.format(**places) for target in TARGETS.values()])
+
+
+def packages_requests(shop):
+    """Requests of one client to a node with 4,000 packages, beside one with 1,000 and one with 10."""
+    units = {f"-{ending}": "ms" for ending in TARGETS}
+    runners = {who: lambda packages=packages: asked_among(shop, packages)
+               for who, packages in [(KBFEED, MANY), (f"{SOME} packages", SOME), (f"{FEW} packages", FEW)]}
+    yield from figures_of("packages-requests", units, runners, ("nginx",))
+
+
+def resident(shop, packages, rows):
+    """Returns the memory in bytes of a node that answers from so many packages, which have so many rows together."""
+    with node_with(shop, packages, rows) as (child, _):
+        status = pathlib.Path(f"/proc/{child.pid}/status").read_text()
+    return int(re.search(r"VmRSS:\s+(\d+)", status)[1]) * 1024
+
+
+def packages_memory(shop):
+    """The memory of a node for each package more: 4,000 packages of a row, and as many rows in 10 packages."""
+    bench = Benchmark("packages-memory", "bytes a package")
+    bench.add(KBFEED, "=", lambda: {"value": (resident(shop, MANY, MANY) - resident(shop, FEW, MANY)) / (MANY - FEW)},
+              needs=("nginx",))
+    yield bench
+
+
+def fed(shop, *options):
+    """Has kbfeed-feed offer 1,000 releases to a node that answers from them, and returns its figures."""
+    names, nodes = shop.fresh(".names"), shop.fresh(".nodes")
+    every = dict(lists_of(SOME, SOME))
+    for name, text in every.items():
+        (shop.shelf / name).write_bytes(text)
+    names.write_text("".join(f"{name}\n" for name in every))
+    with node_with(shop, SOME) as (_, port):
+        nodes.write_text(f"127.0.0.1:{port}\n")
+        figures = shop.timed(["sh", BENCH.parent / "samples/fleet/feed", *options, "--index", f"file://{names}",
+                              token_of(shop), nodes])
+    wanted = "".join(f"127.0.0.1:{port} {name} known\n" for name in every)
+    if figures.pop("output") != hashlib.sha256(wanted.encode()).hexdigest():
+        raise Failed("not every release is known")
+    return figures
+
+
+def packages_feed(shop):
+    """The script kbfeed-feed over 1,000 releases that have not changed, without --all and with it."""
+    for name, options in [("packages-feed", ()), ("packages-feed-all", ("--all",))]:
+        bench = Benchmark(name, "ms, 1,000 releases")
+        bench.add(KBFEED, "=", lambda options=options: fed(shop, *options), needs=("nginx", "curl"))
+        yield bench
+
+
+GROUPS = {"packages-open": packages_open, "packages-switch": packages_switch, "packages-requests": packages_requests,
+          "packages-memory": packages_memory, "packages-feed": packages_feed}
