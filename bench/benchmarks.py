@@ -521,17 +521,27 @@ def node_switch(shop):
         yield from figures_of(f"node-switch-{label}", units, {KBFEED: measured}, ("nginx",))
 
 
-def instructions(shop):
-    """The instructions of a node for a request, by valgrind."""
-    def measured():
-        run = subprocess.run([sys.executable, BENCH / "instructions", "--program", shop.program], capture_output=True,
-                             text=True, check=False)
-        if run.returncode:
-            raise Failed(run.stderr.strip()[-200:])
-        return [{"value": int(line.split()[0].replace(",", ""))} for line in run.stdout.splitlines()]
+def counted(shop, tool, form):
+    """Returns the numbers in what a tool that needs valgrind prints."""
+    command = [sys.executable, "-B", BENCH / tool, "--program", shop.program]
+    run = subprocess.run(command, capture_output=True, text=True, check=False)
+    if run.returncode:
+        raise Failed(run.stderr.strip()[-200:])
+    return [{"value": float(it.replace(",", ""))} for it in re.findall(form, run.stdout, re.M)]
 
+
+def instructions(shop):
+    """The instructions of a node for a request."""
     units = {f"-{it}": "instructions" for it in ("status", "text", "json", "page")}
-    yield from figures_of("instructions", units, {KBFEED: measured}, ("valgrind",), once=True)
+    runner = {KBFEED: lambda: counted(shop, "instructions", r"^ *([0-9,]+)  \w+$")}
+    yield from figures_of("instructions", units, runner, ("valgrind",), once=True)
+
+
+def copies(shop):
+    """How often a byte of a list is copied in memory by three commands."""
+    units = {f"-{it}": "copies of a byte" for it in ("fetch", "status", "check")}
+    runner = {KBFEED: lambda: counted(shop, "copies", r"^kbfeed \w+: ([0-9.]+)$")}
+    yield from figures_of("copies", units, runner, ("valgrind",), once=True)
 
 
 def convert(shop):
@@ -555,4 +565,4 @@ def convert(shop):
 GROUPS = {"start": start, "check": check, "diff": diff, "convert": convert, "serve": serve, "fetch": fetch,
           "store": store, "ask": ask, "load": ask, "replay": replay, "node-start": node_start,
           "node-requests": node_requests, "node-closing": node_requests, "node-hits": node_hits,
-          "node-switch": node_switch, "instructions": instructions}
+          "node-switch": node_switch, "instructions": instructions, "copies": copies}

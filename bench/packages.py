@@ -13,7 +13,7 @@ from make_list import plain_issn, plain_list
 from measuring import BENCH, KBFEED, MIB, Benchmark, Failed
 
 MANY, SOME, FEW = 4_000, 1_000, 10
-ROWS = 3_000_000
+ROWS = 30_000
 DAYS = ["2024-01-01", "2024-02-01"]
 # The first of the days, as a number of days since 1970-01-01.
 DAY = 19_723
