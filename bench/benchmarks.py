@@ -268,19 +268,20 @@ def replay(shop):
         yield bench
 
 
-def started_node(shop, database, *options, calls=None):
-    """Starts a node that writes its calls to a file, if there is one, and returns its process and its port."""
+def started_node(shop, database, *options, calls=None, under=()):
+    """Starts a node that writes its calls to a file, if there is one, under a program, if it is given one. Returns its
+    process and its port."""
     port = free_port()
     log = open(shop.fresh(".log"), "wb")
     with log:
-        command = [shop.program, "node", database, f"127.0.0.1:{port}", *options]
+        command = [*under, shop.program, "node", database, f"127.0.0.1:{port}", *options]
         env = {**os.environ, "LD_PRELOAD": str(CALLS), "CALLS": str(calls)} if calls else None
         return shop.start(command, lambda: is_listening(port), stdout=log, env=env), port
 
 
-def serving_node(shop, database, *options, calls=None):
+def serving_node(shop, database, *options, **started_as):
     """Starts a node, and waits until it answers readers."""
-    child, port = started_node(shop, database, *options, calls=calls)
+    child, port = started_node(shop, database, *options, **started_as)
     until_it_answers(port)
     return child, port
 

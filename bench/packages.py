@@ -5,7 +5,7 @@ import pathlib
 import re
 import shutil
 import sqlite3
-import statistics
+import subprocess
 import time
 
 from benchmarks import TOKEN, asked, figures_of, post_feed, remove_database, serving_node, started
@@ -13,7 +13,7 @@ from make_list import plain_issn, plain_list
 from measuring import BENCH, KBFEED, MIB, Benchmark, Failed
 
 MANY, SOME, FEW = 4_000, 1_000, 10
-ROWS = 30_000
+ROWS = 3_000_000
 DAYS = ["2024-01-01", "2024-02-01"]
 # The first of the days, as a number of days since 1970-01-01.
 DAY = 19_723
@@ -23,6 +23,8 @@ TARGETS = {"status": "/status", "of-one": "/resolve/{package}?issn={issn}", "of-
            "titles": "/titles?q=Journal", "metrics": "/metrics", "front": "/", "feed": "/feed",
            "feed-json": "/feed?format=json"}
 SWITCHES = 9
+# For what memory is allocated: the bytes and the rows of a list, the toolchain's SQLite, and all else of a node.
+OWNERS = ["list", "sqlite", "beside"]
 
 
 def lists_of(packages, rows, day=DAYS[0]):
@@ -56,11 +58,12 @@ def token_of(shop):
 
 
 @contextlib.contextmanager
-def node_with(shop, packages, rows=None, calls=None):
+def node_with(shop, packages, rows=None, **started_as):
     """Runs a node over a copy of a database with so many packages, by default of a row each."""
     database = shop.fresh(".db")
     shutil.copy(database_of(shop, packages, rows or packages), database)
-    child, port = serving_node(shop, database, "--from", shop.shelf_address(), "--token", token_of(shop), calls=calls)
+    child, port = serving_node(shop, database, "--from", shop.shelf_address(), "--token", token_of(shop),
+                               **started_as)
     try:
         yield child, port
     finally:
@@ -87,8 +90,8 @@ def commits(calls, since, until):
 
 
 def switches(shop, packages):
-    """Has a node with so many packages fetch the next release of some of them, one row each. Returns the medians of the
-    time of a fetch, as its client sees it, of its commits, and of what is left."""
+    """Has a node with so many packages fetch the next release of some of them, of a row each. Returns the time of a
+    fetch, as its client sees it, that of its commits, and that of all else, each the second shortest."""
     step, calls, spans = packages // SWITCHES, shop.fresh(".calls"), []
     names = dict(list(lists_of(packages, packages, DAYS[1]))[::step][:SWITCHES])
     for name, text in names.items():
@@ -103,7 +106,7 @@ def switches(shop, packages):
     lines = [line.split() for line in calls.read_text().splitlines()]
     times = [(until - since, commits(lines, since, until)) for since, until in spans]
     columns = [*zip(*times), [whole - commit for whole, commit in times]]
-    return [{"value": statistics.median(column) * 1e3} for column in columns]
+    return [{"value": sorted(column)[1] * 1e3} for column in columns]
 
 
 def packages_switch(shop):
@@ -133,15 +136,44 @@ def resident(shop, packages, rows):
     """Returns the memory in bytes of a node that answers from so many packages, which have so many rows together."""
     with node_with(shop, packages, rows) as (child, _):
         status = pathlib.Path(f"/proc/{child.pid}/status").read_text()
-    return int(re.search(r"VmRSS:\s+(\d+)", status)[1]) * 1024
+    return [int(re.search(r"VmRSS:\s+(\d+)", status)[1]) * 1024]
+
+
+def owner(function):
+    """Returns for what a function allocates memory, or None if its caller decides that."""
+    if re.match("feed_kbart::|feed_parts::|feed_store_read::pieces::", function):
+        return "list"
+    return "sqlite" if function.startswith("sqlite") else "beside" if re.match("feed_|node_|cmd_", function) else None
+
+
+def allocated(shop, packages, rows):
+    """Returns the bytes that such a node has allocated, by what they are for. A snapshot of massif, which has a tree
+    of the callers of each function that allocates, says so."""
+    total, above, heap = dict.fromkeys(OWNERS, 0), None, shop.fresh(".heap")
+    massif = ["valgrind", "-q", "--tool=massif", "--depth=40", "--threshold=0", f"--massif-out-file={shop.fresh()}"]
+    with node_with(shop, packages, rows, under=massif) as (child, _):
+        subprocess.run(["vgdb", f"--pid={child.pid}", "detailed_snapshot", heap], capture_output=True, check=True)
+    for indent, size, function in re.findall(r"^( *)n[0-9]+: ([0-9]+) 0x[0-9A-F]+: (\S+)", heap.read_text(), re.M):
+        if above is None or len(indent) <= above:
+            whose = owner(function)
+            above = len(indent) if whose else None
+            if whose:
+                total[whose] += int(size)
+    return list(total.values())
 
 
 def packages_memory(shop):
-    """The memory of a node for each package more: 4,000 packages of a row, and as many rows in 10 packages."""
+    """The memory of a node for each package more: 4,000 packages of a row, and as many rows in 10 packages. What is
+    resident, and what it has allocated for lists, for SQLite, and for all else."""
+    def more(measured):
+        return [{"value": (many - few) / (MANY - FEW)}
+                for many, few in zip(measured(shop, MANY, MANY), measured(shop, FEW, MANY))]
+
     bench = Benchmark("packages-memory", "bytes a package")
-    bench.add(KBFEED, "=", lambda: {"value": (resident(shop, MANY, MANY) - resident(shop, FEW, MANY)) / (MANY - FEW)},
-              needs=("nginx",))
+    bench.add(KBFEED, "=", lambda: more(resident)[0], needs=("nginx",))
     yield bench
+    units = {f"-{it}": "bytes a package" for it in OWNERS}
+    yield from figures_of("packages-memory", units, {KBFEED: lambda: more(allocated)}, ("nginx", "valgrind"), once=True)
 
 
 def fed(shop, *options):
