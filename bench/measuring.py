@@ -21,9 +21,9 @@ KBFEED = "kbfeed"
 # The figures of the last measurement, and the columns behind the benchmark and who.
 FIGURES = BENCH / "figures.tsv"
 COLUMNS = ["value", "unit", "cpu", "memory", "ratio"]
-# Seconds for one command, and for a server to listen.
+# Seconds for one command, and for a server to listen, which takes minutes under valgrind.
 LONGEST = 1_800
-STARTING = 60
+STARTING = 600
 
 
 class Failed(Exception):

@@ -89,32 +89,62 @@ def commits(calls, since, until):
     return total
 
 
-def switches(shop, packages):
-    """Has a node with so many packages fetch the next release of some of them, of a row each. Returns the time of a
-    fetch, as its client sees it, that of its commits, and that of all else, each the second shortest."""
-    step, calls, spans = packages // SWITCHES, shop.fresh(".calls"), []
-    names = dict(list(lists_of(packages, packages, DAYS[1]))[::step][:SWITCHES])
-    for name, text in names.items():
+def next_releases(shop, packages):
+    """Puts the next releases of some of so many packages on the shelf, of a row each, and returns their names."""
+    lists = dict(list(lists_of(packages, packages, DAYS[1]))[::packages // SWITCHES][:SWITCHES])
+    for name, text in lists.items():
         (shop.shelf / name).write_bytes(text)
+    return list(lists)
+
+
+def switch_to(port, name):
+    """Has a node fetch a release, and returns when that began and ended."""
+    result, since = [], time.monotonic()
+    post_feed(port, name, result)
+    if result != ["status 0"]:
+        raise Failed(f"the fetch ends with {result}")
+    return since, time.monotonic()
+
+
+def switches(shop, packages):
+    """Has a node with so many packages fetch the next release of some of them. Returns the time of a fetch, as its
+    client sees it, that of its commits, and that of all else, each the second shortest."""
+    calls = shop.fresh(".calls")
     with node_with(shop, packages, calls=calls) as (_, port):
-        for name in names:
-            result, since = [], time.monotonic()
-            post_feed(port, name, result)
-            spans.append((since, time.monotonic()))
-            if result != ["status 0"]:
-                raise Failed(f"the fetch ends with {result}")
+        spans = [switch_to(port, name) for name in next_releases(shop, packages)]
     lines = [line.split() for line in calls.read_text().splitlines()]
     times = [(until - since, commits(lines, since, until)) for since, until in spans]
     columns = [*zip(*times), [whole - commit for whole, commit in times]]
     return [{"value": sorted(column)[1] * 1e3} for column in columns]
 
 
+def counted_switches(shop, packages):
+    """Returns the instructions of the same fetches, each, in their commits and beside them, by valgrind's callgrind."""
+    profile = shop.fresh(".profile")
+    callgrind = ["valgrind", "-q", "--tool=callgrind", f"--callgrind-out-file={profile}"]
+    with node_with(shop, packages, under=callgrind) as (child, port):
+        subprocess.run(["callgrind_control", "-z", str(child.pid)], stdout=subprocess.DEVNULL, check=True)
+        for name in next_releases(shop, packages):
+            switch_to(port, name)
+        subprocess.run(["callgrind_control", "-d", str(child.pid)], stdout=subprocess.DEVNULL, check=True)
+    text = subprocess.run(["callgrind_annotate", "--inclusive=yes", "--threshold=100", f"{profile}.1"],
+                          capture_output=True, text=True, check=True).stdout
+    found = [re.search(rf"^ *([0-9,]+) \([^)]*\) +{what}", text, re.M) for what in
+             ("PROGRAM TOTALS", r"\S*feed_releases::commit::commit")]
+    if not all(found):
+        raise Failed("callgrind does not name the commit")
+    whole, commit = (int(it[1].replace(",", "")) / SWITCHES for it in found)
+    return [{"value": it} for it in (commit, whole - commit)]
+
+
 def packages_switch(shop):
-    """The fetch of a list of one row that becomes active, on a node with 4,000 packages beside one with 10."""
-    units = {"": "ms", "-commits": "ms, both commits", "-beside": "ms, without them"}
-    runners = {who: lambda packages=packages: switches(shop, packages)
-               for who, packages in [(KBFEED, MANY), (f"{FEW} packages", FEW)]}
-    yield from figures_of("packages-switch", units, runners, ("nginx",))
+    """The fetch of a list of a row that becomes active, on a node with 4,000 packages beside one with 10."""
+    for units, measured, tools in [
+            ({"": "ms", "-commits": "ms, both commits", "-beside": "ms, without them"}, switches, ()),
+            ({"-commits-work": "instructions", "-beside-work": "instructions"}, counted_switches, ("valgrind",))]:
+        runners = {who: lambda packages=packages, measured=measured: measured(shop, packages)
+                   for who, packages in [(KBFEED, MANY), (f"{FEW} packages", FEW)]}
+        yield from figures_of("packages-switch", units, runners, ("nginx", *tools), once=bool(tools))
 
 
 def asked_among(shop, packages):
