@@ -16,7 +16,7 @@ num_last_issue_online title_url first_author title_id embargo_info coverage_dept
 publisher_name publication_type date_monograph_published_print date_monograph_published_online
 monograph_volume monograph_edition first_editor parent_publication_title_id
 preceding_publication_title_id access_type""".split()
-# The columns of a list with an ISSN for each row and nothing else to tell them apart.
+# The columns of a list whose rows differ in their ISSN alone.
 PLAIN = ["publication_title", "print_identifier", "online_identifier", "date_first_issue_online",
          "num_first_vol_online", "date_last_issue_online", "num_last_vol_online", "title_url", "coverage_depth"]
 
