@@ -1,5 +1,5 @@
-//! The report on a checked list, from its release name and its text: in lines, in one line, explained, or as JSON; the
-//! comparison of two lists, `compare`, which pairs their rows; and the report on it.
+//! The report on a checked list, from its release name and its text: in lines, in one line, explained, or as JSON. The
+//! comparison of two lists, `compare`, which pairs their rows, and the report on it.
 #![tactic(auto)]
 
 mod comparison;

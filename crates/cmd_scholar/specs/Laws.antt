@@ -48,7 +48,7 @@ span_length (Days n) = n
 span_length (Months n) = n
 span_length (Years n) = n
 
--- whatever day today is, each day of a span is among the most recent ones that are counted for it: type P hides no day
+-- whatever day today is, each day of a span is among the most recent ones that are counted for it. Type P hides no day
 -- that is not counted, and type R opens none
 abbrev pub SpansAreCounted : Type 0
 SpansAreCounted = (today : TodayValue) (span : Span) (day : ℤ) → IsDayOfMonth today.month today.day → 0 < span_length span

@@ -6,4 +6,3 @@ mod Asked
 mod WorldSteps
 mod Counts
 mod Wrong
-mod Handled

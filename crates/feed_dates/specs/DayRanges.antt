@@ -65,7 +65,7 @@ pub record AreDaysOf (text : List ℕ) (days : DayRange) : Type 0 where
   pub least : (n : ℤ) → IsDayOf text n → days.first ≤ℤ n
   pub greatest : (n : ℤ) → IsDayOf text n → n ≤ℤ days.last
 
--- the days of a text are the least and the greatest whose written date begins with it; if a text has the length
--- of a date and no days, no day's written date begins with it
+-- the days of a text are the least and the greatest whose written date begins with it. If it has the length of a date
+-- and no days, no day's written date begins with it
 abbrev pub DatesAreRanges : List ℕ → Type 0
 DatesAreRanges text = MatchOption (days_of text) (IsDateLength text → (n : ℤ) → ¬ IsDayOf text n) (AreDaysOf text)

@@ -36,7 +36,7 @@ abbrev pub SizeReadsBack : Type 0
 SizeReadsBack = (size : ℕ) (result : Result Got HttpFault) → size < 2 ^ 64
     → IsResultOf Head (bytes_of_response (head_alone (Whole size))) result → IsGiven (Size size) result
 
--- a GET from a server with this file reads a slice of it, if the file has the first place: the request text begins with
+-- a GET from a server with this file reads a slice of it, if the file has the first place. The request text begins with
 -- a head that names the release, and the response served to it is read as the piece
 abbrev pub FetchGivesSlice : Type 0
 FetchGivesSlice = (files : Files) (host : List ℕ) (name : Name) (file : List ℕ) (first last : ℕ)

@@ -6,7 +6,7 @@ use Rattle.feed_model.specs.History.{Event, Answer, History}
 use Rattle.feed_model.specs.Reply.{IsRightWith, history_after}
 use Rattle.feed_model.specs.Content.{Record, Content, Recorded, record_of, IsContent}
 
--- for every history that a feed with the records c may have, the answer is right, and one with c' may have the history
+-- for every history that a feed with the records c may have, the answer is right. A feed with c' may have the history
 -- with the event and the answer added, so it does not matter how the feed got its records
 abbrev pub Handles : Recorded → Event → Answer → Recorded → Type 0
 Handles c event answer c' = (h : History) → IsContent c h → IsRightWith c.most h event answer × IsContent c' ((event, answer) ∷ h)

@@ -19,7 +19,7 @@ IsNeverFull h = All (λ step. is_full step ≡ false) h
 abbrev pub without_full : History → History
 without_full h = filter (λ step. not (is_full step)) h
 
--- the records of a feed with room for this many are those of one with room for more: the same history without those
+-- the records of a feed with room for this many are those of one with room for more. The same history without those
 -- offers has them, every release is what it was, and each package reports the same one
 pub record IsMovedUp (large : ℕ) (c : Content) (h k : History) : Type 0 where
   pub content : IsContent (within large c) k

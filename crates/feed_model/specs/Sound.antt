@@ -31,7 +31,7 @@ pub record IsSoundRecord (r : Record) : Type 0 where
   pub state : IsStateOf r.state r.size r.parts
   pub reason : Explains r.state r.size r.parts r.reason
 
--- each name has one record, at most as many as the feed may have; none is of an earlier day than an active one of its
+-- each name has one record, at most as many as the feed may have. None is of an earlier day than an active one of its
 -- package, so each package has at most one active. The records of a feed are sound, whatever its history
 pub record IsSound (c : Recorded) : Type 0 where
   pub distinct : IsDistinct name_eq (names c.content)

@@ -39,7 +39,8 @@ pub record GetsReasons (old new : Content) : Type 0 where
   pub distinct : IsDistinct name_eq (names old)
   pub reasoned : AddReasons old new
 
--- a database of layout 1 is one of layout 2 now, with the same rows of releases and parts; it holds a list of records exactly if it held one: the same, with their reasons
+-- a database of layout 1 is one of layout 2 now, with the same rows of releases and parts. It holds a list of records
+-- exactly if it held one: the same, with their reasons
 pub record IsUpgradedWithReasons (old new : Database) : Type 0 where
   pub ours : IsLayout2 new
   pub rows : KeepsReleases old new

@@ -154,9 +154,9 @@ file_says n file (Ok query) = Text (text_for n file query)
 abbrev pub OrMemory : Line → Type 0 → Type 0
 OrMemory line right = right ⊎ (line ≡ Refused whys.Memory)
 
--- a right answer to a query at this history: the fault of the query; for a valid query, the answer from the active
--- release's complete file, or NoRelease if the package has no active release; or, in place of each, running out of
--- memory
+-- a right answer to a query at this history: the fault of the query, or for a valid query the answer from the active
+-- release's complete file, or NoRelease if the package has no active release. In place of each, it may be running out
+-- of memory
 abbrev pub IsAsked : History → List ℕ → List ℕ → Line → Type 0
 IsAsked h package_name query line = (o : Option Name) × Reports h package_name o × OrMemory line
     (MatchOption o (line ≡ none_says (query_of query)) (λ n. (file : List ℕ) × IsFile h n file × (line ≡ file_says n file (query_of query))))

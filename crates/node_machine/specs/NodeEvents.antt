@@ -11,7 +11,7 @@ use Rattle.node_connection.specs.Events.{Event, Elapsed}
 use Rattle.node_request.specs.declared.sites_target.SitesRequest.{SitesRequest}
 use Rattle.node_machine.specs.Exchanges.{ExchangeEvent, Requested, exchange_with}
 
--- an event of a node. One kind of them is that a connection was accepted under a key. The connection with this key had
+-- an event of a node. Its kinds, in order: a connection was accepted under a key. The connection with this key had
 -- these events, the newest first. Time passed, and the clock of each connection counted this many milliseconds of it. A
 -- day began. The request with these bytes, on the connection with this key, asked for this release, or has an invalid
 -- name. The fetch of this release began, or was refused for its name. The fetch ended. The fetch of a release took the

@@ -161,6 +161,7 @@ module _ {T K S V : Type 0} {k : Ghosts K} (wanted : S → RequestHead → ℕ)
   KeepsHistory old new = (history : List (NodeEvent V)) → HasHistory old history → HasHistory new history
 
   -- each history that the node had continues with some events to one that it has. Its feed may record as many releases
+  -- as before
   pub record IsLater (old new : NodeMachine T K S k) : Type 0 where
     pub history : (history : List (NodeEvent V)) → HasHistory old history → (later : List (NodeEvent V)) × HasHistory new (later ++ history)
     pub room : most_of new.feed ≡ most_of old.feed

@@ -1,6 +1,6 @@
-//! The site file of a library: its name and colour, its proxy, its links, and which packages it has; the
-//! holdings file beside it, which lists titles; the sites of several hosts; and the texts of the pages in English,
-//! German and French, which a site may replace.
+//! The site file of a library: its name and colour, its proxy, its links, and which packages it has. The holdings file
+//! beside it, which lists titles. The sites of several hosts, and the texts of the pages in English, German and French,
+//! which a site may replace.
 #![tactic(auto)]
 
 mod articles;
