@@ -78,10 +78,7 @@ pub fn fetch_release<D: Database, O: Write, F: Write + Drop>(
 
 // Returns the rows of the active release of the package of a name, or 0 if the package has no release.
 fn active_rows<K: Keep>(feed: &Feed<K>, name: &ReleaseName) -> usize {
-    match active_counts(feed, name.package()) {
-        Ok(counts) => rows_before(counts),
-        Err(_) => 0,
-    }
+    rows_before(active_counts(feed, name.package()))
 }
 
 // Notes the counts of a release that the feed has switched to.
@@ -95,7 +92,7 @@ fn note_counts<K: Keep, O: Write, F: Write + Drop>(
     if !is_reported(feed, name) {
         return;
     }
-    if let Ok(Some(ListCounts { rows, aside })) = active_counts(feed, name.package()) {
+    if let Some(ListCounts { rows, aside }) = active_counts(feed, name.package()) {
         console.faults.note(
             text,
             format_args!("rows {rows} aside {aside}, before {before}"),

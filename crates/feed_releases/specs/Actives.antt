@@ -1,5 +1,5 @@
 -- The active releases of a feed, ordered by package.
-use Rattle.std.specs.Prelude.{◌≡◌, ◌↔◌, ◌<◌, ℕ, Bool, false, if◌then◌else◌, All, List, [], ◌∷◌, length, map, slice_index_or, option_map, Option, Some}
+use Rattle.std.specs.Prelude.{◌≡◌, ◌↔◌, ◌<◌, ℕ, Bool, false, if◌then◌else◌, All, List, [], ◌∷◌, length, map, slice_index_or, option_map, Option, Some, None}
 use Rattle.std.specs.List.{filter_map, AllByRecursion}
 use Rattle.std.specs.List.Sorted.{IsStrictlySortedBy}
 use Rattle.std.specs.declared.cmp.Ordering.{Ordering}
@@ -61,6 +61,11 @@ pub record IsReported (h : History) (active : ActiveValue) : Type 0 where
   pub text : List ℕ
   pub file : IsFile h active.name text
   pub holdings : active.holdings ≡ holdings_of text
+
+-- the active release of a package, with the holdings of its complete file; none if no release of it is complete and good
+abbrev pub IsReportedFor : History → List ℕ → Option ActiveValue → Type 0
+IsReportedFor h package_name None = Reports h package_name None
+IsReportedFor h package_name (Some active) = IsReported h active × (active.name.package_name ≡ package_name)
 
 -- one of the active releases has this name
 abbrev pub HasActive : List ActiveValue → Name → Type 0

@@ -105,7 +105,8 @@ fn add<'a>(
     Ok(())
 }
 
-fn active_of(release: &Release) -> Option<ActiveRelease<'_>>
+/// Returns a release with its holdings, if it is active.
+pub(crate) fn active_of(release: &Release) -> Option<ActiveRelease<'_>>
     ensures value { result ≡ active_of release.now }
     ensures known { IsKnownRelease release.now }
 {

@@ -5,7 +5,7 @@ ghost use Rattle.feed_keep.specs.Capacity.{capacity_with};
 ghost use Rattle.feed_releases.specs.ReleaseValue.{content_of};
 ghost use Rattle.feed_releases.specs.Ahead.{IsAhead};
 
-use crate::actives::{ActiveRelease, actives_of};
+use crate::actives::{self, ActiveRelease, actives_of};
 use crate::ahead::Ahead;
 use crate::leftovers::{Leftover, free_portion};
 use crate::release::Release;
@@ -82,7 +82,7 @@ impl<K: Keep> Feed<K> {
     ghost use Rattle.feed_model.specs.Sound.{IsSound};
     ghost use Rattle.feed_model.specs.Content.{IsContent, within};
     ghost use Rattle.feed_model.specs.Handles.{Handles};
-    ghost use Rattle.feed_releases.specs.Actives.{actives_of, AreInOrder, AreReported};
+    ghost use Rattle.feed_releases.specs.Actives.{actives_of, AreInOrder, AreReported, IsReportedFor};
     ghost use Rattle.feed_releases.specs.Answered.{IsAnswered};
     ghost use Rattle.feed_releases.specs.NextRange.{IsNextRange};
     ghost use Rattle.feed_releases.specs.Reason.{HasReason};
@@ -222,6 +222,16 @@ impl<K: Keep> Feed<K> {
         }
     }
 
+    /// Returns the active release of a package, with the holdings of its complete file. Does not allocate.
+    pub fn active(&self, package: &[u8]) -> Option<ActiveRelease<'_>>
+        ensures { (h : History) → IsContent (recorded self.now) h → IsReportedFor h «package».now result }
+    {
+        match active_of(&self.releases, package) {
+            Some(at) => actives::active_of(&self.releases[at]),
+            None => None,
+        }
+    }
+
     /// Returns the first and the last place of the first missing range of a release's file, at most `max` places.
     /// Returns `None` if the release is not recorded, is complete, or is older than the active one.
     pub fn next_range(&self, name: &ReleaseName, max: u64) -> Option<(u64, u64)>
@@ -248,13 +258,10 @@ impl<K: Keep> Feed<K> {
     pub fn answer(&self, package: &[u8], query: &Query) -> Result<Answer<'_>, AnswerFault>
         ensures { (h : History) → IsContent (recorded self.now) h → IsAnswered h «package».now query.now result }
     {
-        let Some(at) = active_of(&self.releases, package) else {
+        let Some(active) = self.active(package) else {
             return Err(AnswerFault::NoRelease);
         };
-        let Some(holdings) = self.releases[at].holdings() else {
-            return Err(AnswerFault::NoRelease);
-        };
-        match answer(self.alloc, holdings, query) {
+        match answer(self.alloc, active.holdings(), query) {
             Ok(answer) => Ok(answer),
             Err(_) => Err(AnswerFault::Memory),
         }

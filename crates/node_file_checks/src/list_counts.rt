@@ -1,5 +1,5 @@
 //! The counts of a list: its rows and its skipped records.
-ghost use Rattle.std.specs.Prelude.{◌≡◌, IfOk};
+ghost use Rattle.std.specs.Prelude.{◌≡◌};
 ghost use Rattle.feed_model.specs.History.{History};
 ghost use Rattle.feed_model.specs.Content.{IsContent};
 ghost use Rattle.feed_releases.specs.Feeds.{recorded};
@@ -8,7 +8,6 @@ ghost use Rattle.node_file_checks.specs.RowCounts.{AreActiveCounts, AreCounts, r
 use feed_kbart::Holdings;
 use feed_keep::Keep;
 use feed_releases::Feed;
-use std::alloc::AllocError;
 
 /// How many rows a list has, and how many of its records are skipped.
 #[derive(Clone, Copy)]
@@ -30,27 +29,13 @@ impl ListCounts {
 }
 
 /// Returns the counts of the active release of a package, or none if it has none.
-///
-/// # Errors
-///
-/// Running out of memory.
-pub fn active_counts<K: Keep>(
-    feed: &Feed<K>,
-    package: &[u8],
-) -> Result<Option<ListCounts>, AllocError>
-    ensures { IfOk result (λ counts. (h : History) → IsContent (recorded feed.now) h
-        → AreActiveCounts h «package».now counts) }
+pub fn active_counts<K: Keep>(feed: &Feed<K>, package: &[u8]) -> Option<ListCounts>
+    ensures { (h : History) → IsContent (recorded feed.now) h → AreActiveCounts h «package».now result }
 {
-    let Some(_) = feed.report(package) else {
-        return Ok(None);
-    };
-    let actives = feed.actives()?;
-    for active in &actives {
-        if active.name().package() == package {
-            return Ok(Some(ListCounts::of(active.holdings())));
-        }
+    match feed.active(package) {
+        Some(active) => Some(ListCounts::of(active.holdings())),
+        None => None,
     }
-    Err(AllocError)
 }
 
 /// Returns the rows of a release that may be replaced, or 0 without a release.

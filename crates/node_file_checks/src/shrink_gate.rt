@@ -87,10 +87,7 @@ impl ShrinkGate {
         let Some(counts) = counts else {
             return Ok(());
         };
-        let Ok(active) = active_counts(feed, name.package()) else {
-            return Err(Hindrance::Memory);
-        };
-        let before = rows_before(active);
+        let before = rows_before(active_counts(feed, name.package()));
         if is_held(self.percent, before, counts.rows) {
             return Err(Hindrance::Held(HeldList { counts, before }));
         }

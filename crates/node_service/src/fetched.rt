@@ -135,13 +135,10 @@ pub(crate) fn is_answered<K: Keep>(node: &FeedNode<'_, K>) -> bool {
     }
 }
 
-// Returns the counts of the active release of the package that is fetched, if there is one and memory lasts.
+// Returns the counts of the active release of the package that is fetched, if there is one.
 pub(crate) fn counts_of_active<K: Keep>(node: &FeedNode<'_, K>) -> Option<ListCounts> {
     let fetching = node.fetching()?;
-    match active_counts(node.feed(), fetching.name.package()) {
-        Ok(counts) => counts,
-        Err(_) => None,
-    }
+    active_counts(node.feed(), fetching.name.package())
 }
 
 // Returns the rows of this release.
