@@ -1,7 +1,7 @@
 //! The circumstances of a response beside its request.
 use feed_answer::Today;
 use feed_releases::ActiveRelease;
-use node_response::{Digested, Site};
+use node_response::{DigestedPieces, Site};
 use node_site::SiteFile;
 use std::marker::Model;
 
@@ -12,7 +12,7 @@ pub struct Context<'a> {
     pub today: &'a Today,
     pub actives: &'a [ActiveRelease<'a>],
     /// A text about releases whose digest is known, mostly about these.
-    pub releases: Option<&'a Digested>,
+    pub releases: Option<&'a DigestedPieces>,
 }
 
 impl<'a> Model for Context<'a> {

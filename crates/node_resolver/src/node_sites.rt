@@ -4,7 +4,7 @@ ghost use Rattle.std.specs.Prelude.{length, option_copied, slice_get, take};
 ghost use Rattle.node_site.specs.Sites.{other_site, own_site};
 
 use feed_answer::Today;
-use node_response::{Digested, Site};
+use node_response::{DigestedPieces, Site};
 use node_site::{Sites, SitesFault};
 use std::alloc::{AllocError, Global};
 use std::marker::Model;
@@ -21,7 +21,7 @@ pub struct NamedSite {
 #[derive(Drop)]
 struct SiteList {
     sites: Vec<NamedSite>,
-    releases: Digested,
+    releases: DigestedPieces,
 }
 
 impl Model for SiteList {
@@ -45,7 +45,7 @@ pub struct NodeSites {
 fn prepare_all(
     alloc: Global,
     sites: &mut [NamedSite],
-    releases: &Digested,
+    releases: &DigestedPieces,
     today: &Today,
 ) -> Result<(), AllocError>
     ensures { sites.new ≡ sites.old }
@@ -63,7 +63,7 @@ impl SiteList {
     {
         SiteList {
             sites: Vec::new(alloc),
-            releases: Digested::new(Vec::new(alloc)),
+            releases: DigestedPieces::new(alloc),
         }
     }
 
@@ -103,12 +103,12 @@ impl SiteList {
 
     // Prepares the tags of all sites for a text about the releases and for a day. Changes no tag. Returns whether the
     // text is another one than before.
-    fn prepare(&mut self, alloc: Global, today: &Today, text: Vec<u8>) -> Result<bool, AllocError>
+    fn prepare(&mut self, alloc: Global, today: &Today, text: &[u8]) -> Result<bool, AllocError>
         ensures { self.new ≡ self.old }
     {
-        let has_changed = self.releases.text() != text.as_slice();
+        let has_changed = !self.releases.is_of(text);
         if has_changed {
-            self.releases = Digested::new(text);
+            self.releases = self.releases.renewed(alloc, text)?;
         }
         prepare_all(alloc, &mut self.sites, &self.releases, today)?;
         Ok(has_changed)
@@ -228,7 +228,7 @@ impl NodeSites {
     }
 
     /// Returns the text about the releases for which the tags are prepared.
-    pub(crate) fn releases(&self) -> &Digested {
+    pub(crate) fn releases(&self) -> &DigestedPieces {
         &self.list.releases
     }
 
@@ -242,7 +242,7 @@ impl NodeSites {
         &mut self,
         alloc: Global,
         today: &Today,
-        text: Vec<u8>,
+        text: &[u8],
     ) -> Result<bool, AllocError>
         ensures { self.new ≡ self.old }
     {

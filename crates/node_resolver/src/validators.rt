@@ -25,7 +25,7 @@ use feed_keep::Keep;
 use feed_releases::{ActiveRelease, Feed};
 use node_hits::ReceivedOpenUrl;
 use node_request::{ParsedRequest, Representation, Route, has_tag, package_in};
-use node_response::{Digested, Response, Site, Status};
+use node_response::{DigestedPieces, Response, Site, Status};
 use node_site::SiteFile;
 use std::alloc::{AllocError, Global};
 
@@ -57,7 +57,7 @@ fn tag_by(
     alloc: Global,
     site: &Site,
     today: &Today,
-    known: Option<&Digested>,
+    known: Option<&DigestedPieces>,
     text: Vec<u8>,
     representation: Representation,
 ) -> Result<Vec<u8>, AllocError>
@@ -65,10 +65,11 @@ fn tag_by(
         ≡ entity_tag (inputs_of site.now today.now text.items representation)) }
 {
     match known {
-        Some(known) if known.text() == text.as_slice() => {
-            site.tag(alloc, today, known, representation)
+        Some(known) if known.is_of(&text) => site.tag(alloc, today, known, representation),
+        _ => {
+            let releases = DigestedPieces::new(alloc).renewed(alloc, &text)?;
+            site.tag(alloc, today, &releases, representation)
         }
-        _ => site.tag(alloc, today, &Digested::new(text), representation),
     }
 }
 
@@ -246,5 +247,5 @@ pub fn keep_releases<K: Keep>(
 {
     let actives = feed.actives()?;
     let text = lines_of(alloc, &actives)?;
-    sites.prepare(alloc, today, text)
+    sites.prepare(alloc, today, &text)
 }

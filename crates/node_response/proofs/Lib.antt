@@ -4,3 +4,4 @@ pub mod JsonTexts
 pub mod Written
 pub mod Utf8Texts
 pub mod Visible
+pub mod Pieces

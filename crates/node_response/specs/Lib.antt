@@ -12,3 +12,4 @@ pub mod Tags
 pub mod TagLaws
 pub mod DayDigests
 pub mod DigestedSteps
+pub mod Pieces

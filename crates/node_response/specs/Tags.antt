@@ -6,6 +6,7 @@ use Rattle.hex.specs.Hex.{encode_lower}
 use Rattle.feed_answer.specs.Today.{TodayValue}
 use Rattle.node_site.specs.Reading.{IsSiteOf}
 use Rattle.node_site.specs.Site as site_file
+use Rattle.node_response.specs.Pieces.{pieces_digest}
 use Rattle.node_request.specs.declared.representation.Representation.{Representation}
 use Rattle.node_request.specs.declared.representation.Representation.TheVariants.{Text, Json, Html, Fragment, Sfx}
 
@@ -69,10 +70,10 @@ abbrev pub digest_of_digests : List ℕ → List ℕ → List ℕ → List ℕ �
 digest_of_digests version settings file listing releases =
     sha256 ((((sha256 version ++ sha256 settings) ++ sha256 file) ++ listing) ++ releases)
 
--- the same of five texts
+-- the same of five texts. That of the releases is by pieces, since a switch changes only one of many names
 abbrev pub source_digest : List ℕ → List ℕ → List ℕ → List ℕ → List ℕ → List ℕ
 source_digest version settings file listing releases =
-    digest_of_digests version settings file (sha256 listing) (sha256 releases)
+    digest_of_digests version settings file (sha256 listing) (pieces_digest releases)
 
 -- a digest, and a text
 abbrev pub message_of : List ℕ → List ℕ → List ℕ

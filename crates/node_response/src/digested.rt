@@ -7,7 +7,7 @@ use std::marker::Model;
 
 /// A text with its SHA-256 digest (FIPS 180-4, section 6.2).
 #[derive(Drop)]
-pub struct Digested {
+pub(crate) struct Digested {
     text: Vec<u8>,
     digest: [u8; 32],
 }
@@ -25,15 +25,29 @@ impl Model for Digested {
 
 impl Digested {
     /// Computes the digest of a text.
-    pub fn new(text: Vec<u8>) -> Digested
+    pub(crate) fn new(text: Vec<u8>) -> Digested
         ensures { result ≡ text.items }
     {
         let digest = Sha256::digest(text.as_slice());
         Digested { text, digest }
     }
 
+    /// Returns another text. Computes its digest only if it differs from this one.
+    pub(crate) fn renewed(&self, text: Vec<u8>) -> Digested
+        ensures { result ≡ text.items }
+    {
+        if self.text.as_slice() == text.as_slice() {
+            Digested {
+                text,
+                digest: self.digest,
+            }
+        } else {
+            Digested::new(text)
+        }
+    }
+
     /// Returns the text.
-    pub fn text(&self) -> &[u8]
+    pub(crate) fn text(&self) -> &[u8]
         ensures { result.now ≡ self.now }
     {
         &self.text

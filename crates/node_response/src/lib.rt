@@ -6,6 +6,7 @@
 mod day_digests;
 mod digested;
 mod digested_holdings;
+mod digested_pieces;
 mod escape;
 mod fault;
 mod fetch_responses;
@@ -18,8 +19,8 @@ mod site;
 mod status;
 mod utf8;
 
-pub use digested::Digested;
 pub use digested_holdings::{DigestedHoldings, DigestedReading, DigestedStep};
+pub use digested_pieces::DigestedPieces;
 pub use escape::put;
 pub use fault::{bad_head_response, put_fault, refusal};
 pub use fetch_responses::{fetch_response, progress_response};

@@ -9,6 +9,7 @@ ghost use Rattle.sha2.specs.Sha256.{sha256};
 use crate::day_digests::{DayDigests, digest_on};
 use crate::digested::Digested;
 use crate::digested_holdings::{DigestedHoldings, DigestedReading};
+use crate::digested_pieces::DigestedPieces;
 use feed_answer::Today;
 use node_request::Representation;
 use node_site::{HoldingsFault, SiteFault, SiteFile};
@@ -209,7 +210,7 @@ impl Site {
     }
 
     /// Prepares the tags for a text about the releases. Changes no tag.
-    pub fn keep_releases(&mut self, releases: &Digested)
+    pub fn keep_releases(&mut self, releases: &DigestedPieces)
         ensures { self.new ≡ self.old }
     {
         let source = self.source_with(releases);
@@ -252,7 +253,7 @@ impl Site {
 
     // Returns the digest of what the responses depend on, with a text about the releases. Computes it only if the tags
     // are prepared for another text.
-    fn source_with(&self, releases: &Digested) -> [u8; 32]
+    fn source_with(&self, releases: &DigestedPieces) -> [u8; 32]
         ensures { result
             ≡ source_digest self.now.version (decimal self.now.max_age) self.now.file self.now.library.listing
             releases.now }
@@ -285,7 +286,7 @@ impl Site {
         &self,
         alloc: Global,
         today: &Today,
-        releases: &Digested,
+        releases: &DigestedPieces,
         representation: Representation,
     ) -> Result<Vec<u8>, AllocError>
         ensures { IfOk result (λ tag. tag.items
