@@ -1,13 +1,14 @@
 //! The node as a value, and its connections.
-ghost use Rattle.std.specs.Prelude.{◌≡◌, ◌<◌, ◌≤◌, ◌+◌, ◌⊎◌, ◌∷◌, ℕ, true, List, None, IfSome, IsSome, IsSomeAnd};
+ghost use Rattle.std.specs.Prelude.{◌≡◌, ◌<◌, ◌≤◌, ◌+◌, ◌⊎◌, ◌∷◌, ℕ, true, List, None, Some, IfSome, IsSome, IsSomeAnd};
 ghost use Rattle.std.specs.Prelude.{option_copied};
-ghost use Rattle.node_table.specs.Queues.{MayServe};
-ghost use Rattle.node_table.specs.Turns.{behind_keys, fresh_keys, IsFromBehind, IsFromFresh, IsTaken};
+ghost use Rattle.node_turns.specs.Queues.{MayServe};
+ghost use Rattle.node_turns.specs.Turns.{behind_ring, fresh_ring, spare_keys, IsFromBehind, IsFromFresh, IsTaken};
 ghost use Rattle.feed_model.specs.Content.{IsContent};
 ghost use Rattle.feed_releases.specs.Feeds.{most_of, recorded};
 ghost use Rattle.node_table.specs.Peers.{held_limit};
 ghost use Rattle.node_table.specs.Tables.{peer_at, size_of, bytes_held, HasClosed, IsExpired, IsFirstToClose};
-ghost use Rattle.node_table.specs.Tables.{IsRemoved};
+ghost use Rattle.node_table.specs.Tables.{IsReadyAfter, IsRemoved};
+ghost use Rattle.node_table.specs.declared.peer.Peer.{Peer};
 ghost use Rattle.node_machine.specs.NodeEvents.{NodeEvent, Accepted, Passed, DayBegan, SitesBegan, Reopened};
 ghost use Rattle.node_machine.specs.NodeEvents.{accepted_in, feed_history};
 ghost use Rattle.node_machine.specs.Rules.{AreGiven};
@@ -21,7 +22,8 @@ use feed_names::{NameFault, ReleaseName};
 use feed_releases::Feed;
 use node_connection::Shortage;
 use node_request::SitesRequest;
-use node_table::{CloseCause, Log, NewConnection, Stream, Table, TurnRest};
+use node_table::{CloseCause, Log, NewConnection, Stream, Table};
+use node_turns::TurnRest;
 use std::alloc::Global;
 
 /// A node without its sockets. Times are in microseconds since a moment that the caller chooses.
@@ -148,18 +150,33 @@ impl<'a, T: Stream, K: Keep, S: FeedRespond + Drop> NodeMachine<'a, T, K, S> {
         self.table.register(key, registry)
     }
 
+    /// Notes that the registry reported an event of a connection, and whether its peer has ended its side by then.
+    pub fn note_event(&mut self, key: usize, has_ended: bool)
+        ensures history { KeepsHistory S.wanted S.responses S.sites self.old self.new }
+        ensures later { IsLater S.wanted S.responses S.sites self.old self.new }
+    {
+        self.table.note_event(key, has_ended);
+    }
+
     /// Takes the key of the connection that a turn serves next, as `Table::next_ready` does.
     pub fn next_ready(&mut self, rest: &mut TurnRest, is_over: bool) -> Option<usize>
         ensures history { KeepsHistory S.wanted S.responses S.sites self.old self.new }
         ensures later { IsLater S.wanted S.responses S.sites self.old self.new }
         ensures taken { IsTaken result (table_of self.old).ready (table_of self.new).ready }
-        ensures first { MayServe is_over rest.old.fresh (fresh_keys (table_of self.old).ready)
+        ensures first { MayServe is_over rest.old.fresh (fresh_ring (table_of self.old).ready)
             → IsSomeAnd result (λ key. IsFromFresh key (table_of self.old).ready (table_of self.new).ready) }
-        ensures some { MayServe is_over rest.old.behind (behind_keys (table_of self.old).ready) → IsSome result }
+        ensures second { MayServe is_over rest.old.behind (behind_ring (table_of self.old).ready)
+            → IsSomeAnd result (λ key. IsFromFresh key (table_of self.old).ready (table_of self.new).ready
+            ⊎ IsFromBehind key (table_of self.old).ready (table_of self.new).ready) }
+        ensures some { MayServe is_over rest.old.spare (spare_keys (table_of self.old).ready) → IsSome result }
         ensures served { rest.new.behind.has_served ≡ true → (rest.old.behind.has_served ≡ true)
             ⊎ IsSomeAnd result (λ key. IsFromBehind key (table_of self.old).ready (table_of self.new).ready) }
-        ensures less { IfSome result (λ _. rest.new.fresh.left + rest.new.behind.left
-            < rest.old.fresh.left + rest.old.behind.left) }
+        ensures less { IfSome result (λ _. rest.new.fresh.left + rest.new.behind.left + rest.new.spare.left
+            < rest.old.fresh.left + rest.old.behind.left + rest.old.spare.left) }
+        ensures kept { ((rest.new.fresh ≡ rest.old.fresh)
+            ⊎ IsSomeAnd result (λ key. IsFromFresh key (table_of self.old).ready (table_of self.new).ready))
+            × ((rest.new.behind ≡ rest.old.behind)
+            ⊎ IsSomeAnd result (λ key. IsFromBehind key (table_of self.old).ready (table_of self.new).ready)) }
     {
         self.table.next_ready(rest, is_over)
     }
@@ -168,6 +185,8 @@ impl<'a, T: Stream, K: Keep, S: FeedRespond + Drop> NodeMachine<'a, T, K, S> {
     pub fn mark_ready(&mut self, key: usize)
         ensures history { KeepsHistory S.wanted S.responses S.sites self.old self.new }
         ensures later { IsLater S.wanted S.responses S.sites self.old self.new }
+        ensures marked { (peer : Peer T) → peer_at (table_of self.old) key ≡ Some peer
+            → IsReadyAfter key peer (table_of self.old) (table_of self.new) }
     {
         self.table.mark_ready(key);
     }

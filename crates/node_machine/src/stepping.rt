@@ -1,17 +1,26 @@
 //! A share of a turn: a connection receives, responds and sends.
-ghost use Rattle.std.specs.Prelude.{◌≡◌, ◌≤◌, ◌<◌, ◌||◌, List, is_some, option_copied};
+ghost use Rattle.std.specs.Prelude.{◌≡◌, ◌≢◌, ◌≤◌, ◌<◌, ◌||◌, true, false, List, Some, is_some, option_copied};
 ghost use Rattle.node_machine.specs.NodeEvents.{NodeEvent};
 ghost use Rattle.node_machine.specs.Nodes.{table_of, HasHistory, HasServed, HasAsked, HasAdvanced, IsLater};
 ghost use Rattle.node_machine.specs.Nodes.{KeepsRest, HasNoted};
+ghost use Rattle.node_table.specs.declared.peer.Peer.{Peer};
 ghost use Rattle.node_table.specs.Peers.{held_limit};
-ghost use Rattle.node_table.specs.Tables.{bytes_held, IsSettled};
+ghost use Rattle.node_table.specs.Tables.{awaits_request_at, bytes_held, lingers_at, peer_at, IsSettled};
+ghost use Rattle.node_table.specs.Tables.{HasHungUp, HasMovedAt, HasReceivedAt, HasReceivedFor, HasUsedAt};
+ghost use Rattle.node_table.specs.Tables.{IsReadyAfter, IsReadyForClient};
 
 use crate::machine::NodeMachine;
 use crate::occasion::{FeedRespond, MomentResponder};
 use feed_keep::Keep;
-use node_connection::{Progress, Share};
+use node_connection::{Progress, Share, TURN_SHARE};
 use node_request::{FetchPolicy, fetch_to_begin, sites_to_read};
 use node_table::{Log, Outcome, Stream, Turn};
+
+// The share of a connection that receives its next request, and does not respond to it yet.
+const READ_SHARE: Share = Share {
+    bytes: 16_384,
+    responses: 0,
+};
 
 impl<'a, T: Stream, K: Keep, S: FeedRespond + Drop> NodeMachine<'a, T, K, S> {
     // Returns who may make the node fetch or read its folder now. A fetch that was requested excludes another one, too.
@@ -42,6 +51,10 @@ impl<'a, T: Stream, K: Keep, S: FeedRespond + Drop> NodeMachine<'a, T, K, S> {
         ensures rest { KeepsRest turn.key self.old self.new }
         ensures requested { self.new.requested ≡ self.old.requested }
         ensures reload { self.new.reload ≡ self.old.reload }
+        ensures moved { HasMovedAt turn.key (table_of self.old) (table_of self.new) }
+        ensures used { HasUsedAt turn.key result share.old share.new (table_of self.old) (table_of self.new) }
+        ensures received { HasReceivedAt T.has_blocked turn.key result (table_of self.new) }
+        ensures still { result ≢ Progress.Moved }
     {
         let policy = self.policy();
         let moment = MomentResponder::new(
@@ -121,5 +134,70 @@ impl<'a, T: Stream, K: Keep, S: FeedRespond + Drop> NodeMachine<'a, T, K, S> {
             log.old log.new }
     {
         self.table.settle(key, progress, now, log)
+    }
+
+    /// Has a connection whose peer is a proxy receive its next request, and wait for its turn in the queue of the
+    /// client that the request names. It does not respond yet. A connection that does not wait for a request is marked
+    /// as ready.
+    pub fn receive_for_client<L: Log>(&mut self, turn: Turn, buffer: &mut [u8], log: &mut L)
+        requires { bytes_held (table_of self.old) ≤ held_limit }
+        ensures later { IsLater S.wanted S.responses S.sites self.old self.new }
+        ensures received { awaits_request_at (table_of self.old) turn.key ≡ true → HasReceivedFor L.records
+            T.has_blocked turn.key turn.now (table_of self.old) (table_of self.new) log.old log.new }
+        ensures marked { (peer : Peer T) → peer_at (table_of self.old) turn.key ≡ Some peer
+            → awaits_request_at (table_of self.old) turn.key ≡ false
+            → IsReadyAfter turn.key peer (table_of self.old) (table_of self.new) }
+    {
+        if !self.table.awaits_request(turn.key) {
+            self.mark_ready(turn.key);
+            return;
+        }
+        let mut share = READ_SHARE;
+        let progress = self.serve_from_feed(turn, false, buffer, &mut share);
+        let _ = self.follow_receiving(turn, progress, log);
+    }
+
+    // Does what follows the share in which a connection received its next request, by how that ended.
+    fn follow_receiving<L: Log>(&mut self, turn: Turn, progress: Progress, log: &mut L) -> Outcome
+        ensures later { IsLater S.wanted S.responses S.sites self.old self.new }
+        ensures ready { progress ≡ Progress.Spent → (peer : Peer T) → peer_at (table_of self.old) turn.key ≡ Some peer
+            → IsReadyForClient turn.key peer (table_of self.old) (table_of self.new) }
+        ensures settled { progress ≡ Progress.Blocked → IsSettled L.records turn.key progress turn.now result
+            (table_of self.old) (table_of self.new) log.old log.new }
+    {
+        if progress == Progress::Spent {
+            self.mark_for_client(turn.key);
+            Outcome::Ready
+        } else {
+            self.settle(turn.key, progress, turn.now, log)
+        }
+    }
+
+    // Marks a connection as ready in the queue of the client whose request it holds.
+    fn mark_for_client(&mut self, key: usize)
+        ensures later { IsLater S.wanted S.responses S.sites self.old self.new }
+        ensures marked { (peer : Peer T) → peer_at (table_of self.old) key ≡ Some peer
+            → IsReadyForClient key peer (table_of self.old) (table_of self.new) }
+    {
+        self.table.mark_for_client(key);
+    }
+
+    /// Ends a connection that its client has closed. If its last response was sent, it has its share of the turn now:
+    /// it drops what the client sent before, and is removed once it has read the end of that. A connection that is
+    /// closed over unread bytes is reset, and its client loses the rest of the response. Any other connection is marked
+    /// as ready.
+    pub fn hang_up<L: Log>(&mut self, turn: Turn, buffer: &mut [u8], log: &mut L)
+        requires { bytes_held (table_of self.old) ≤ held_limit }
+        ensures later { IsLater S.wanted S.responses S.sites self.old self.new }
+        ensures ended { lingers_at (table_of self.old) turn.key ≡ true → HasHungUp L.records T.has_blocked
+            turn.key turn.now (table_of self.old) (table_of self.new) log.old log.new }
+    {
+        if !self.table.is_lingering(turn.key) {
+            self.mark_ready(turn.key);
+            return;
+        }
+        let mut share = TURN_SHARE;
+        let progress = self.serve_from_feed(turn, false, buffer, &mut share);
+        let _ = self.settle(turn.key, progress, turn.now, log);
     }
 }

@@ -6,7 +6,7 @@ use Rattle.std.specs.List.{list_all}
 use Rattle.httparse.specs.Grammar.{Field, RequestHead}
 use Rattle.feed_http_heads.specs.Fields.{values_named, only}
 use Rattle.node_request.specs.FoundRequests.{BeginsWith, HasNoHead}
-use Rattle.node_monitoring.specs.Forwarded.{last_of, last_element}
+use Rattle.node_monitoring.specs.Forwarded.{forwarded_element}
 use Rattle.node_monitoring.specs.LogLines.{EntryValue, line_text}
 use Rattle.node_monitoring.specs.Queries.{page_of}
 use Rattle.node_monitoring.specs.Counts.{Added, HasCounted, place_of, class_of, request_place}
@@ -74,7 +74,7 @@ address_or text peer = if is_address text then text else peer
 -- the address of the client: behind a proxy the last one of X-Forwarded-For, if it may be one
 abbrev pub client_of : Bool → List Field → List ℕ → List ℕ
 client_of is_proxy fields peer =
-    if is_proxy then address_or (last_element (last_of (values_named (codes "x-forwarded-for") fields))) peer else peer
+    if is_proxy then address_or (forwarded_element fields) peer else peer
 
 -- the value of the only field of a name, or nothing
 abbrev pub sole_or_empty : List ℕ → List Field → List ℕ

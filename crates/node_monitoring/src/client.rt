@@ -5,12 +5,13 @@ ghost use Rattle.httparse.specs.Grammar.{Field};
 ghost use Rattle.feed_http_heads.specs.Fields.{AreWithin, AreFieldsOf, values_named};
 ghost use Rattle.node_monitoring.specs.Exchanges.{is_address_byte, is_address, address_or, client_of};
 ghost use Rattle.httparse.specs.Spans.{IsHeaderWithin};
-ghost use Rattle.node_monitoring.specs.Forwarded.{last_of, last_element, last_part};
+ghost use Rattle.node_monitoring.specs.Forwarded.{forwarded_element, last_of, last_element, last_part, IsClientAddr};
 ghost use Rattle.node_monitoring.specs.LastValues.{value_or};
 
 use feed_bytes::{split_once, trim_spaces};
 use feed_http_heads::{Fields, is_named};
 use httparse::spans::HeaderSpan;
+use std::net::IpAddr;
 
 fn is_address_byte(byte: u8) -> bool
     ensures { result ≡ is_address_byte byte }
@@ -46,7 +47,27 @@ pub(crate) fn client_of<'a>(is_proxy: bool, fields: &Fields<'a>, peer: &'a [u8])
     if !is_proxy {
         return peer;
     }
-    address_or(last_element(last_value(fields, b"x-forwarded-for")), peer)
+    address_or(forwarded_element(fields), peer)
+}
+
+// Returns the last element of X-Forwarded-For. It is empty if there is none.
+fn forwarded_element<'a>(fields: &Fields<'a>) -> &'a [u8]
+    requires { AreWithin fields.now }
+    ensures { (list : List Field) → AreFieldsOf fields.now list → result.now ≡ forwarded_element list }
+{
+    last_element(last_value(fields, b"x-forwarded-for"))
+}
+
+/// Returns the address of the client of a request whose peer is a proxy: the last one of X-Forwarded-For. If that is
+/// not an address, returns that of the peer.
+pub fn client_addr(fields: &Fields<'_>, peer: IpAddr) -> IpAddr
+    requires { AreWithin fields.now }
+    ensures { (list : List Field) → AreFieldsOf fields.now list → IsClientAddr list peer result }
+{
+    match IpAddr::parse_ascii(forwarded_element(fields)) {
+        Ok(addr) => addr,
+        Err(_) => peer,
+    }
 }
 
 // Returns the value of a field of this name, or of another one the value given.

@@ -27,7 +27,7 @@ mod shown_line;
 mod shown_path;
 mod starting;
 
-pub use client::last_element;
+pub use client::{client_addr, last_element};
 pub use counter::Counter;
 pub use exchange::{put_exchange, record_exchange};
 pub use histogram::BOUNDS;

@@ -7,7 +7,6 @@ use crate::outgoing::OutgoingRequest;
 use crate::socket::{Socket, is_local};
 use crate::streamed_response::{StreamKind, StreamedResponse};
 use feed_keep::Keep;
-use mio::event::Event;
 use mio::net::TcpListener;
 use mio::{Events, Interest, Poll, Token};
 use node_connection::{Share, TURN_SHARE, TimeLimits};
@@ -21,8 +20,9 @@ use std::rt::Clock;
 use std::time::{Duration, Instant};
 
 mod accepting;
+mod following;
 
-const LISTENER: Token = Token(usize::MAX);
+pub(crate) const LISTENER: Token = Token(usize::MAX);
 
 const OUTGOING: Token = Token(usize::MAX - 1);
 
@@ -53,6 +53,8 @@ pub struct Settings {
     pub clients: usize,
     /// The milliseconds that each connection may take.
     pub limits: TimeLimits,
+    /// Whether a peer on the same machine is a proxy, which states the address of its client.
+    pub is_forwarded: bool,
 }
 
 /// A node whose connections are sockets.
@@ -70,6 +72,8 @@ pub struct Server {
     /// The most connections at a time.
     clients: usize,
     limits: TimeLimits,
+    /// Whether a peer on the same machine is a proxy.
+    is_forwarded: bool,
     /// The moment from which the node's times count.
     start: Instant,
     /// The microseconds from that moment to the last reading of the clock.
@@ -105,6 +109,7 @@ impl Server {
             buffer,
             clients,
             limits: settings.limits,
+            is_forwarded: settings.is_forwarded,
             start,
             now: 0,
             last_tick: 0,
@@ -313,25 +318,6 @@ impl Server {
         self.advance_clock(node, log);
     }
 
-    // Marks the connection of an event as ready. If its client has reset it, it is removed: no response would arrive.
-    fn on_event<K: Keep, S: FeedRespond + Drop, L: Log>(
-        &mut self,
-        node: &mut ServedNode<'_, K, S>,
-        event: &Event,
-        log: &mut L,
-    )
-        ensures { IsLater S.wanted S.responses S.sites node.old node.new }
-    {
-        let token = event.token();
-        if token == LISTENER {
-            self.may_accept = self.is_accepting;
-        } else if event.is_error() {
-            let _ = node.remove(token.0, CloseCause::PeerClosed, self.now, log);
-        } else {
-            node.mark_ready(token.0);
-        }
-    }
-
     // Gives the connections that are ready one share of the turn, until its time is over. One that has more to do waits
     // for the next turn.
     fn serve_ready<K: Keep, S: FeedRespond + Drop, L: Log>(
@@ -416,6 +402,8 @@ impl Server {
             return;
         };
         let mut stream = socket.stream;
+        // Otherwise the system holds a line back until the client acknowledges the one before it.
+        let _ = stream.set_nodelay(true);
         let both = Interest::READABLE | Interest::WRITABLE;
         let registry = self.poll.registry();
         let known = registry.reregister(&mut stream, STREAM, both);

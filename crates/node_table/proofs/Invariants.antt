@@ -1,12 +1,11 @@
 -- The table stays as its fields say.
-use Rattle.std.proofs.Common.{◌≡◌, ◌≢◌, ℕ, Bool, List, cond, get_or, set, Option, Some, None, is_some, IsSome, count_by, refl, sym, ap, subst, ◌∙◌, arith, inl, inr}
+use Rattle.std.proofs.Common.{◌≡◌, ◌≢◌, ◌⊎◌, ℕ, List, cond, get_or, set, Option, Some, None, is_some, IsSome, count_by, refl, sym, ap, subst, ◌∙◌, arith, inl, inr}
 use Rattle.std.proofs.lemmas.Bool.{cases_eq}
 use Rattle.slab.specs.Slab.{Slab, get, ContainsKey, Updates, with_value}
 use Rattle.slab.proofs.SlabLemmas.{Updates-with_value}
 use Rattle.node_table.specs.declared.peer.Peer.{Peer}
-use Rattle.node_table.proofs.Ready.{ready_before_gone, ready_before_marked}
-use Rattle.node_table.specs.declared.ready_queues.ReadyQueues.{ReadyQueues}
-use Rattle.node_table.specs.Turns.{IsGone, IsMarked, IsReady}
+use Rattle.node_turns.specs.declared.ready_queues.ReadyQueues.{ReadyQueues}
+use Rattle.node_turns.specs.Turns.{IsReady}
 use Rattle.node_table.proofs.Slots.{sum_of_write}
 
 module _ {T : Type 0} where
@@ -27,9 +26,10 @@ module _ {T : Type 0} where
       subst (λ slot. IsSome slot) (sym (Updates-with_value slab key new (subst (λ slot. IsSome slot) (sym there) refl)).changed) refl
 
   pub known_after_removal : (old new : Slab (Peer T)) (key : ℕ) (queues left : ReadyQueues) → Updates old new key None
-      → ((other : ℕ) → IsReady queues other → ContainsKey old other) → IsGone key queues left → (other : ℕ) → IsReady left other → ContainsKey new other
+      → ((other : ℕ) → IsReady queues other → ContainsKey old other) → ((other : ℕ) → IsReady left other → IsReady queues other × (other ≢ key))
+      → (other : ℕ) → IsReady left other → ContainsKey new other
   known_after_removal old new key queues left updates known gone other is =
-      let was = ready_before_gone key queues left gone other is in subst (λ slot. IsSome slot) (sym (updates.others other was.1)) (known other was.0)
+      let was = gone other is in subst (λ slot. IsSome slot) (sym (updates.others other was.1)) (known other was.0)
 
   pub known_after_update : (old new : Slab (Peer T)) (key : ℕ) (peer : Peer T) (queues left : ReadyQueues) → Updates old new key (Some peer)
       → ((other : ℕ) → IsReady queues other → ContainsKey old other) → ((other : ℕ) → IsReady left other → IsReady queues other)
@@ -47,9 +47,9 @@ module _ {T : Type 0} where
       known_after_update slab (with_value slab key new) key new queues left (Updates-with_value slab key new (subst (λ slot. IsSome slot) (sym there) refl)) known listed
 
   -- a connection was marked as ready
-  pub known_after_mark : (slab : Slab (Peer T)) (key : ℕ) (is_behind : Bool) (old new : ReadyQueues) → ContainsKey slab key
-      → ((other : ℕ) → IsReady old other → ContainsKey slab other) → IsMarked is_behind key old new → (other : ℕ) → IsReady new other → ContainsKey slab other
-  known_after_mark slab key is_behind old new there known marked other is = elim (ready_before_marked is_behind key old new marked other is) [
+  pub known_after_mark : (slab : Slab (Peer T)) (key : ℕ) (old new : ReadyQueues) → ContainsKey slab key → ((other : ℕ) → IsReady old other → ContainsKey slab other)
+      → ((other : ℕ) → IsReady new other → IsReady old other ⊎ (other ≡ key)) → (other : ℕ) → IsReady new other → ContainsKey slab other
+  known_after_mark slab key old new there known marked other is = elim (marked other is) [
     | inl was ↦ known other was
     | inr same ↦ subst (λ k. ContainsKey slab k) (sym same) there
   ]

@@ -1,7 +1,3 @@
-mod Flags
-mod Served
-mod Without
-pub mod Ready
 pub mod Shares
 pub mod Slots
 pub mod Invariants

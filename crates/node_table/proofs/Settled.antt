@@ -9,7 +9,7 @@ use Rattle.node_table.specs.declared.peer.Outcome.TheVariants.{Over}
 use Rattle.node_table.specs.declared.peer.Peer.{Peer}
 use Rattle.node_table.specs.declared.table.Table.{Table}
 use Rattle.node_table.specs.Logs.{Entry}
-use Rattle.node_table.specs.Turns.{IsGone, IsMarked}
+use Rattle.node_turns.specs.Turns.{IsGone, IsMarked}
 use Rattle.node_table.specs.Peers.{IsFollowed, cause_of, held_in, is_behind}
 use Rattle.node_table.specs.Tables.{peer_at, bytes_held, has_more, IsReadyAfter, KeepsOthers, IsRemoved, HasClosed, IsFollowedAt, IsSettled}
 use Rattle.node_table.proofs.Records.{closed_both, closed_removed}
@@ -42,7 +42,7 @@ module _ {T L : Type 0} (records : L → Entry → L → Type 0) where
   settled_ready key progress now outcome old middle new log after others ready closed followed peers clients more marked = record {
     others = λ other differs. ap (λ slab. get slab other) peers ∙ others other differs;
     still = λ no_more. absurd (false≢true (sym no_more ∙ more));
-    marked = λ _ peer there. subst (λ queues. IsMarked (is_behind peer.connection) key queues new.ready) ready
+    marked = λ _ peer there. subst (λ queues. IsMarked (is_behind peer.connection) peer.slot key queues new.ready) ready
         (marked peer (subst (λ slab. get slab key ≡ Some peer) peers there));
     closed = record {
       count = closed.count;

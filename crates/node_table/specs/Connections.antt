@@ -24,6 +24,13 @@ pub record HasMoved (replies : Responses) (share left : Share) (new : Connection
   pub replies_covered : length (requests_in more) + left.responses ≤ share.responses
   pub replies_counted : (length (requests_in more) + left.responses ≡ share.responses) ⊎ LacksResponse replies
 
+-- the same whatever the responses are
+pub record HasUsed (share left : Share) (new : Connection) (history : List Event) : Type 0 where
+  pub more : List Event
+  pub state : HasState new (more ++ history)
+  pub bytes_counted : length (received_bytes more) + left.bytes ≡ share.bytes
+  pub replies_covered : length (requests_in more) + left.responses ≤ share.responses
+
 -- a connection had its share of a turn. It makes the responder's responses, whatever the others hold, and stops because
 -- it waits or because the share is used
 pub record HasServed (replies : Responses) (progress : Progress) (share left : Share) (old new : Connection) : Type 0 where

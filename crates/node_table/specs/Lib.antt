@@ -1,6 +1,3 @@
-pub mod Flags
-pub mod Queues
-pub mod Turns
 pub mod Connections
 pub mod Logs
 pub mod Peers

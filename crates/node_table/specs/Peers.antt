@@ -1,6 +1,9 @@
 -- A connection with its stream, as the table holds it.
-use Rattle.std.specs.Prelude.{◌≡◌, ◌≢◌, ◌==◌, ◌&&◌, ◌≤◌, ◌+◌, ◌-◌, ◌/◌, ℕ, Bool, true, false, List, ◌∷◌, length, get_or, Option, Some, None, sum_by}
+use Rattle.std.specs.Prelude.{◌≡◌, ◌≢◌, ◌==◌, ◌&&◌, ◌≤◌, ◌+◌, ◌-◌, ◌/◌, ◌⊎◌, ℕ, Bool, true, false, List, ◌∷◌, length, get_or, Option, Some, None, sum_by}
 use Rattle.std.specs.Option.{option_map_or}
+use Rattle.std.specs.Net.Socket.{socket_ip}
+use Rattle.std.specs.declared.net.ip_addr.IpAddr.{IpAddr}
+use Rattle.httparse.specs.Grammar.{RequestHead}
 use Rattle.node_connection.specs.declared.connection.Connection.{Connection}
 use Rattle.node_connection.specs.declared.phase.Wants.{Wants}
 use Rattle.node_connection.specs.declared.phase.Wants.TheVariants as wants
@@ -13,6 +16,9 @@ use Rattle.node_table.specs.declared.peer.Outcome.{Outcome}
 use Rattle.node_table.specs.declared.peer.Outcome.TheVariants as outcome
 use Rattle.node_table.specs.declared.peer.Peer.{Peer}
 use Rattle.node_table.specs.Logs.{Entry, Responded, cause_in}
+use Rattle.node_monitoring.specs.Forwarded.{IsClientAddr}
+use Rattle.node_request.specs.FoundRequests.{BeginsWith, HasNoHead}
+use Rattle.node_turns.specs.Addresses.{IsSlotOf}
 
 -- the bytes of responses past which the connection that holds the most is closed
 abbrev pub held_limit : ℕ
@@ -41,6 +47,12 @@ is_behind_by wanted lingers = true
 abbrev pub is_behind : Connection → Bool
 is_behind connection = is_behind_by (wants_in connection.phase) (is_lingering_in connection.phase)
 
+-- the address of the client whose request a proxy with this address passed on: the one that the head of the request
+-- states, or that of the proxy until the head has arrived
+abbrev pub IsClientOf : List ℕ → IpAddr → IpAddr → Type 0
+IsClientOf bytes proxy addr =
+    ((head : RequestHead) × BeginsWith bytes head × IsClientAddr head.fields proxy addr) ⊎ (HasNoHead bytes × (addr ≡ proxy))
+
 -- the connection is neither over nor ready for its next request
 abbrev pub IsUnderWay : Connection → Type 0
 IsUnderWay connection = (wants_in connection.phase ≢ wants.Next) × (wants_in connection.phase ≢ wants.Close)
@@ -56,6 +68,11 @@ module _ {T : Type 0} where
   -- why the connection is closed, if this is why unless its last response was sent whole
   abbrev pub cause_of : Peer T → CloseCause → CloseCause
   cause_of peer cause = cause_in peer.connection cause
+
+  -- the slot of the client whose request the connection holds, if its peer is a proxy
+  abbrev pub IsClientSlot : Peer T → ℕ → Type 0
+  IsClientSlot peer slot =
+      (addr : IpAddr) × IsClientOf peer.connection.received.bytes.items (socket_ip peer.addr) addr × IsSlotOf addr slot
 
   -- the bytes that are allocated for a response, in a slot of the table
   abbrev pub held_in : Option (Peer T) → ℕ
@@ -76,6 +93,10 @@ module _ {T : Type 0} where
   -- the milliseconds up to now that the connection's clock has not counted
   abbrev pub millis_of : Peer T → ℕ → ℕ
   millis_of peer now = (now - peer.clock) / 1000
+
+  -- if it waits for bytes, its stream had none, by this property of streams
+  abbrev pub HasReceived : (T → Type 0) → Progress → Peer T → Type 0
+  HasReceived has_blocked progress peer = progress ≡ Blocked → wants_in peer.connection.phase ≡ wants.Bytes → has_blocked peer.stream
 
   -- its clock was advanced to now
   abbrev pub HasElapsed : ℕ → Peer T → Peer T → Type 0

@@ -1,24 +1,27 @@
 -- The connections of a node.
-use Rattle.std.specs.Prelude.{◌≡◌, ◌≢◌, ◌+◌, ◌<◌, ◌≤◌, ◌⊎◌, ℕ, Bool, true, false, Option, Some, None, IsSome, sum_by}
+use Rattle.std.specs.Prelude.{◌≡◌, ◌≢◌, ◌+◌, ◌<◌, ◌≤◌, ◌⊎◌, ◌++◌, ℕ, Bool, true, false, not, List, Option, Some, None, IsSome, sum_by}
+use Rattle.std.specs.Option.{option_map_or}
 use Rattle.slab.specs.Slab.{get, slab_len}
 use Rattle.node_connection.specs.declared.streams.Progress.{Progress}
+use Rattle.node_connection.specs.declared.streams.Progress.TheVariants.{Moved, Blocked, Spent}
 use Rattle.node_connection.specs.declared.streams.Share.{Share}
 use Rattle.node_connection.specs.declared.phase.Shortage.{Shortage}
 use Rattle.node_connection.specs.declared.phase.Shortage.TheVariants.{Places, Memory}
 use Rattle.node_connection.specs.declared.phase.Wants.TheVariants as wants
+use Rattle.node_connection.specs.Events.{Event}
 use Rattle.node_connection.specs.Responses.{Responses}
-use Rattle.node_connection.specs.States.{is_closed_before, wants_in}
+use Rattle.node_connection.specs.States.{is_closed_before, is_lingering_in, wants_in, HasState}
 use Rattle.node_table.specs.declared.log.CloseCause.{CloseCause}
 use Rattle.node_table.specs.declared.log.CloseCause.TheVariants.{PeerClosed}
 use Rattle.node_table.specs.declared.peer.Outcome.{Outcome}
 use Rattle.node_table.specs.declared.peer.Outcome.TheVariants.{Waits, Ready, Resumed, Streams, Over}
 use Rattle.node_table.specs.declared.peer.Peer.{Peer}
 use Rattle.node_table.specs.declared.table.Table.{Table}
-use Rattle.node_table.specs.Connections.{HasServed}
-use Rattle.node_table.specs.Flags.{has_key}
-use Rattle.node_table.specs.Turns.{fresh_keys, IsGone, IsMarked}
+use Rattle.node_table.specs.Connections.{HasServed, HasUsed}
+use Rattle.node_connection.specs.Streams.{IsStopped}
+use Rattle.node_turns.specs.Turns.{is_waiting, IsGone, IsMarked}
 use Rattle.node_table.specs.Logs.{Entry, Closed, HasRecorded}
-use Rattle.node_table.specs.Peers.{held_in, is_behind, micros_of, HasElapsed, IsFollowed, IsLate}
+use Rattle.node_table.specs.Peers.{held_in, is_behind, micros_of, HasElapsed, HasReceived, IsClientSlot, IsFollowed, IsLate}
 
 -- the connection has more to do
 abbrev pub has_more : Outcome → Bool
@@ -27,6 +30,10 @@ has_more Ready = true
 has_more Resumed = true
 has_more Streams = false
 has_more Over = false
+
+-- the share of a connection that receives its next request, and does not respond to it yet
+abbrev pub read_share : Share
+read_share = record { bytes = 16384; responses = 0 }
 
 -- one that does not wait goes before one that does; otherwise their states decide
 abbrev pub goes_first : Bool → Bool → Bool → Bool
@@ -52,19 +59,54 @@ module _ {T : Type 0} where
   abbrev pub held_at : Table T → ℕ → ℕ
   held_at table key = held_in (peer_at table key)
 
+  -- whether the last response of the connection with this key was sent, and its client may send more
+  abbrev pub lingers_at : Table T → ℕ → Bool
+  lingers_at table key = option_map_or (λ peer. is_lingering_in peer.connection.phase) (peer_at table key) false
+
+  -- whether the connection with this key waits for bytes of its next request
+  abbrev pub awaits_request_at : Table T → ℕ → Bool
+  awaits_request_at table key = option_map_or (λ peer. not (is_behind peer.connection)) (peer_at table key) false
+
   -- the other keys have what they had
   abbrev pub KeepsOthers : ℕ → Table T → Table T → Type 0
   KeepsOthers key old new = (other : ℕ) → other ≢ key → peer_at new other ≡ peer_at old other
 
-  -- the connection with this key is marked as ready: behind the others if it has more to do
+  -- the connection with this key is marked as ready, in the queue of its address: behind the others if it has more to do
   abbrev pub IsReadyAfter : ℕ → Peer T → Table T → Table T → Type 0
-  IsReadyAfter key peer old new = IsMarked (is_behind peer.connection) key old.ready new.ready
+  IsReadyAfter key peer old new = IsMarked (is_behind peer.connection) peer.slot key old.ready new.ready
+
+  -- the connection with this key waits in the queue of the client whose request it holds from now on, and is marked as ready
+  -- there, among those that were idle
+  abbrev pub IsReadyForClient : ℕ → Peer T → Table T → Table T → Type 0
+  IsReadyForClient key peer old new =
+      (next : Peer T) × (peer_at new key ≡ Some next) × (next.connection ≡ peer.connection)
+      × IsClientSlot peer next.slot × IsMarked false next.slot key old.ready new.ready
 
   -- the connection with this key had its share of a turn
   abbrev pub IsServed : Responses → ℕ → Progress → Share → Share → Table T → Table T → Type 0
   IsServed replies key progress share left old new =
       (peer : Peer T) → peer_at old key ≡ Some peer
       → (next : Peer T) × (peer_at new key ≡ Some next) × HasServed replies progress share left peer.connection next.connection
+
+  -- the connection with this key received and responded no more than this share allows, and stopped because it waits or
+  -- because the share is used
+  abbrev pub HasUsedAt : ℕ → Progress → Share → Share → Table T → Table T → Type 0
+  HasUsedAt key progress share left old new =
+      (peer : Peer T) → peer_at old key ≡ Some peer
+      → (next : Peer T) × (peer_at new key ≡ Some next)
+      × ((history : List Event) → HasState peer.connection history → HasUsed share left next.connection history)
+      × IsStopped progress left next.connection
+
+  -- the connection with this key has the state that more events determine
+  abbrev pub HasMovedAt : ℕ → Table T → Table T → Type 0
+  HasMovedAt key old new =
+      (peer : Peer T) → peer_at old key ≡ Some peer
+      → (next : Peer T) × (peer_at new key ≡ Some next)
+      × ((history : List Event) → HasState peer.connection history → (more : List Event) × HasState next.connection (more ++ history))
+
+  -- if the connection with this key waits for bytes, its stream had none, by this property of streams
+  abbrev pub HasReceivedAt : (T → Type 0) → ℕ → Progress → Table T → Type 0
+  HasReceivedAt has_blocked key progress table = (peer : Peer T) → peer_at table key ≡ Some peer → HasReceived has_blocked progress peer
 
   -- the connections that are out of time are removed, and the others remain
   pub record IsExpired (now : ℕ) (old new : Table T) : Type 0 where
@@ -89,7 +131,7 @@ module _ {T : Type 0} where
   -- whether the connection with this key waits for its share of a turn among those that were idle. For memory, that does not
   -- count
   abbrev pub waits : Shortage → Table T → ℕ → Bool
-  waits Places table key = has_key key (fresh_keys table.ready)
+  waits Places table key = is_waiting table.ready key
   waits Memory table key = false
 
   -- the first connection is closed before the second: it does not wait, and the second does; or none or both do, and it
@@ -149,3 +191,29 @@ module _ {T : Type 0} where
       pub marked : has_more outcome ≡ true → (peer : Peer T) → peer_at new key ≡ Some peer → IsReadyAfter key peer old new
       pub closed : HasClosed PeerClosed old new log after
       pub followed : (peer : Peer T) → peer_at old key ≡ Some peer → IsFollowedAt key progress now outcome peer new log after
+
+    -- the connection with this key received its next request, or a part of it, and made no response. If its stream had no
+    -- more before it has one, what follows that was done; otherwise it is marked as ready in the queue of the client that the
+    -- request names
+    pub record HasReceivedFor (has_blocked : T → Type 0) (key now : ℕ) (old new : Table T) (log after : L) : Type 0 where
+      pub middle : Table T
+      pub progress : Progress
+      pub outcome : Outcome
+      pub left : Share
+      pub others : KeepsOthers key old middle
+      pub used : HasUsedAt key progress read_share left old middle
+      pub received : HasReceivedAt has_blocked key progress middle
+      pub ready : progress ≡ Spent → (peer : Peer T) → peer_at middle key ≡ Some peer → IsReadyForClient key peer middle new
+      pub settled : progress ≡ Blocked → IsSettled key progress now outcome middle new log after
+
+    -- the connection with this key had a share of a turn, in which it received until its stream had nothing or its share was
+    -- used, and what follows that was done
+    pub record HasHungUp (has_blocked : T → Type 0) (key now : ℕ) (old new : Table T) (log after : L) : Type 0 where
+      pub middle : Table T
+      pub progress : Progress
+      pub outcome : Outcome
+      pub others : KeepsOthers key old middle
+      pub moved : HasMovedAt key old middle
+      pub still : progress ≢ Moved
+      pub received : HasReceivedAt has_blocked key progress middle
+      pub settled : IsSettled key progress now outcome middle new log after

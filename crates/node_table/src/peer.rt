@@ -2,12 +2,17 @@
 ghost use Rattle.std.specs.Prelude.{◌≡◌, ◌≢◌, ◌≤◌, ◌<◌, ℕ, List, [], true, false, IfSome, is_some};
 ghost use Rattle.node_connection.specs.Events.{Event};
 ghost use Rattle.node_connection.specs.States.{allocated_bytes, HasState, is_response_sent_in, request_of, wants_in};
+ghost use Rattle.node_turns.specs.Addresses.{slot_limit};
 ghost use Rattle.node_table.specs.Connections.{HasServed, IsConnection};
 ghost use Rattle.node_table.specs.Logs.{HasRecorded, Responded};
 
 use crate::log::{CloseCause, Log};
+use feed_http_heads::FIELD_LIMIT;
+use httparse::spans::EMPTY_HEADER_SPAN;
 use node_connection::{Connection, Progress, Respond, Share, TimeLimits, Wants};
+use node_monitoring::client_addr;
 use node_request::ReceivedRequest;
+use node_turns::slot_of;
 use std::alloc::Global;
 use std::net::SocketAddr;
 
@@ -43,6 +48,8 @@ pub(crate) struct Peer<T> {
     pub(crate) stream: T,
     pub(crate) addr: SocketAddr,
     pub(crate) connection: Connection,
+    /// The slot of the address of its client, in whose queues it waits.
+    pub(crate) slot: usize,
     /// The time up to which the connection's clock was advanced.
     clock: u64,
     /// When the response that is under way began.
@@ -52,12 +59,15 @@ pub(crate) struct Peer<T> {
     /// Whether the sending side of the stream was shut down.
     is_shut_down: bool,
     ghost stateful: { IsConnection connection },
+    ghost placed: { slot < slot_limit },
 }
 
 impl<T: Stream> Peer<T> {
+    ghost use Rattle.std.specs.Net.Socket.{socket_ip};
+    ghost use Rattle.node_turns.specs.Addresses.{IsSlotOf};
     ghost use Rattle.node_table.specs.Peers.{begins_stream, cause_of, is_streamed, micros_of};
-    ghost use Rattle.node_table.specs.Peers.{HasElapsed, HasResumed};
-    ghost use Rattle.node_table.specs.Peers.{is_behind, IsFollowed, IsLate};
+    ghost use Rattle.node_table.specs.Peers.{HasElapsed, HasResumed, IsClientSlot};
+    ghost use Rattle.node_table.specs.Peers.{is_behind, HasReceived, IsFollowed, IsLate};
 
     /// Returns a connection that was accepted now.
     pub(crate) fn new(alloc: Global, accepted: NewConnection<T>) -> Peer<T>
@@ -65,6 +75,7 @@ impl<T: Stream> Peer<T> {
         ensures stream { result.stream ≡ accepted.stream }
         ensures state { HasState result.connection [] }
         ensures held { allocated_bytes result.connection ≡ 0 }
+        ensures slot { IsSlotOf (socket_ip accepted.addr) result.slot }
     {
         let NewConnection {
             stream,
@@ -76,6 +87,7 @@ impl<T: Stream> Peer<T> {
             stream,
             addr,
             connection: Connection::new(alloc, limits),
+            slot: slot_of(addr.ip()),
             clock: now,
             began: None,
             micros: 0,
@@ -131,6 +143,31 @@ impl<T: Stream> Peer<T> {
             Wants::Bytes => self.connection.is_lingering(),
             _ => true,
         }
+    }
+
+    // Returns the slot of the client whose request the connection holds, if its peer is a proxy.
+    fn client_slot(&self) -> usize
+        ensures slot { IsClientSlot self.now result }
+        ensures below { result < slot_limit }
+    {
+        let proxy = self.addr.ip();
+        let mut headers = [EMPTY_HEADER_SPAN; FIELD_LIMIT];
+        match self.connection.held_request(&mut headers).parsed() {
+            Some(parsed) => slot_of(client_addr(&parsed.request.fields(), proxy)),
+            None => slot_of(proxy),
+        }
+    }
+
+    /// Has the connection wait in the queues of the client whose request it holds. Returns the slot of that.
+    pub(crate) fn follow_client(&mut self) -> usize
+        ensures slot { IsClientSlot self.old result }
+        ensures placed { self.new.slot ≡ result }
+        ensures below { result < slot_limit }
+        ensures addr { self.new.addr ≡ self.old.addr }
+        ensures connection { self.new.connection ≡ self.old.connection }
+    {
+        self.slot = self.client_slot();
+        self.slot
     }
 
     /// Returns whether the connection is over.
@@ -240,6 +277,7 @@ impl<T: Stream> Peer<T> {
     // Notes when a response began, and restarts the clock if the connection's timer was restarted.
     fn note_times(&mut self, has_replied: bool, elapsed: u64, now: u64)
         ensures addr { self.new.addr ≡ self.old.addr }
+        ensures stream { self.new.stream ≡ self.old.stream }
         ensures connection { self.new.connection ≡ self.old.connection }
     {
         if has_replied {
@@ -262,6 +300,7 @@ impl<T: Stream> Peer<T> {
         ensures addr { self.new.addr ≡ self.old.addr }
         ensures served { HasServed (S.wanted responder.now, S.responses responder.now) result
             share.old share.new self.old.connection self.new.connection }
+        ensures receives { HasReceived T.has_blocked result self.new }
     {
         if self.is_over() {
             return Progress::Blocked;
@@ -278,24 +317,31 @@ impl<T: Stream> Peer<T> {
 
 /// The stream of a connection.
 pub trait Stream: Drop {
-    ghost use Rattle.std.specs.Prelude.{◌≢◌, List};
+    ghost use Rattle.std.specs.Prelude.{◌≡◌, ◌≢◌, List};
     ghost use Rattle.node_connection.specs.Events.{Event};
-    ghost use Rattle.node_connection.specs.States.{HasState};
+    ghost use Rattle.node_connection.specs.States.{wants_in, HasState};
     ghost use Rattle.node_connection.specs.Streams.{IsStopped};
     ghost use Rattle.node_table.specs.Connections.{HasMoved};
 
     /// The registry that reports the events of streams.
     type Registry;
 
+    /// There was nothing to receive at the last read.
+    ghost has_blocked: { Self → Type 0 } = { λ _. Unit {0} };
+
     /// Registers the stream for events under a key. Returns whether that succeeded.
     fn register(&mut self, registry: &Self::Registry, key: usize) -> bool;
+
+    /// Notes that the registry reported an event, after which a read may give more, and whether the peer has ended its
+    /// side by then.
+    fn note_event(&mut self, has_ended: bool);
 
     /// Shuts down the sending side.
     fn shut_down(&self);
 
     /// Receives, responses and sends until the stream would block, a response was sent, or the share is used.
     fn transfer<S: Respond>(
-        &self,
+        &mut self,
         connection: &mut Connection,
         alloc: Global,
         responder: &S,
@@ -305,7 +351,9 @@ pub trait Stream: Drop {
         ensures moved { (history : List Event) → HasState connection.old history
             → HasMoved (S.wanted responder.now, S.responses responder.now) share.old share.new connection.new history }
         ensures still { result ≢ Progress.Moved }
-        ensures stopped { IsStopped result share.new connection.new };
+        ensures stopped { IsStopped result share.new connection.new }
+        ensures receives { result ≡ Progress.Blocked → wants_in connection.new.phase ≡ Wants.Bytes
+            → has_blocked self.new };
 }
 
 /// A turn of a connection.

@@ -1,20 +1,21 @@
 //! The connections of a node as a value.
-ghost use Rattle.std.specs.Prelude.{◌≡◌, ◌≤◌, ◌<◌, ◌+◌, ◌⊎◌, ℕ, []};
+ghost use Rattle.std.specs.Prelude.{◌≡◌, ◌≢◌, ◌≤◌, ◌<◌, ◌+◌, ◌⊎◌, ℕ, []};
 ghost use Rattle.std.specs.Prelude.{true, false, length, nat_le};
 ghost use Rattle.std.specs.Prelude.{sum_by};
-ghost use Rattle.std.specs.Prelude.{Some, None, IfOk, IfSome, IfNone, IsSome, IsSomeAnd, is_some};
+ghost use Rattle.std.specs.Prelude.{Some, None, IfOk, IfSome, IfNone, IsSome, IsSomeAnd};
 ghost use Rattle.slab.specs.Slab.{ContainsKey, slab_len};
-ghost use Rattle.node_table.specs.Turns.{key_count, IsReady};
-ghost use Rattle.node_table.specs.Peers.{held_in, is_streamed, AreBounded};
+ghost use Rattle.node_turns.specs.Addresses.{slot_limit};
+ghost use Rattle.node_turns.specs.Turns.{key_count, slot_count, IsReady};
+ghost use Rattle.node_table.specs.Peers.{held_in, AreBounded};
 
 use crate::log::{CloseCause, Log};
 use crate::peer::{NewConnection, Outcome, Peer, Stream, Turn};
-use crate::ready_queues::{ReadyQueues, TurnRest};
 use node_connection::{Progress, Respond, Share, Shortage};
-use node_request::ReceivedRequest;
+use node_turns::{ReadyQueues, SLOTS, TurnRest};
 use slab::Slab;
 use std::alloc::{AllocError, Global};
-use std::net::SocketAddr;
+
+mod streams;
 
 /// The bytes of responses past which the connection that holds the most is closed.
 pub const HELD_LIMIT: usize = 33_554_432;
@@ -32,33 +33,36 @@ pub struct Table<T> {
     ghost few: { slab_len peers ≤ clients },
     ghost reserved: { clients ≤ peers.capacity },
     ghost covered: { peers.capacity ≤ key_count ready },
+    ghost slotted: { slot_count ready ≡ slot_limit },
     ghost known: { (key : ℕ) → IsReady ready key → ContainsKey peers key },
     ghost counted: { held ≡ sum_by held_in peers.slots },
     ghost bounded: { AreBounded peers.slots },
 }
 
 impl<T: Stream> Table<T> {
-    ghost use Rattle.node_connection.specs.States.{is_closed_before, request_of, HasState};
+    ghost use Rattle.node_connection.specs.States.{is_closed_before, HasState};
     ghost use Rattle.node_table.specs.Logs.{Accepted, HasRecorded};
     ghost use Rattle.node_table.specs.Tables.{peer_at, size_of, bytes_held, IsReadyAfter, KeepsOthers};
-    ghost use Rattle.node_table.specs.Flags.{IsDropped};
-    ghost use Rattle.node_table.specs.Queues.{IsWhole, MayServe};
-    ghost use Rattle.node_table.specs.Turns.{behind_keys, fresh_keys, IsFromBehind, IsFromFresh, IsTaken};
+    ghost use Rattle.node_turns.specs.Flags.{IsDropped};
+    ghost use Rattle.node_turns.specs.Queues.{IsWhole, MayServe};
+    ghost use Rattle.node_turns.specs.Rounds.{key_total, IsDroppedFrom};
+    ghost use Rattle.node_turns.specs.Turns.{behind_ring, fresh_ring, spare_keys, waiting_count};
+    ghost use Rattle.node_turns.specs.Turns.{IsFromBehind, IsFromFresh, IsTaken};
     ghost use Rattle.node_table.specs.declared.peer.Peer.{Peer};
     ghost use Rattle.node_table.specs.Peers.{cause_of, held_limit, IsFollowed, IsLate};
     ghost use Rattle.node_table.specs.Tables.{IsFirstToClose, IsFirstBelow, IsRemoved, HasClosed, IsSettled};
-    ghost use Rattle.node_table.specs.Tables.{AreElapsed, IsElapsedAt, IsExpired, IsServed};
-    ghost use Rattle.node_table.specs.Tables.{held_at, is_closed_first, waits, KeepsConnections};
+    ghost use Rattle.node_table.specs.Tables.{AreElapsed, HasReceivedAt, IsElapsedAt, IsExpired, IsServed};
+    ghost use Rattle.node_table.specs.Tables.{IsReadyForClient, KeepsConnections};
+    ghost use Rattle.node_table.specs.Tables.{held_at, is_closed_first, waits};
 
     /// Returns an empty table for at most this many connections, with the memory for all of them.
     pub fn new(alloc: Global, clients: usize) -> Result<Table<T>, AllocError>
         ensures empty { IfOk result (λ table. size_of table ≡ 0) }
         ensures clients { IfOk result (λ table. table.clients ≡ clients) }
-        ensures none_fresh { IfOk result (λ table. fresh_keys table.ready ≡ []) }
-        ensures none_behind { IfOk result (λ table. behind_keys table.ready ≡ []) }
+        ensures none_ready { IfOk result (λ table. waiting_count table.ready ≡ 0) }
     {
         let peers = Slab::with_capacity(alloc, clients)?;
-        let ready = ReadyQueues::new(alloc, peers.capacity())?;
+        let ready = ReadyQueues::new(alloc, peers.capacity(), SLOTS)?;
         Ok(Table {
             peers,
             ready,
@@ -122,21 +126,6 @@ impl<T: Stream> Table<T> {
         self.peers.insert_reserved(peer)
     }
 
-    /// Registers the stream of a connection for events under its key. Returns whether that succeeded.
-    pub fn register(&mut self, key: usize, registry: &T::Registry) -> bool
-        ensures connections { KeepsConnections self.old self.new }
-        ensures others { KeepsOthers key self.old self.new }
-        ensures size { size_of self.new ≡ size_of self.old }
-        ensures held { bytes_held self.new ≡ bytes_held self.old }
-        ensures ready { self.new.ready ≡ self.old.ready }
-        ensures clients { self.new.clients ≡ self.old.clients }
-    {
-        match self.peers.get_mut(key) {
-            Some(peer) => peer.stream.register(registry, key),
-            None => false,
-        }
-    }
-
     /// Removes a connection for a cause, and records that. Returns its stream.
     pub fn remove<L: Log>(
         &mut self,
@@ -164,7 +153,7 @@ impl<T: Stream> Table<T> {
         ensures { result ≡ waits shortage self.now key }
     {
         match shortage {
-            Shortage::Places => self.ready.is_fresh(key),
+            Shortage::Places => self.ready.is_waiting(key),
             Shortage::Memory => false,
         }
     }
@@ -270,32 +259,40 @@ impl<T: Stream> Table<T> {
 
     /// Returns whether a turn has a connection to serve.
     pub fn has_ready(&self) -> bool
-        ensures some { result ≡ true → 0 < length (fresh_keys self.now.ready) + length (behind_keys self.now.ready) }
-        ensures none { result ≡ false
-            → length (fresh_keys self.now.ready) + length (behind_keys self.now.ready) ≡ 0 }
+        ensures some { result ≡ true → 0 < waiting_count self.now.ready }
+        ensures none { result ≡ false → waiting_count self.now.ready ≡ 0 }
     {
         !self.ready.is_empty()
     }
 
-    /// Begins a turn: it serves the connections that are ready now, once each at most.
+    /// Begins a turn: it serves as many connections as are ready now.
     pub fn begin_turn(&self) -> TurnRest
-        ensures fresh { IsWhole (fresh_keys self.now.ready) result.fresh }
-        ensures behind { IsWhole (behind_keys self.now.ready) result.behind }
+        ensures fresh { IsWhole (key_total self.now.ready.fresh) result.fresh }
+        ensures behind { IsWhole (key_total self.now.ready.behind) result.behind }
+        ensures spare { IsWhole (length (spare_keys self.now.ready)) result.spare }
     {
         self.ready.begin_turn()
     }
 
     /// Takes the key of the connection that the turn serves next. Those that were idle, or have their first request, go
-    /// first. Once the time of the turn is over, it still serves one of each kind, if it has served none.
+    /// first, one of each address in turn. Once the time of the turn is over, it still serves one of each kind, if it
+    /// has served none.
     pub fn next_ready(&mut self, rest: &mut TurnRest, is_over: bool) -> Option<usize>
         ensures taken { IsTaken result self.old.ready self.new.ready }
-        ensures first { MayServe is_over rest.old.fresh (fresh_keys self.old.ready)
+        ensures first { MayServe is_over rest.old.fresh (fresh_ring self.old.ready)
             → IsSomeAnd result (λ key. IsFromFresh key self.old.ready self.new.ready) }
-        ensures some { MayServe is_over rest.old.behind (behind_keys self.old.ready) → IsSome result }
+        ensures second { MayServe is_over rest.old.behind (behind_ring self.old.ready)
+            → IsSomeAnd result (λ key. IsFromFresh key self.old.ready self.new.ready
+            ⊎ IsFromBehind key self.old.ready self.new.ready) }
+        ensures some { MayServe is_over rest.old.spare (spare_keys self.old.ready) → IsSome result }
         ensures served { rest.new.behind.has_served ≡ true → (rest.old.behind.has_served ≡ true)
             ⊎ IsSomeAnd result (λ key. IsFromBehind key self.old.ready self.new.ready) }
-        ensures less { IfSome result (λ _. rest.new.fresh.left + rest.new.behind.left
-            < rest.old.fresh.left + rest.old.behind.left) }
+        ensures less { IfSome result (λ _. rest.new.fresh.left + rest.new.behind.left + rest.new.spare.left
+            < rest.old.fresh.left + rest.old.behind.left + rest.old.spare.left) }
+        ensures kept { ((rest.new.fresh ≡ rest.old.fresh)
+            ⊎ IsSomeAnd result (λ key. IsFromFresh key self.old.ready self.new.ready))
+            × ((rest.new.behind ≡ rest.old.behind)
+            ⊎ IsSomeAnd result (λ key. IsFromBehind key self.old.ready self.new.ready)) }
         ensures known { IfSome result (λ key. IsSome (peer_at self.new key)) }
         ensures peers { self.new.peers ≡ self.old.peers }
         ensures clients { self.new.clients ≡ self.old.clients }
@@ -317,8 +314,28 @@ impl<T: Stream> Table<T> {
         let Some(peer) = self.peers.get(key) else {
             return;
         };
-        let is_behind = peer.is_behind();
-        self.ready.mark(key, is_behind);
+        self.ready.mark(key, peer.slot, peer.is_behind());
+    }
+
+    /// Has a connection whose peer is a proxy wait in the queue of the client whose request it holds, and marks it as
+    /// ready there, among those that were idle.
+    pub fn mark_for_client(&mut self, key: usize)
+        ensures marked { (peer : Peer T) → peer_at self.old key ≡ Some peer
+            → IsReadyForClient key peer self.old self.new }
+        ensures connections { KeepsConnections self.old self.new }
+        ensures others { KeepsOthers key self.old self.new }
+        ensures size { size_of self.new ≡ size_of self.old }
+        ensures held { bytes_held self.new ≡ bytes_held self.old }
+        ensures clients { self.new.clients ≡ self.old.clients }
+    {
+        if self.peers.capacity() <= key {
+            return;
+        }
+        let Some(peer) = self.peers.get_mut(key) else {
+            return;
+        };
+        let slot = peer.follow_client();
+        self.ready.mark(key, slot, false);
     }
 
     /// Gives a connection a share of the turn: it receives, responds and sends until its stream would block, a response
@@ -335,12 +352,15 @@ impl<T: Stream> Table<T> {
         requires { bytes_held self.old ≤ held_limit }
         ensures served { IsServed (S.wanted responder.now, S.responses responder.now) turn.key result
             share.old share.new self.old self.new }
+        ensures received { HasReceivedAt T.has_blocked turn.key result self.new }
+        ensures still { result ≢ Progress.Moved }
         ensures absent { peer_at self.old turn.key ≡ None → peer_at self.new turn.key ≡ None }
         ensures others { KeepsOthers turn.key self.old self.new }
         ensures size { size_of self.new ≡ size_of self.old }
         ensures clients { self.new.clients ≡ self.old.clients }
-        ensures fresh { IsDropped turn.key (fresh_keys self.old.ready) (fresh_keys self.new.ready) }
-        ensures behind { IsDropped turn.key (behind_keys self.old.ready) (behind_keys self.new.ready) }
+        ensures fresh { IsDroppedFrom turn.key self.old.ready.fresh self.new.ready.fresh }
+        ensures behind { IsDroppedFrom turn.key self.old.ready.behind self.new.ready.behind }
+        ensures spare { IsDropped turn.key (spare_keys self.old.ready) (spare_keys self.new.ready) }
     {
         self.ready.drop_last(turn.key);
         let Some(peer) = self.peers.get_mut(turn.key) else {
@@ -388,19 +408,6 @@ impl<T: Stream> Table<T> {
         };
         let cause = peer.close_cause(cause);
         let _ = self.remove(key, cause, now, log);
-    }
-
-    /// Returns the request of a connection whose response is streamed, from when the response is made.
-    pub fn streamed_request(&self, key: usize) -> Option<ReceivedRequest<'_>>
-        ensures request { IfSome result (λ received. IsSomeAnd (peer_at self.now key)
-            (λ peer. received.bytes.now ≡ request_of peer.connection)) }
-        ensures streamed { IfSome (peer_at self.now key)
-            (λ peer. is_some result ≡ is_streamed peer.connection) }
-    {
-        match self.peers.get(key) {
-            Some(peer) => peer.streamed_request(),
-            None => None,
-        }
     }
 
     /// Does what follows `serve_peer`, by how that ended: records a response that was sent, marks the connection as
@@ -476,21 +483,6 @@ impl<T: Stream> Table<T> {
     {
         for key in 0..self.peers.capacity() {
             self.expire(key, now, log);
-        }
-    }
-}
-
-impl<T: Stream> Table<T> {
-    ghost use Rattle.std.specs.Option.{option_map};
-    ghost use Rattle.node_table.specs.Tables.{peer_at};
-
-    /// Returns the address of the peer of a connection.
-    pub fn addr(&self, key: usize) -> Option<SocketAddr>
-        ensures { result ≡ option_map (λ peer. peer.addr) (peer_at self.now key) }
-    {
-        match self.peers.get(key) {
-            Some(peer) => Some(peer.addr),
-            None => None,
         }
     }
 }

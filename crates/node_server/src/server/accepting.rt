@@ -70,10 +70,8 @@ impl Server {
     )
         ensures { IsLater S.wanted S.responses S.sites node.old node.new }
     {
-        // Otherwise the system holds a response back until the client acknowledges the one before it.
-        let _ = stream.set_nodelay(true);
         let accepted = NewConnection {
-            stream: Socket { stream },
+            stream: Socket::new(stream),
             addr,
             limits: self.limits,
             now: self.now,
@@ -82,6 +80,6 @@ impl Server {
             return;
         };
         self.watch(node, key, log);
-        node.mark_ready(key);
+        self.mark_ready(node, key, log);
     }
 }

@@ -32,3 +32,22 @@ returns-clause-history g c = λ history has.
     c.serve_peer.ensures.served c.serve_peer.ensures.others c.serve_peer.ensures.absent has.connections day had in
     moved g.S.FeedRespond.wanted g.S.FeedRespond.responses g.S.FeedRespond.sites c.args.self.now c.serve_peer.new.self c.args.turn.key history
     (subst (λ responder. MovesBy (g.S.FeedRespond.wanted responder, g.S.FeedRespond.responses responder) token c.args.turn.key c.serve_peer.new.self history) c.new-moment.ensures.responder moves) has
+
+pub returns-clause-moved : goal.returns-clause-moved
+returns-clause-moved g c = λ peer is.
+    let next = c.serve_peer.ensures.served peer is in
+    (next.0, next.1, λ history state. let moved = next.2.moved history state in (moved.more, moved.state))
+
+pub returns-clause-used : goal.returns-clause-used
+returns-clause-used g c = λ peer is.
+    let next = c.serve_peer.ensures.served peer is in (
+      next.0,
+      next.1,
+      (λ history state. let moved = next.2.moved history state in record {
+        more = moved.more;
+        state = moved.state;
+        bytes_counted = moved.bytes_counted;
+        replies_covered = moved.replies_covered;
+      }),
+      next.2.stopped,
+    )

@@ -2,7 +2,7 @@ use Rattle.node_server.proofs.socket.SocketStream.transfer.Goals as goal
 
 pub returns-clause-moved : goal.returns-clause-moved
 returns-clause-moved g c = λ history state.
-    let it = c.run_connection.ensures.advanced history state in
+    let it = c.run_connection-progress.ensures.advanced history state in
     record {
       more = it.more;
       state = it.state;

@@ -7,6 +7,7 @@ use Rattle.node_table.proofs.peer.Peer.exchange.Goals as goal
 pub invariant_of-self : goal.invariant_of-self
 invariant_of-self g c = record {
   stateful = ∥∥₁_map c.args.self.now.stateful (λ was. let moved = c.transfer-progress.ensures.moved was.0 was.1 in (moved.more ++ was.0, moved.state));
+  placed = c.args.self.now.placed;
 }
 
 pub returns-then-is_over-clause-served : goal.returns-then-is_over-clause-served

@@ -35,4 +35,4 @@ invariant_of-self-2-clause-bounded g c = bounded_after_removal _ _ _ _ (sym c.in
 
 pub invariant_of-self-2-clause-known : goal.invariant_of-self-2-clause-known
 invariant_of-self-2-clause-known g c =
-    known_after_removal _ _ _ c.args.self.now.ready c.remove.new.self c.in-Some.ensures.updates c.args.self.now.known c.remove.ensures.removed
+    known_after_removal _ _ _ c.args.self.now.ready c.remove.new.self c.in-Some.ensures.updates c.args.self.now.known c.remove.ensures.ready

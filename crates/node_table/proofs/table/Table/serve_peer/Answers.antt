@@ -1,7 +1,7 @@
 use Rattle.std.proofs.Common.{◌≡◌, IsSome, arith, refl, sym, subst}
 use Rattle.slab.proofs.SlabLemmas.{Updates-with_value}
-use Rattle.node_table.proofs.Ready.{ready_before_dropped}
 use Rattle.node_table.specs.Connections.{HasServed}
+use Rattle.node_table.specs.Peers.{HasReceived}
 use Rattle.node_table.specs.Tables.{peer_at}
 use Rattle.node_table.proofs.Firsts.{same_peer}
 use Rattle.node_table.proofs.Held.{bounded_after_write, counted_after_write, own_is_within}
@@ -53,10 +53,17 @@ returns-clause-size g c = size_after_write c.args.self.now.peers.slots c.args.tu
 
 pub invariant_of-self-clause-known : goal.invariant_of-self-clause-known
 invariant_of-self-clause-known g c = λ key is.
-    c.args.self.now.known key (ready_before_dropped c.args.turn.key c.args.self.now.ready c.drop_last.new.self c.drop_last.ensures.fresh c.drop_last.ensures.behind key is)
+    c.args.self.now.known key (c.drop_last.ensures.ready key is)
 
 pub invariant_of-self-2-clause-known : goal.invariant_of-self-2-clause-known
 invariant_of-self-2-clause-known g c =
     known_after_write c.args.self.now.peers c.args.turn.key c.in-Some.peer.now c.exchange-progress.new.self c.args.self.now.ready c.drop_last.new.self
     (sym c.in-Some.ensures.value) c.args.self.now.known
-    (ready_before_dropped c.args.turn.key c.args.self.now.ready c.drop_last.new.self c.drop_last.ensures.fresh c.drop_last.ensures.behind)
+    c.drop_last.ensures.ready
+
+pub returns-clause-received : goal.returns-clause-received
+returns-clause-received g c = λ peer is.
+    subst (λ p. HasReceived g.T.Stream.has_blocked c.exchange-progress.result p)
+    (same_peer peer c.exchange-progress.new.self _ is
+    (Updates-with_value c.args.self.now.peers c.args.turn.key c.exchange-progress.new.self (subst (λ slot. IsSome slot) c.in-Some.ensures.value refl)).changed)
+    c.exchange-progress.ensures.receives

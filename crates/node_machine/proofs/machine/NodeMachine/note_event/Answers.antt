@@ -1,0 +1,12 @@
+use Rattle.std.proofs.Common.{refl}
+use Rattle.node_machine.proofs.Later.{later_kept}
+use Rattle.node_machine.proofs.Tabled.{tabled}
+use Rattle.node_machine.proofs.machine.NodeMachine.note_event.Goals as goal
+
+pub returns-clause-history : goal.returns-clause-history
+returns-clause-history g c =
+    tabled g.S.FeedRespond.wanted g.S.FeedRespond.responses g.S.FeedRespond.sites c.args.self.now c.note_event.new.self
+    c.note_event.ensures.connections
+
+pub returns-clause-later : goal.returns-clause-later
+returns-clause-later g c = later_kept g.S.FeedRespond.wanted g.S.FeedRespond.responses g.S.FeedRespond.sites _ _ refl (returns-clause-history g c)

@@ -1,8 +1,0 @@
-use Rattle.std.proofs.Common.{sym, ◌∙◌, le-ltb, arith}
-use Rattle.node_table.proofs.Flags.{absent_past}
-use Rattle.node_table.proofs.key_queue.KeyQueue.has.Goals as goal
-
-pub returns-else-key-len : goal.returns-else-key-len
-returns-else-key-len c =
-    le-ltb c.args.key c.len.result c.if-key-len.false
-    ∙ sym (absent_past c.args.self.now.keys.items c.args.self.now.flags.items c.args.key c.args.self.now.flagged (omega (arith, c.if-key-len.false, c.len.ensures)))

@@ -1,0 +1,6 @@
+mod Flags
+mod Without
+mod Waits
+pub mod Homes
+mod Goes
+mod Ready
