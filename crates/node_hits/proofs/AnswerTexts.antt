@@ -1,12 +1,12 @@
 -- The object of an answer parses to its value.
-use Rattle.std.proofs.Common.{◌≡◌, ◌≤◌, ℕ, List, [], ◌∷◌, ◌++◌, refl, ap, ◌∙◌, arith, codes}
+use Rattle.std.proofs.Common.{◌≡◌, ◌≤◌, ℕ, List, [], ◌∷◌, ◌++◌, refl, ap, ◌∙◌, arith, codes, lit≤, map}
 use Rattle.std.specs.Prelude.{drop}
-use Rattle.std.specs.List.{flat_map}
+use Rattle.std.specs.List.{AllByRecursion, flat_map}
 use Rattle.json.specs.Token.{Token}
 use Rattle.json.specs.Text.{content}
-use Rattle.json.specs.Lex.{Lexeme, token, comma, colon, lex, between, punctuate, fresh, after_value, tokens}
+use Rattle.json.specs.Lex.{Lexeme, token, comma, colon, lex, between, punctuate, fresh, after_value, after_comma, after_key, tokens}
 use Rattle.json.specs.Json.{array}
-use Rattle.json.specs.Tree.{json_tokens, items_depth}
+use Rattle.json.specs.Tree.{json_tokens, depth, items_depth}
 use Rattle.json.specs.Value.{items_of}
 use Rattle.json.specs.Print.{IsNumber}
 use Rattle.json.specs.Word.{after_number}
@@ -16,15 +16,18 @@ use Rattle.feed_openurl.specs.Citations.{CitationValue, text_at}
 use Rattle.feed_openurl.specs.declared.citation_part.CitationPart.{CitationPart}
 use Rattle.feed_openurl.specs.declared.citation_part.CitationPart.TheVariants as part
 use Rattle.feed_openurl.specs.declared.citation_part.TheConstants.{PARTS}
+use Rattle.feed_names.specs.ReleaseName.{Name}
+use Rattle.node_response.specs.JsonLists.{json_list}
 use Rattle.node_response.specs.JsonStrings.{json_string}
 use Rattle.node_response.specs.Fragments.{joined}
-use Rattle.node_response.proofs.JsonTexts.{Lexes, lexes_then, IsText, parsed}
+use Rattle.node_response.proofs.JsonTexts.{AreOf, IsText, Lexes, items_shallow, lexes_then, list_in, parsed, text_of_lexemes}
 use Rattle.node_hits.specs.HitsJson.{also_json, also_value, hits_json, item_values, values_with}
 use Rattle.node_hits.specs.QueryFacts.{QueryFactsValue}
-use Rattle.node_hits.specs.AnswerJson.{citation_front, citation_json, part_member, query_members, answer_start, answer_json, answer_value, also_member}
+use Rattle.node_hits.specs.AnswerJson.{citation_front, citation_json, part_member, query_members, answer_start, answer_json, answer_value, answer_end, more_in_member, release_object, release_value}
 use Rattle.node_hits.specs.Laws.{AnswerIsJson}
 use Rattle.node_hits.specs.Tallies.{TallyValue}
-use Rattle.node_hits.proofs.HitTexts.{string_lexemes, with_string, hits_in, hits_flat, also_in, also_shallow}
+use Rattle.node_hits.specs.HitsJson.{release_members}
+use Rattle.node_hits.proofs.HitTexts.{lexes_release, release_lexemes, string_lexemes, with_string, hits_in, hits_flat, also_in, also_shallow}
 
 version_key : Lexes (codes "{\"version\":") (token Token.begin_object ∷ token (Token.string (codes "version")) ∷ colon ∷ [])
 unfolding lex content
@@ -188,12 +191,15 @@ start_tokens ask refused ts =
     Token.begin_object ∷ Token.key (codes "version") ∷ Token.number (codes "1") ∷ Token.key (codes "citation") ∷ Token.begin_object ∷ part_tokens ask.citation PARTS
     (Token.end_object ∷ Token.key (codes "query") ∷ Token.string ask.query ∷ Token.key (codes "refused") ∷ Token.string refused ∷ Token.key (codes "hits") ∷ ts)
 
--- the tokens of the end of an answer
-abbrev also_tokens : TallyValue → List Token
-also_tokens also = Token.key (codes "also") ∷ (json_tokens (array (items_of (values_with also_value also))) ++ (Token.end_object ∷ []))
+-- the tokens of the releases that may have more, and of the end of an answer
+abbrev more_tokens : List Name → List Token
+more_tokens names = Token.key (codes "more_in") ∷ (json_tokens (array (items_of (map release_value names))) ++ (Token.end_object ∷ []))
+
+abbrev end_tokens : TallyValue → TallyValue → List Token
+end_tokens tally also = Token.key (codes "also") ∷ (json_tokens (array (items_of (values_with also_value also))) ++ more_tokens tally.partial)
 
 started : (ask : QueryFactsValue) (refused : List ℕ) (tally also : TallyValue) (ls : List Lexeme)
-    → punctuate fresh ls ≡ json_tokens (array (items_of (item_values tally))) ++ also_tokens also
+    → punctuate fresh ls ≡ json_tokens (array (items_of (item_values tally))) ++ end_tokens tally also
     → punctuate fresh (start_lexemes ask refused ++ ls) ≡ json_tokens (answer_value ask refused tally also)
 unfolding punctuate
 started ask refused tally also ls rest = ap (start_tokens ask refused) rest
@@ -202,26 +208,62 @@ also_key : Lexes (codes ",\"also\":") (comma ∷ token (Token.string (codes "als
 unfolding lex content
 also_key = record { lexed = λ rest. refl }
 
+more_in_key : Lexes (codes ",\"more_in\":") (comma ∷ token (Token.string (codes "more_in")) ∷ colon ∷ [])
+unfolding lex content
+more_in_key = record { lexed = λ rest. refl }
+
+abbrev object_lexemes : Name → List Lexeme
+object_lexemes name = release_lexemes name ++ (token Token.end_object ∷ [])
+
+lexes_object : (name : Name) → Lexes (release_object name) (object_lexemes name)
+unfolding release_object
+lexes_object name = lexes_then (release_members name) (codes "}") (release_lexemes name) (token Token.end_object ∷ []) (lexes_release name) last_brace
+
+release_is : (name : Name) → AreOf (object_lexemes name) (release_value name)
+unfolding punctuate
+release_is name fresh may more = refl
+release_is name after_value may more = absurd (cc)
+release_is name after_comma may more = refl
+release_is name after_key may more = absurd (cc)
+
+each_release : (names : List Name) → AllByRecursion (λ name. IsText (release_object name) (release_value name)) names
+each_release [] = tt
+each_release (name ∷ names) =
+    (text_of_lexemes (release_object name) (object_lexemes name) (release_value name) (lexes_object name) (release_is name), each_release names)
+
+flat_releases : (names : List Name) → AllByRecursion (λ name. depth (release_value name) ≤ 1) names
+flat_releases [] = tt
+flat_releases (name ∷ names) = (lit≤ tt, flat_releases names)
+
+-- the releases that may have more, behind the titles
+more_ended : (names : List Name) → punctuate after_value (lex between (more_in_member names)) ≡ more_tokens names
+unfolding more_in_member lex punctuate
+more_ended names =
+    ap (punctuate after_value) (more_in_key.lexed (json_list release_object names ++ codes "}\n"))
+    ∙ ap (λ ts. Token.key (codes "more_in") ∷ ts) (list_in release_object release_value names (each_release names) fresh refl (codes "}\n"))
+
 -- the end of an answer, behind the hits
-ended : (also : TallyValue) → IsText (also_json also) (array (items_of (values_with also_value also)))
-    → punctuate after_value (lex between (also_member also)) ≡ also_tokens also
-unfolding also_member lex punctuate
-ended also is =
-    ap (punctuate after_value) (also_key.lexed (also_json also ++ codes "}\n"))
-    ∙ ap (λ ts. Token.key (codes "also") ∷ ts) (is fresh refl (codes "}\n"))
+ended : (tally also : TallyValue) → IsText (also_json also) (array (items_of (values_with also_value also)))
+    → punctuate after_value (lex between (answer_end tally also)) ≡ end_tokens tally also
+unfolding answer_end lex punctuate
+ended tally also is =
+    ap (punctuate after_value) (also_key.lexed (also_json also ++ more_in_member tally.partial))
+    ∙ ap (λ ts. Token.key (codes "also") ∷ ts)
+    (is fresh refl (more_in_member tally.partial) ∙ ap (λ ts. json_tokens (array (items_of (values_with also_value also))) ++ ts) (more_ended tally.partial))
 
 answer_tokens : (ask : QueryFactsValue) (refused : List ℕ) (tally also : TallyValue) → IsText (hits_json tally) (array (items_of (item_values tally)))
     → IsText (also_json also) (array (items_of (values_with also_value also)))
     → tokens (answer_json ask refused tally also) ≡ json_tokens (answer_value ask refused tally also)
 unfolding answer_json
 answer_tokens ask refused tally also is ends =
-    ap (punctuate fresh) ((lexes_start ask refused).lexed (hits_json tally ++ also_member also))
-    ∙ started ask refused tally also (lex between (hits_json tally ++ also_member also))
-    (is fresh refl (also_member also) ∙ ap (λ ts. json_tokens (array (items_of (item_values tally))) ++ ts) (ended also ends))
+    ap (punctuate fresh) ((lexes_start ask refused).lexed (hits_json tally ++ answer_end tally also))
+    ∙ started ask refused tally also (lex between (hits_json tally ++ answer_end tally also))
+    (is fresh refl (answer_end tally also) ∙ ap (λ ts. json_tokens (array (items_of (item_values tally))) ++ ts) (ended tally also ends))
 
 pub answer_read : AnswerIsJson
 answer_read ask refused tally also small counts few amount =
     let shallow : items_depth (items_of (item_values tally)) ≤ 1 = hits_flat tally in
     let flat : items_depth (items_of (values_with also_value also)) ≤ 1 = also_shallow also in
+    let names : items_depth (items_of (map release_value tally.partial)) ≤ 1 = items_shallow release_value tally.partial (flat_releases tally.partial) in
     parsed (answer_json ask refused tally also) (answer_value ask refused tally also)
     (answer_tokens ask refused tally also (hits_in tally small counts) (also_in also few amount)) (omega arith)

@@ -68,13 +68,6 @@ pass_from test front (row ∷ rows) base same =
         (ap (λ o. option_map_or test o true) (at_seam front row rows base same) ∙ is) rest
     go false is rest = rest
 
-all_pass : (test : RowValue → Bool) (rows : List RowValue) → AllPass (passes_at test rows) (places_by test rows)
+pub all_pass : (test : RowValue → Bool) (rows : List RowValue) → AllPass (passes_at test rows) (places_by test rows)
 unfolding places_by
 all_pass test rows = pass_from test [] rows 0 refl
-
--- the first places of a release
-pub all_asked : (query : QueryValue) (rows : List RowValue) (limit : ℕ) (places found : List ℕ)
-    → places ≡ found → found ≡ take limit (asked_places query rows) → AllPass (is_asked_at query rows) places
-all_asked query rows limit places found listed front =
-    subst (AllPass (is_asked_at query rows)) (sym (listed ∙ front))
-    (All-take (λ place. is_asked_at query rows place ≡ true) limit (asked_places query rows) (all_pass (is_asked query) rows))

@@ -10,6 +10,9 @@ pub mod Tallies
 pub mod Articles
 pub mod Merged
 pub mod PlacesAsked
+pub mod ShareBounds
+pub mod HitsFound
+pub mod Added
 pub mod AskedRows
 pub mod LooksPlaced
 pub mod TitlesAsked

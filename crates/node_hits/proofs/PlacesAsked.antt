@@ -1,5 +1,5 @@
 -- The places at which a search looks are those of the rows that have one of the query's identifiers.
-use Rattle.std.proofs.Common.{◌≡◌, ◌+◌, ◌⊎◌, ◌∙◌, Some, None, inl, inr, ℕ, zero, suc, Bool, true, false, ◌||◌, List, [], ◌∷◌, refl, sym, ap, subst, arith, take}
+use Rattle.std.proofs.Common.{◌≡◌, ◌+◌, ◌⊎◌, ◌∙◌, Some, None, inl, inr, ℕ, zero, suc, Bool, true, false, ◌||◌, List, [], ◌∷◌, refl, sym, ap, subst, arith}
 use Rattle.std.specs.Prelude.{◌↔◌, if◌then◌else◌}
 use Rattle.std.specs.List.{Contains, cons_option, enumerate_from, filter_map, flat_map}
 use Rattle.std.proofs.lemmas.List.Elements.{Contains-append_cases, Contains-append_left, Contains-append_right}
@@ -11,22 +11,21 @@ use Rattle.feed_answer.proofs.Places.{places_ascend}
 use Rattle.node_hits.specs.Laws.{ArePlaces, LooksAreAtPlaces}
 use Rattle.node_hits.specs.Looks.{asked_places}
 use Rattle.node_hits.specs.Searches.{is_asked}
-use Rattle.node_hits.proofs.LooksPlaced.{front_looks_at, looks_placed}
 use Rattle.node_hits.proofs.Merged.{alike, any_one, asked_either, either, none_placed}
 
 -- ---- the elements of a list with one more
 
-first_is : {X : Type 0} (x : X) (xs : List X) → Contains (x ∷ xs) x
+pub first_is : {X : Type 0} (x : X) (xs : List X) → Contains (x ∷ xs) x
 first_is x xs = (0, omega arith, refl)
 
-later_is : {X : Type 0} (y : X) (xs : List X) (x : X) → Contains xs x → Contains (y ∷ xs) x
+pub later_is : {X : Type 0} (y : X) (xs : List X) (x : X) → Contains xs x → Contains (y ∷ xs) x
 later_is y xs x has = (suc has.0, omega (arith, has.1), has.2)
 
-one_of : {X : Type 0} (y : X) (xs : List X) (x : X) → Contains (y ∷ xs) x → (y ≡ x) ⊎ Contains xs x
+pub one_of : {X : Type 0} (y : X) (xs : List X) (x : X) → Contains (y ∷ xs) x → (y ≡ x) ⊎ Contains xs x
 one_of y xs x (zero, within, here) = inl here
 one_of y xs x (suc k, within, here) = inr (k, omega (arith, within), here)
 
-none_in : {X : Type 0} (x : X) → Contains [] x → ⊥
+pub none_in : {X : Type 0} (x : X) → Contains [] x → ⊥
 none_in x has = omega (arith, has.1)
 
 -- ---- the places of the rows that pass one of two tests
@@ -144,7 +143,4 @@ are_places : (query : QueryValue) (rows : List RowValue) → ArePlaces query row
 are_places query rows = record { ascend = places_ascend (is_asked query) rows; same = λ place. asked_same place query rows }
 
 pub at_places : LooksAreAtPlaces
-at_places site today search name rows limit = (
-  are_places search.query rows,
-  ap (take limit) (sym (looks_placed site today search name rows)) ∙ sym (front_looks_at site today search name rows limit (asked_places search.query rows)),
-)
+at_places query rows = are_places query rows

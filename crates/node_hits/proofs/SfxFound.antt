@@ -1,6 +1,6 @@
 -- A reader finds the address, the type and the public name of each target in a reply.
 use Rattle.std.proofs.Common.{◌≡◌, ℕ, Bool, true, false, List, [], ◌∷◌, ◌++◌, Some, None, refl, sym, ap, ◌∙◌, append_assoc, codes}
-use Rattle.std.specs.Prelude.{Option, if◌then◌else◌}
+use Rattle.std.specs.Prelude.{◌-◌, ◌==◌, Option, if◌then◌else◌, length, map, take}
 use Rattle.feed_answer.specs.Pairs.{is_empty}
 use Rattle.std.specs.Fmt.{decimal}
 use Rattle.std.specs.List.{flat_map}
@@ -10,11 +10,13 @@ use Rattle.feed_xml.specs.Characters.{allowed, bytes_marks}
 use Rattle.feed_xml.specs.Elements.{leaf, number_leaf}
 use Rattle.feed_xml.specs.Marks.{Mark, closed, element}
 use Rattle.feed_xml.specs.Reading.{leaf_texts, leaf_texts_in}
-use Rattle.feed_xml.proofs.Found.{IsOther, found_leaf, skips_bytes, skips_element, skips_leaf}
+use Rattle.feed_xml.proofs.Found.{IsOther, collected, found_leaf, skips_bytes, skips_element, skips_leaf}
 use Rattle.node_hits.specs.EmbargoWords.{embargo_words}
 use Rattle.node_hits.specs.Sfx.{ServiceValue, TargetValue, coverage_marks, coverage_words, embargo_marks, names_marks, place_marks}
-use Rattle.node_hits.specs.Sfx.{reply_marks, request_marks, stated_marks, statement_marks, target_marks, words_marks}
-use Rattle.node_hits.specs.SfxLaws.{ReplyHasTargets, texts_of}
+use Rattle.node_hits.specs.Sfx.{more_marks, named_marks, others_marks, package_marks, reply_marks, request_marks, stated_marks, statement_marks, target_marks, words_marks}
+use Rattle.node_hits.specs.SfxLaws.{ReplyHasTargets, ReplyNamesMore, if_any, texts_of}
+use Rattle.node_hits.specs.Tallies.{named_limit}
+use Rattle.node_hits.specs.declared.sfx_names.TheConstants.{MORE_IN, PACKAGE, OTHERS}
 use Rattle.node_hits.specs.declared.sfx_names.TheConstants.{CTX_OBJ_SET, CTX_OBJ, CTX_OBJ_ATTRIBUTES, CTX_OBJ_TARGETS, TARGET}
 use Rattle.node_hits.specs.declared.sfx_names.TheConstants.{TARGET_NAME, TARGET_PUBLIC_NAME, TARGET_SERVICE_ID, SERVICE_TYPE, TARGET_URL, PARSER, DISPLAYER, IS_RELATED, NO, NOTE}
 use Rattle.node_hits.specs.declared.sfx_names.TheConstants.{COVERAGE, COVERAGE_TEXT, THRESHOLD_TEXT, COVERAGE_STATEMENT, EMBARGO_TEXT, EMBARGO_STATEMENT}
@@ -121,17 +123,87 @@ record IsInside (name : List ℕ) : Type 0 where
   attributes : IsOther name CTX_OBJ_ATTRIBUTES.now
   targets : IsOther name CTX_OBJ_TARGETS.now
 
-reply_found : (name : List ℕ) (text : TargetValue → List ℕ) → IsInside name → ((target : TargetValue) → Finds name (allowed (text target) ∷ []) (target_marks target))
-    → (targets : List TargetValue) → leaf_texts name (reply_marks targets) ≡ texts_of text targets
-reply_found name text is each targets =
-    ap (leaf_texts name) (sym (append-nil (reply_marks targets)))
-    ∙ finds_element name (texts_of text targets) CTX_OBJ_SET.now CTX_OBJ_SET.now (element CTX_OBJ.now CTX_OBJ.now (request_marks targets)) is.set
-    (finds_element name (texts_of text targets) CTX_OBJ.now CTX_OBJ.now (request_marks targets) is.request
-    (finds_append name [] (texts_of text targets) (leaf CTX_OBJ_ATTRIBUTES.now []) (element CTX_OBJ_TARGETS.now CTX_OBJ_TARGETS.now (flat_map target_marks targets))
-    (skips_leaf name CTX_OBJ_ATTRIBUTES.now [] is.attributes)
-    (finds_element name (texts_of text targets) CTX_OBJ_TARGETS.now CTX_OBJ_TARGETS.now (flat_map target_marks targets) is.targets (all_found name text each targets))))
+-- what the targets and the packages that may have more give
+reply_found : (name : List ℕ) (ts ms : List (List ℕ)) → IsInside name → (targets : List TargetValue) (more : List (List ℕ))
+    → Finds name ts (flat_map target_marks targets) → Finds name ms (more_marks more) → leaf_texts name (reply_marks targets more) ≡ ts ++ ms
+reply_found name ts ms is targets more one two =
+    let list : List Mark = element CTX_OBJ_TARGETS.now CTX_OBJ_TARGETS.now (flat_map target_marks targets) in
+    ap (leaf_texts name) (sym (append-nil (reply_marks targets more)))
+    ∙ finds_element name (ts ++ ms) CTX_OBJ_SET.now CTX_OBJ_SET.now (element CTX_OBJ.now CTX_OBJ.now (request_marks targets more)) is.set
+    (finds_element name (ts ++ ms) CTX_OBJ.now CTX_OBJ.now (request_marks targets more) is.request
+    (finds_append name [] (ts ++ ms) (leaf CTX_OBJ_ATTRIBUTES.now []) (list ++ more_marks more) (skips_leaf name CTX_OBJ_ATTRIBUTES.now [] is.attributes)
+    (finds_append name ts ms list (more_marks more)
+    (finds_element name ts CTX_OBJ_TARGETS.now CTX_OBJ_TARGETS.now (flat_map target_marks targets) is.targets one) two)))
     []
-    ∙ append-nil (texts_of text targets)
+    ∙ append-nil (ts ++ ms)
+
+-- ---- the packages that may have more
+
+more_found : (name : List ℕ) (ps os : List (List ℕ)) (first : List ℕ) (rest : List (List ℕ)) → IsOther name MORE_IN.now
+    → Finds name ps (flat_map package_marks (take named_limit (first ∷ rest))) → Finds name os (others_marks (length (first ∷ rest) - named_limit))
+    → Finds name (ps ++ os) (more_marks (first ∷ rest))
+unfolding more_marks
+more_found name ps os first rest other one two =
+    finds_element name (ps ++ os) MORE_IN.now MORE_IN.now (named_marks (first ∷ rest)) other
+    (finds_append name ps os (flat_map package_marks (take named_limit (first ∷ rest))) (others_marks (length (first ∷ rest) - named_limit)) one two)
+
+nothing_found : (name : List ℕ) → Finds name [] (more_marks [])
+unfolding more_marks
+nothing_found name rest = refl
+
+skips_packages : (name : List ℕ) (names : List (List ℕ)) → IsOther name PACKAGE.now → Finds name [] (flat_map package_marks names)
+skips_packages name [] other rest = refl
+skips_packages name (n ∷ names) other rest =
+    finds_append name [] [] (package_marks n) (flat_map package_marks names) (skips_leaf name PACKAGE.now n other) (skips_packages name names other) rest
+
+skips_others : (name : List ℕ) (count : ℕ) → IsOther name OTHERS.now → Finds name [] (others_marks count)
+skips_others name count other = skips_unless name (count == 0) (number_leaf OTHERS.now count) (skips_number name OTHERS.now count other)
+
+skips_more : (name : List ℕ) (more : List (List ℕ)) → IsOther name MORE_IN.now → IsOther name PACKAGE.now → IsOther name OTHERS.now → Finds name [] (more_marks more)
+skips_more name [] other titles others = nothing_found name
+skips_more name (first ∷ rest) other titles others =
+    more_found name [] [] first rest other (skips_packages name (take named_limit (first ∷ rest)) titles)
+    (skips_others name (length (first ∷ rest) - named_limit) others)
+
+packages_found : (names : List (List ℕ)) → Finds (codes "package") (map allowed names) (flat_map package_marks names)
+packages_found [] rest = refl
+packages_found (n ∷ names) rest =
+    finds_append (codes "package") (allowed n ∷ []) (map allowed names) (package_marks n) (flat_map package_marks names)
+    (λ more. found_leaf (codes "package") n more refl) (packages_found names) rest
+
+others_found : (count : ℕ) (is : Bool) → Finds (codes "others") (if is then [] else decimal count ∷ []) (if is then [] else number_leaf OTHERS.now count)
+others_found count true rest = refl
+others_found count false rest = collected (codes "others") (codes "others") [] (decimal count) rest
+
+packages_named : (more : List (List ℕ)) → Finds (codes "package") (map allowed (take 5 more)) (more_marks more)
+packages_named [] marks = nothing_found (codes "package") marks
+packages_named (first ∷ rest) marks =
+    more_found (codes "package") (map allowed (take 5 (first ∷ rest))) [] first rest refl (packages_found (take named_limit (first ∷ rest)))
+    (skips_others (codes "package") (length (first ∷ rest) - named_limit) refl) marks
+    ∙ ap (λ ts. ts ++ leaf_texts_in (codes "package") marks None) (append-nil (map allowed (take 5 (first ∷ rest))))
+
+others_counted : (more : List (List ℕ)) → Finds (codes "others") (if_any (length more - 5)) (more_marks more)
+others_counted [] = nothing_found (codes "others")
+others_counted (first ∷ rest) =
+    more_found (codes "others") [] (if_any (length (first ∷ rest) - 5)) first rest refl (skips_packages (codes "others") (take named_limit (first ∷ rest)) refl)
+    (others_found (length (first ∷ rest) - 5) ((length (first ∷ rest) - 5) == 0))
+
+-- ---- no target has such a name
+
+target_skipped : (name : List ℕ) (target : TargetValue) → IsOther name TARGET.now → IsApart name → IsOther name TARGET_NAME.now → IsOther name TARGET_PUBLIC_NAME.now
+    → IsOther name TARGET_SERVICE_ID.now → IsOther name SERVICE_TYPE.now → IsOther name TARGET_URL.now → IsOther name PARSER.now → IsOther name IS_RELATED.now
+    → IsOther name DISPLAYER.now → IsOther name NOTE.now → Finds name [] (target_marks target)
+target_skipped name target other apart title shown number kind url parser related displayer note =
+    let service : ServiceValue = target.service in
+    target_found name [] [] target other apart
+    (names_found name [] [] [] service (skips_leaf name TARGET_NAME.now service.name title) (skips_leaf name TARGET_PUBLIC_NAME.now service.public_name shown) number
+    (skips_leaf name SERVICE_TYPE.now service.service_type kind))
+    (place_found name [] service (skips_leaf name TARGET_URL.now service.url url) parser related displayer note)
+
+targets_skipped : (name : List ℕ) → ((target : TargetValue) → Finds name [] (target_marks target)) → (targets : List TargetValue) → Finds name [] (flat_map target_marks targets)
+targets_skipped name each [] rest = refl
+targets_skipped name each (target ∷ targets) rest =
+    finds_append name [] [] (target_marks target) (flat_map target_marks targets) (each target) (targets_skipped name each targets) rest
 
 -- ---- the three names
 
@@ -180,9 +252,42 @@ inside_type = record { set = refl; request = refl; attributes = refl; targets = 
 inside_name : IsInside (codes "target_public_name")
 inside_name = record { set = refl; request = refl; attributes = refl; targets = refl }
 
+-- the texts of the targets are all
+texts_found : (name : List ℕ) (text : TargetValue → List ℕ) → IsInside name → ((target : TargetValue) → Finds name (allowed (text target) ∷ []) (target_marks target))
+    → (targets : List TargetValue) (more : List (List ℕ)) → Finds name [] (more_marks more) → leaf_texts name (reply_marks targets more) ≡ texts_of text targets
+texts_found name text is each targets more skips =
+    reply_found name (texts_of text targets) [] is targets more (all_found name text each targets) skips ∙ append-nil (texts_of text targets)
+
 pub targets_found : ReplyHasTargets
-targets_found targets = record {
-  urls = reply_found (codes "target_url") (λ target. target.service.url) inside_url url_found targets;
-  types = reply_found (codes "service_type") (λ target. target.service.service_type) inside_type type_found targets;
-  names = reply_found (codes "target_public_name") (λ target. target.service.public_name) inside_name name_found targets;
+targets_found targets more = record {
+  urls = texts_found (codes "target_url") (λ target. target.service.url) inside_url url_found targets more (skips_more (codes "target_url") more refl refl refl);
+  types = texts_found (codes "service_type") (λ target. target.service.service_type) inside_type type_found targets more (skips_more (codes "service_type") more refl refl refl);
+  names = texts_found (codes "target_public_name") (λ target. target.service.public_name) inside_name name_found targets more
+      (skips_more (codes "target_public_name") more refl refl refl);
+}
+
+package_apart : IsApart (codes "package")
+package_apart = record { coverage = refl; text = refl; threshold = refl; statement = refl; embargo = refl; embargo_statement = refl }
+
+others_apart : IsApart (codes "others")
+others_apart = record { coverage = refl; text = refl; threshold = refl; statement = refl; embargo = refl; embargo_statement = refl }
+
+inside_package : IsInside (codes "package")
+inside_package = record { set = refl; request = refl; attributes = refl; targets = refl }
+
+inside_others : IsInside (codes "others")
+inside_others = record { set = refl; request = refl; attributes = refl; targets = refl }
+
+no_package : (target : TargetValue) → Finds (codes "package") [] (target_marks target)
+no_package target = target_skipped (codes "package") target refl package_apart refl refl refl refl refl refl refl refl refl
+
+no_others : (target : TargetValue) → Finds (codes "others") [] (target_marks target)
+no_others target = target_skipped (codes "others") target refl others_apart refl refl refl refl refl refl refl refl refl
+
+pub more_named : ReplyNamesMore
+more_named targets more = record {
+  packages = reply_found (codes "package") [] (map allowed (take 5 more)) inside_package targets more (targets_skipped (codes "package") no_package targets)
+      (packages_named more);
+  others = reply_found (codes "others") [] (if_any (length more - 5)) inside_others targets more (targets_skipped (codes "others") no_others targets)
+      (others_counted more);
 }

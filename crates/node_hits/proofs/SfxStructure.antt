@@ -1,6 +1,6 @@
 -- The tags of a reply of SFX are proper and balanced.
 use Rattle.std.proofs.Common.{ℕ, Bool, true, false, List, [], ◌∷◌, ◌++◌, Some, None, refl}
-use Rattle.std.specs.Prelude.{Option, if◌then◌else◌}
+use Rattle.std.specs.Prelude.{◌-◌, ◌==◌, Option, if◌then◌else◌, length, take}
 use Rattle.feed_answer.specs.Pairs.{is_empty}
 use Rattle.std.specs.List.{flat_map}
 use Rattle.feed_kbart.specs.RowValue.{RowValue}
@@ -9,8 +9,10 @@ use Rattle.feed_xml.specs.Marks.{Mark, element}
 use Rattle.feed_xml.proofs.Structure.{Good, good_append, good_balanced, good_element, good_leaf, good_nothing, good_number, good_read}
 use Rattle.node_hits.specs.EmbargoWords.{embargo_words}
 use Rattle.node_hits.specs.Sfx.{ServiceValue, TargetValue, coverage_marks, coverage_words, embargo_marks, names_marks, place_marks}
-use Rattle.node_hits.specs.Sfx.{reply_marks, request_marks, stated_marks, statement_marks, target_marks, words_marks}
+use Rattle.node_hits.specs.Sfx.{more_marks, named_marks, others_marks, package_marks, reply_marks, request_marks, stated_marks, statement_marks, target_marks, words_marks}
 use Rattle.node_hits.specs.SfxLaws.{SfxIsBalanced, SfxReadsBack}
+use Rattle.node_hits.specs.Tallies.{named_limit}
+use Rattle.node_hits.specs.declared.sfx_names.TheConstants.{MORE_IN, PACKAGE, OTHERS}
 use Rattle.node_hits.specs.declared.sfx_names.TheConstants.{CTX_OBJ_SET, CTX_OBJ, CTX_OBJ_ATTRIBUTES, CTX_OBJ_TARGETS, TARGET}
 use Rattle.node_hits.specs.declared.sfx_names.TheConstants.{TARGET_NAME, TARGET_PUBLIC_NAME, TARGET_SERVICE_ID, SERVICE_TYPE, TARGET_URL, PARSER, DISPLAYER, IS_RELATED, NO, NOTE}
 use Rattle.node_hits.specs.declared.sfx_names.TheConstants.{COVERAGE, COVERAGE_TEXT, THRESHOLD_TEXT, COVERAGE_STATEMENT, EMBARGO_TEXT, EMBARGO_STATEMENT}
@@ -71,20 +73,36 @@ good_targets : (targets : List TargetValue) → Good (flat_map target_marks targ
 good_targets [] = good_nothing
 good_targets (target ∷ targets) = good_append (target_marks target) (flat_map target_marks targets) (good_target target) (good_targets targets)
 
-good_request : (targets : List TargetValue) → Good (request_marks targets)
-good_request targets =
-    good_append (leaf CTX_OBJ_ATTRIBUTES.now []) (element CTX_OBJ_TARGETS.now CTX_OBJ_TARGETS.now (flat_map target_marks targets)) (good_leaf CTX_OBJ_ATTRIBUTES.now [] refl)
-    (good_element CTX_OBJ_TARGETS.now CTX_OBJ_TARGETS.now (flat_map target_marks targets) refl (good_targets targets))
+good_packages : (names : List (List ℕ)) → Good (flat_map package_marks names)
+good_packages [] = good_nothing
+good_packages (name ∷ names) = good_append (package_marks name) (flat_map package_marks names) (good_leaf PACKAGE.now name refl) (good_packages names)
 
-good_reply : (targets : List TargetValue) → Good (reply_marks targets)
-good_reply targets =
-    good_element CTX_OBJ_SET.now CTX_OBJ_SET.now (element CTX_OBJ.now CTX_OBJ.now (request_marks targets)) refl
-    (good_element CTX_OBJ.now CTX_OBJ.now (request_marks targets) refl (good_request targets))
+good_named : (more : List (List ℕ)) → Good (named_marks more)
+good_named more =
+    good_append (flat_map package_marks (take named_limit more)) (others_marks (length more - named_limit)) (good_packages (take named_limit more))
+    (good_unless ((length more - named_limit) == 0) (number_leaf OTHERS.now (length more - named_limit)) (good_number OTHERS.now (length more - named_limit) refl))
+
+good_more : (more : List (List ℕ)) → Good (more_marks more)
+unfolding more_marks
+good_more more =
+    good_unless (is_empty more) (element MORE_IN.now MORE_IN.now (named_marks more)) (good_element MORE_IN.now MORE_IN.now (named_marks more) refl (good_named more))
+
+good_request : (targets : List TargetValue) (more : List (List ℕ)) → Good (request_marks targets more)
+good_request targets more =
+    let list : List Mark = element CTX_OBJ_TARGETS.now CTX_OBJ_TARGETS.now (flat_map target_marks targets) in
+    good_append (leaf CTX_OBJ_ATTRIBUTES.now []) (list ++ more_marks more) (good_leaf CTX_OBJ_ATTRIBUTES.now [] refl)
+    (good_append list (more_marks more)
+    (good_element CTX_OBJ_TARGETS.now CTX_OBJ_TARGETS.now (flat_map target_marks targets) refl (good_targets targets)) (good_more more))
+
+good_reply : (targets : List TargetValue) (more : List (List ℕ)) → Good (reply_marks targets more)
+good_reply targets more =
+    good_element CTX_OBJ_SET.now CTX_OBJ_SET.now (element CTX_OBJ.now CTX_OBJ.now (request_marks targets more)) refl
+    (good_element CTX_OBJ.now CTX_OBJ.now (request_marks targets more) refl (good_request targets more))
 
 -- a reader gets a reply back
 pub reply_read : SfxReadsBack
-reply_read targets = good_read (reply_marks targets) (good_reply targets)
+reply_read targets more = good_read (reply_marks targets more) (good_reply targets more)
 
 -- and its tags are balanced
 pub reply_balanced : SfxIsBalanced
-reply_balanced targets = good_balanced (reply_marks targets) (good_reply targets)
+reply_balanced targets more = good_balanced (reply_marks targets more) (good_reply targets more)

@@ -1,7 +1,7 @@
 -- A sole link is that of the only hit.
-use Rattle.std.proofs.Common.{◌≡◌, ◌<◌, ◌≤◌, ℕ, suc, List, [], ◌∷◌, Bool, true, false, Option, Some, None, refl, sym, ap, ◌∙◌, arith, length, subst}
-use Rattle.std.specs.Prelude.{◌==◌, ◌&&◌, ◌-◌, nat_le, nat_lt, if◌then◌else◌, option_map}
-use Rattle.std.proofs.lemmas.List.{take_all}
+use Rattle.std.proofs.Common.{◌≡◌, ◌<◌, ℕ, suc, List, [], ◌∷◌, Bool, true, false, Option, Some, None, refl, sym, ap, ◌∙◌, arith, length, subst}
+use Rattle.std.specs.Prelude.{◌==◌, ◌&&◌, ◌-◌, nat_lt, if◌then◌else◌, option_map}
+use Rattle.std.specs.List.{list_all}
 use Rattle.std.proofs.lemmas.Bool.{ne_eqb}
 use Rattle.std.proofs.lemmas.Bool.Decides.{nat_tests}
 use Rattle.feed_answer.specs.declared.availability.Availability.{Availability}
@@ -10,8 +10,8 @@ use Rattle.feed_answer.specs.declared.grade.Grade.{Grade}
 use Rattle.feed_answer.specs.declared.grade.Grade.TheVariants.{Inside, Overlap, Untested}
 use Rattle.node_site.specs.Hosts.{is_link}
 use Rattle.node_hits.specs.Hits.{ReleaseHitValue, LinkValue, best_link, better, is_available, is_certain, is_full_text, is_inside, link_of, link_text, link_url, link_with, rank_of}
-use Rattle.node_hits.specs.Looks.{counted, found_in, row_limit}
-use Rattle.node_hits.specs.Tallies.{first_within, link_if_certain, shown_limit, sole_link, tally_of, text_limit, text_size}
+use Rattle.node_hits.specs.Looks.{FoundValue}
+use Rattle.node_hits.specs.Tallies.{counted, first_within, link_if_certain, shown_limit, sole_link, tally_of, text_limit, text_size}
 use Rattle.node_hits.specs.Laws.{IsSoleHit, SoleLinkIsOfSoleHit}
 
 and_left : (a b : Bool) → (a && b) ≡ true → a ≡ true
@@ -110,24 +110,22 @@ one_has found url is small =
     ∙ ap (λ b. option_map link_url (if b then Some (link_with (rank_of found) (link_text found)) else None)) linked
     ∙ ap Some (sym is.means)
 
--- so few rows that all are looked at
-all_looked : (looks : List (Option ReleaseHitValue)) → length looks ≤ row_limit → counted looks ≡ found_in looks
-all_looked looks few = ap found_in (take_all row_limit looks few)
-
 whole_sole : (whole one : Bool) (link : Option (List ℕ)) (url : List ℕ) → (if whole && one then link else None) ≡ Some url
     → (whole ≡ true) × ((if one then link else None) ≡ Some url)
 whole_sole true one link url is = (refl, is)
 whole_sole false one link url is = absurd (cc)
 
-sole_from : (looks : List (Option ReleaseHitValue)) (url : List ℕ) → sole_link (tally_of looks) ≡ Some url → IsSoleHit looks url
-sole_from looks url is =
-    let split = whole_sole (nat_le (length looks) row_limit) (length (counted looks) == 1) _ url is in
-    let few : length looks ≤ row_limit = (let test = split.0 in grind (arith, nat_tests, test)) in
-    let own = sole_only (counted looks) url split.1 in
+abbrev all_whole : List FoundValue → Bool
+all_whole founds = list_all (λ release. release.is_whole) founds
+
+sole_from : (founds : List FoundValue) (url : List ℕ) → sole_link (tally_of founds) ≡ Some url → IsSoleHit founds url
+sole_from founds url is =
+    let split = whole_sole (all_whole founds) (length (counted founds) == 1) _ url is in
+    let own = sole_only (counted founds) url split.1 in
     record {
       found = own.0;
-      all = few;
-      sole = sym (all_looked looks few) ∙ own.1;
+      all = split.0;
+      sole = own.1;
       available = own.2.available;
       inside = own.2.inside;
       full = own.2.full;
@@ -136,14 +134,12 @@ sole_from looks url is =
       means = own.2.means;
     }
 
-sole_has : (looks : List (Option ReleaseHitValue)) (url : List ℕ) (is : IsSoleHit looks url) → text_size is.found < text_limit → sole_link (tally_of looks) ≡ Some url
-sole_has looks url is small =
-    let few = is.all in
-    let test : nat_le (length looks) row_limit ≡ true = grind (arith, nat_tests, few) in
+sole_has : (founds : List FoundValue) (url : List ℕ) (is : IsSoleHit founds url) → text_size is.found < text_limit → sole_link (tally_of founds) ≡ Some url
+sole_has founds url is small =
     let own : IsSoleOne is.found url = record { available = is.available; inside = is.inside; full = is.full; whole = is.whole; link = is.link; means = is.means } in
-    ap (λ b. if b && (length (counted looks) == 1) then link_if_certain (tally_of looks).shown (tally_of looks).best else None) test
-    ∙ ap sole_of (all_looked looks is.all ∙ is.sole)
+    ap (λ b. if b && (length (counted founds) == 1) then link_if_certain (tally_of founds).shown (tally_of founds).best else None) is.all
+    ∙ ap sole_of is.sole
     ∙ one_has is.found url own small
 
 pub sole_is : SoleLinkIsOfSoleHit
-sole_is looks url = (sole_from looks url, sole_has looks url)
+sole_is founds url = (sole_from founds url, sole_has founds url)

@@ -1,6 +1,6 @@
 -- The laws of redirects and of hits in JSON.
-use Rattle.std.specs.Prelude.{◌≡◌, ◌↔◌, ◌<◌, ◌≤◌, ◌^◌, ℕ, List, [], ◌∷◌, Option, Some, true, All, length, take}
-use Rattle.std.specs.List.{Contains}
+use Rattle.std.specs.Prelude.{◌≡◌, ◌↔◌, ◌⊎◌, ◌<◌, ◌≤◌, ◌^◌, ◌/◌, max, min, ℕ, List, [], ◌∷◌, Option, Some, true, false, All, sum, sum_by}
+use Rattle.std.specs.List.{Contains, list_all}
 use Rattle.std.specs.List.Sorted.{IsStrictlyIncreasing}
 use Rattle.json.specs.Json.{document, array}
 use Rattle.json.specs.Value.{items_of}
@@ -24,12 +24,14 @@ use Rattle.feed_kbart.specs.HoldingsValue.{HoldingsValue}
 use Rattle.feed_kbart.specs.RowValue.{RowValue}
 use Rattle.node_hits.specs.Hits.{ReleaseHitValue, best_link, cited_in, is_for_hits, is_free, is_full_text, is_open_or_unknown, library_hits, link_text, may_be_full_text, page_text}
 use Rattle.node_hits.specs.Hits.{rank_of, release_hit}
-use Rattle.node_hits.specs.Looks.{asked_places, found_in, looks_in, row_limit}
+use Rattle.node_hits.specs.Looks.{FoundValue, asked_places, looks_in, release_found, text_looks}
+use Rattle.node_hits.specs.Shares.{having_rows, shares_of}
+use Rattle.node_hits.specs.declared.shares.Shares.{Shares}
 use Rattle.node_hits.specs.HitsJson.{hits_json, item_values}
 use Rattle.node_hits.specs.Searches.{SearchValue, compared}
 use Rattle.node_hits.specs.Ranks.{IsBestLink, IsPreferred}
-use Rattle.node_hits.specs.Tallies.{TallyValue, sole_link, tally_of, text_limit, text_size}
-use Rattle.node_hits.specs.Tallying.{looks_at, no_hits, with_looks, tally_from}
+use Rattle.node_hits.specs.Tallies.{TallyValue, counted, sole_link, tally_of, text_limit, text_size}
+use Rattle.node_hits.specs.Tallying.{no_hits, with_releases, tally_from}
 
 -- a redirect goes to a URL of `http` or `https` in visible ASCII, within the limit of a link
 abbrev pub RedirectsToLink : Type 0
@@ -70,12 +72,12 @@ BooksComeFirst = (site : site_file.SiteValue) (today : TodayValue) (search : Sea
     → search.is_book_first ≡ true → kind book.row.identifiers ≡ Book → kind serial.row.identifiers ≡ Serial
     → rank_of (release_hit site today search other_name serial) < rank_of (release_hit site today search name book)
 
--- all rows are looked at, and have a single hit: all days that are asked for are open, it covers the whole of what is asked
--- for, in full text, the library has all those days, and it may be linked to, by this link
-pub record IsSoleHit (looks : List (Option ReleaseHitValue)) (url : List ℕ) : Type 0 where
+-- no release may have more, and all have a single hit: all days that are asked for are open, it covers the whole of what is
+-- asked for, in full text, the library has all those days, and it may be linked to, by this link
+pub record IsSoleHit (founds : List FoundValue) (url : List ℕ) : Type 0 where
   pub found : ReleaseHitValue
-  pub all : length looks ≤ row_limit
-  pub sole : found_in looks ≡ found ∷ []
+  pub all : list_all (λ release. release.is_whole) founds ≡ true
+  pub sole : counted founds ≡ found ∷ []
   pub available : found.availability ≡ Available
   pub inside : found.hit.grade ≡ Inside
   pub full : is_full_text found.hit.row ≡ true
@@ -85,32 +87,45 @@ pub record IsSoleHit (looks : List (Option ReleaseHitValue)) (url : List ℕ) : 
 
 -- a sole link is that of such a hit; and such a hit has one, if its texts are within the limit of a response
 abbrev pub SoleLinkIsOfSoleHit : Type 0
-SoleLinkIsOfSoleHit = (looks : List (Option ReleaseHitValue)) (url : List ℕ)
-    → (sole_link (tally_of looks) ≡ Some url → IsSoleHit looks url)
-    × ((is : IsSoleHit looks url) → text_size is.found < text_limit → sole_link (tally_of looks) ≡ Some url)
+SoleLinkIsOfSoleHit = (founds : List FoundValue) (url : List ℕ)
+    → (sole_link (tally_of founds) ≡ Some url → IsSoleHit founds url)
+    × ((is : IsSoleHit founds url) → text_size is.found < text_limit → sole_link (tally_of founds) ≡ Some url)
 
--- what a tally says after the rows of a list were added one after another
+-- what a tally says after some releases were added one after another
 abbrev pub TallyTellsOfHits : Type 0
-TallyTellsOfHits = (looks : List (Option ReleaseHitValue)) → tally_from (with_looks no_hits looks) ≡ tally_of looks
+TallyTellsOfHits = (founds : List FoundValue) → tally_from (with_releases no_hits founds) ≡ tally_of founds
 
--- all rows of a release that have one of a search's identifiers have the hits of the core that are searched for and that the
--- library has, in their order
-abbrev pub LooksAreOfAnswer : Type 0
-LooksAreOfAnswer = (site : site_file.SiteValue) (today : TodayValue) (search : SearchValue) (name : Name) (holdings : HoldingsValue)
-    → found_in (looks_in site today search name holdings.rows) ≡ library_hits site today search name (answer_of holdings (compared search))
+-- the shares among releases with so many rows each. Each has an equal share of the rows at least, and of the texts. They look
+-- at no more than 5,000 rows in all, unless more releases than that have rows. All rows are looked at, if these are no more
+pub record AreShares (counts : List ℕ) (shares : Shares) : Type 0 where
+  pub equal : max 1 (5000 / max 1 (having_rows counts)) ≤ shares.rows
+  pub texts : shares.texts ≡ max 1 (5000 / max 1 (having_rows counts))
+  pub bounded : having_rows counts ≤ 5000 → sum_by (λ rows. min shares.rows rows) counts ≤ 5000
+  pub all : sum counts ≤ 5000 → All (λ rows. rows ≤ shares.rows) counts
+
+abbrev pub EachHasShare : Type 0
+EachHasShare = (counts : List ℕ) → AreShares counts (shares_of counts)
+
+-- a hit in a row that is looked at is counted, or its texts count and the release is not whole
+abbrev pub HitsAreFound : Type 0
+HitsAreFound = (shares : Shares) (site : site_file.SiteValue) (today : TodayValue) (search : SearchValue) (name : Name) (rows : List RowValue)
+    (found : ReleaseHitValue) → Contains (looks_in shares site today search name rows) (Some found)
+    → Contains (release_found shares site today search name rows).hits found
+    ⊎ ((0 < text_looks found.hit.row) × ((release_found shares site today search name rows).is_whole ≡ false))
+
+-- a release that is whole has exactly the hits of the core that are searched for and that the library has, in their order
+abbrev pub WholeIsOfAnswer : Type 0
+WholeIsOfAnswer = (shares : Shares) (site : site_file.SiteValue) (today : TodayValue) (search : SearchValue) (name : Name) (holdings : HoldingsValue)
+    → (release_found shares site today search name holdings.rows).is_whole ≡ true
+    → (release_found shares site today search name holdings.rows).hits ≡ library_hits site today search name (answer_of holdings (compared search))
 
 -- the places at which a search looks in a release ascend, and are those of the rows that have one of the query's identifiers
 pub record ArePlaces (query : QueryValue) (rows : List RowValue) : Type 0 where
   pub ascend : IsStrictlyIncreasing (asked_places query rows)
   pub same : (place : ℕ) → Contains (asked_places query rows) place ↔ Contains (places_among query rows) place
 
--- the first looks of a search, such as the first `row_limit`, are at the first places, at most as many
 abbrev pub LooksAreAtPlaces : Type 0
-LooksAreAtPlaces =
-    (site : site_file.SiteValue) (today : TodayValue) (search : SearchValue) (name : Name) (rows : List RowValue) (limit : ℕ)
-    → ArePlaces search.query rows
-    × (take limit (looks_in site today search name rows)
-    ≡ take limit (looks_at site today search name rows (take limit (asked_places search.query rows))))
+LooksAreAtPlaces = (query : QueryValue) (rows : List RowValue) → ArePlaces query rows
 
 -- the hits in JSON are, by its grammar (RFC 8259), an array with one object for each that is shown, in their order. It
 -- has one more if others are left out. The numbers fit in 64 bits
@@ -118,8 +133,8 @@ abbrev pub HitsAreJson : Type 0
 HitsAreJson = (tally : TallyValue) → All (λ found. found.hit.row.number < 2 ^ 64) tally.top → tally.count < 2 ^ 64
     → document (hits_json tally) ≡ Some (array (items_of (item_values tally)))
 
--- an answer in JSON is an object with the citation, the query that is looked up, the reason why none is, and the hits.
--- Its last member has the titles whose date is covered and whose volume is not
+-- an answer in JSON is an object with the citation, the query that is looked up, the reason why none is, and the hits. Its last
+-- members have the titles whose date is covered and whose volume is not, and the packages that may have more hits
 abbrev pub AnswerIsJson : Type 0
 AnswerIsJson = (ask : QueryFactsValue) (refused : List ℕ) (tally also : TallyValue)
     → All (λ found. found.hit.row.number < 2 ^ 64) tally.top → tally.count < 2 ^ 64

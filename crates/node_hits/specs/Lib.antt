@@ -1,6 +1,7 @@
 pub mod Hits
 pub mod Ranks
 pub mod Searches
+pub mod Shares
 pub mod Looks
 pub mod Merging
 pub mod Tallies

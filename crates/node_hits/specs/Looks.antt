@@ -1,42 +1,36 @@
 -- The rows that a search looks at, and what it finds in them.
-use Rattle.std.specs.Prelude.{ℕ, ◌+◌, ◌/◌, if◌then◌else◌, List, [], ◌∷◌, ◌++◌, Option, Some, None, filter, length, replicate, take}
-use Rattle.std.specs.List.{filter_map, flat_map}
+use Rattle.std.specs.Prelude.{ℕ, ◌+◌, ◌-◌, ◌/◌, ◌&&◌, nat_le, Bool, true, false, if◌then◌else◌, List, [], ◌∷◌, Option, Some, None, filter, length, map, take}
+use Rattle.std.specs.List.{filter_map}
 use Rattle.feed_answer.specs.Today.{TodayValue}
 use Rattle.feed_kbart.specs.Places.{places_by}
 use Rattle.feed_kbart.specs.RowValue.{RowValue}
 use Rattle.feed_names.specs.ReleaseName.{Name}
+use Rattle.node_site.specs.Held.{may_hold}
 use Rattle.node_site.specs.Site as site_file
-use Rattle.feed_answer.specs.Answers.{hit_by}
 use Rattle.feed_answer.specs.HitValue.{HitValue}
+use Rattle.feed_answer.specs.Places.{hit_at}
 use Rattle.feed_answer.specs.QueryValue.{QueryValue}
 use Rattle.node_hits.specs.Hits.{ReleaseHitValue, is_found, release_hit}
 use Rattle.node_hits.specs.Searches.{SearchValue, compared, is_asked}
+use Rattle.node_hits.specs.declared.shares.Shares.{Shares}
 
--- the most rows that are looked at for a query, in all releases together
-abbrev pub row_limit : ℕ
-row_limit = 5000
-
--- a row with long texts counts as one more for so many bytes of a text, since a search may read them all
+-- a hit with long texts counts for so many bytes of each, since a search may read them all
 abbrev pub look_size : ℕ
 look_size = 250
 
--- the looks that a row counts as beside its own, if there is a row
-abbrev pub more_looks : Option RowValue → ℕ
-more_looks None = 0
-more_looks (Some row) =
+-- what the texts of a row count as
+abbrev pub text_looks : RowValue → ℕ
+text_looks row =
     length row.title / look_size + length row.url / look_size + length row.title_id / look_size + length row.depth / look_size
     + length row.embargo / look_size + length row.access / look_size
 
--- what is found in a row, if there is one, behind the looks that it counts as more
-abbrev pub looks_of : Option RowValue → Option ReleaseHitValue → List (Option ReleaseHitValue)
-looks_of row look = replicate (more_looks row) None ++ look ∷ []
-
--- the rows that have one of the identifiers of a query, in file order, and their places
-abbrev pub asked_rows : QueryValue → List RowValue → List RowValue
-asked_rows query rows = filter (is_asked query) rows
-
+-- the places of the rows that have one of the identifiers of a query, in file order
 abbrev pub asked_places : QueryValue → List RowValue → List ℕ
 asked_places query rows = places_by (is_asked query) rows
+
+-- the same in a release: none if the library has nothing of its package
+abbrev pub open_places : site_file.SiteValue → Name → QueryValue → List RowValue → List ℕ
+open_places site name query rows = if may_hold site name.package_name then asked_places query rows else []
 
 -- a hit of the core in this release, if it is searched for and the library has it
 abbrev pub hit_found : site_file.SiteValue → TodayValue → SearchValue → Name → Option HitValue → Option ReleaseHitValue
@@ -44,19 +38,44 @@ hit_found site today search name None = None
 hit_found site today search name (Some hit) =
     if is_found site search name hit then Some (release_hit site today search name hit) else None
 
--- what a search finds in a row of this release
-abbrev pub look_at : site_file.SiteValue → TodayValue → SearchValue → Name → RowValue → Option ReleaseHitValue
-look_at site today search name row = hit_found site today search name (hit_by (compared search) row)
+-- what a search finds in the rows of a release at some places
+abbrev pub looks_at : site_file.SiteValue → TodayValue → SearchValue → Name → List RowValue → List ℕ → List (Option ReleaseHitValue)
+looks_at site today search name rows places =
+    map (λ place. hit_found site today search name (hit_at (compared search) rows place)) places
 
--- what it finds in each of the rows of this release that have one of its identifiers
-abbrev pub looks_in : site_file.SiteValue → TodayValue → SearchValue → Name → List RowValue → List (Option ReleaseHitValue)
-looks_in site today search name rows =
-    flat_map (λ row. looks_of (Some row) (look_at site today search name row)) (asked_rows search.query rows)
+-- what it finds in its first rows, as many as its share
+abbrev pub looks_in : Shares → site_file.SiteValue → TodayValue → SearchValue → Name → List RowValue → List (Option ReleaseHitValue)
+looks_in shares site today search name rows =
+    looks_at site today search name rows (take shares.rows (open_places site name search.query rows))
 
 -- the hits that are found
 abbrev pub found_in : List (Option ReleaseHitValue) → List ReleaseHitValue
 found_in looks = filter_map (λ look. look) looks
 
--- those in the rows that are looked at
-abbrev pub counted : List (Option ReleaseHitValue) → List ReleaseHitValue
-counted looks = found_in (take row_limit looks)
+-- those whose texts fit into a share; one that does not is skipped by itself
+abbrev pub fitting : ℕ → List (Option ReleaseHitValue) → List ReleaseHitValue
+fitting left [] = []
+fitting left (None ∷ more) = fitting left more
+fitting left (Some found ∷ more) =
+    if nat_le (text_looks found.hit.row) left then found ∷ fitting (left - text_looks found.hit.row) more else fitting left more
+
+-- none is skipped
+abbrev pub are_fitting : ℕ → List (Option ReleaseHitValue) → Bool
+are_fitting left [] = true
+are_fitting left (None ∷ more) = are_fitting left more
+are_fitting left (Some found ∷ more) =
+    if nat_le (text_looks found.hit.row) left then are_fitting (left - text_looks found.hit.row) more else false
+
+-- what a search finds in a release: the hits that are counted, and whether these are all
+pub record FoundValue : Type 0 where
+  pub name : Name
+  pub hits : List ReleaseHitValue
+  pub is_whole : Bool
+
+abbrev pub release_found : Shares → site_file.SiteValue → TodayValue → SearchValue → Name → List RowValue → FoundValue
+release_found shares site today search name rows = record {
+  name = name;
+  hits = fitting shares.texts (looks_in shares site today search name rows);
+  is_whole = nat_le (length (open_places site name search.query rows)) shares.rows
+      && are_fitting shares.texts (looks_in shares site today search name rows);
+}

@@ -1,8 +1,10 @@
--- The reply of SFX to a query: a target for each hit that is shown and has a safe link, and for each link of the library.
-use Rattle.std.specs.Prelude.{ℕ, ◌&&◌, ◌||◌, not, Bool, if◌then◌else◌, List, [], ◌++◌, Option, Some, None, codes, filter, map}
+-- The reply of SFX to a query: a target for each hit that is shown and has a safe link, and for each link of the library,
+-- and the packages that may have more hits.
+use Rattle.std.specs.Prelude.{ℕ, ◌-◌, ◌==◌, ◌&&◌, ◌||◌, not, Bool, if◌then◌else◌, List, [], ◌++◌, Option, Some, None, codes, filter, length, map, take}
 use Rattle.std.specs.List.{flat_map}
 use Rattle.feed_answer.specs.Pairs.{is_empty}
 use Rattle.feed_kbart.specs.RowValue.{RowValue}
+use Rattle.feed_names.specs.ReleaseName.{Name}
 use Rattle.feed_xml.specs.Elements.{leaf, number_leaf}
 use Rattle.feed_xml.specs.Marks.{Mark, element, xml_text}
 use Rattle.feed_xml.specs.declared.tags.TheConstants.{DECLARATION}
@@ -16,10 +18,11 @@ use Rattle.node_site.specs.declared.occasion.LinkUse.TheVariants.{Shown}
 use Rattle.node_hits.specs.Coverages.{days_words, volumes_words}
 use Rattle.node_hits.specs.EmbargoWords.{embargo_words}
 use Rattle.node_hits.specs.Hits.{ReleaseHitValue, is_abstracts, is_open, link_text}
-use Rattle.node_hits.specs.Tallies.{TallyValue, outcome_of}
+use Rattle.node_hits.specs.Tallies.{TallyValue, named_limit, outcome_of}
 use Rattle.node_hits.specs.declared.sfx_names.TheConstants.{CTX_OBJ_SET, CTX_OBJ, CTX_OBJ_ATTRIBUTES, CTX_OBJ_TARGETS, TARGET}
 use Rattle.node_hits.specs.declared.sfx_names.TheConstants.{TARGET_NAME, TARGET_PUBLIC_NAME, TARGET_SERVICE_ID, SERVICE_TYPE, TARGET_URL, PARSER, DISPLAYER, IS_RELATED, NO, NOTE}
 use Rattle.node_hits.specs.declared.sfx_names.TheConstants.{COVERAGE, COVERAGE_TEXT, THRESHOLD_TEXT, COVERAGE_STATEMENT, EMBARGO_TEXT, EMBARGO_STATEMENT}
+use Rattle.node_hits.specs.declared.sfx_names.TheConstants.{MORE_IN, PACKAGE, OTHERS}
 use Rattle.node_hits.specs.declared.sfx_names.TheConstants.{FULL_TEXT, ABSTRACT, WEB_SERVICE}
 
 -- the service of a target: its name, the one that readers see, a number, the type of its service, its address and a note
@@ -100,6 +103,10 @@ abbrev pub targets_of : SfxOptions → site_file.SiteValue → TallyValue → Ci
 targets_of options site tally cited =
     hit_targets options site tally.top ++ link_targets options (library_links site Shown (outcome_of tally) cited)
 
+-- the names that readers see of the packages that may have more hits
+abbrev pub more_of : site_file.SiteValue → List Name → List (List ℕ)
+more_of site names = map (λ (name : Name). shown_package site name.package_name) names
+
 -- ---- the document
 
 -- what a row covers in words, with its days before its volumes
@@ -152,22 +159,39 @@ unfoldable pub target_marks : TargetValue → List Mark
 target_marks target =
     element TARGET.now TARGET.now (names_marks target.service ++ (place_marks target.service ++ coverage_marks target.coverage))
 
--- the request with its targets
-abbrev pub request_marks : List TargetValue → List Mark
-request_marks targets =
-    leaf CTX_OBJ_ATTRIBUTES.now [] ++ element CTX_OBJ_TARGETS.now CTX_OBJ_TARGETS.now (flat_map target_marks targets)
+-- the name of a package that may have more hits, and how many are not named, if any are
+abbrev pub package_marks : List ℕ → List Mark
+package_marks name = leaf PACKAGE.now name
+
+abbrev pub others_marks : ℕ → List Mark
+others_marks count = if count == 0 then [] else number_leaf OTHERS.now count
+
+-- the first packages that may have more, and how many others there are
+abbrev pub named_marks : List (List ℕ) → List Mark
+named_marks more = flat_map package_marks (take named_limit more) ++ others_marks (length more - named_limit)
+
+-- the same as an element, if there are any
+unfoldable pub more_marks : List (List ℕ) → List Mark
+more_marks more = if is_empty more then [] else element MORE_IN.now MORE_IN.now (named_marks more)
+
+-- the request with its targets, and behind them the packages that may have more
+abbrev pub request_marks : List TargetValue → List (List ℕ) → List Mark
+request_marks targets more =
+    leaf CTX_OBJ_ATTRIBUTES.now []
+    ++ (element CTX_OBJ_TARGETS.now CTX_OBJ_TARGETS.now (flat_map target_marks targets) ++ more_marks more)
 
 -- the root element
-abbrev pub reply_marks : List TargetValue → List Mark
-reply_marks targets = element CTX_OBJ_SET.now CTX_OBJ_SET.now (element CTX_OBJ.now CTX_OBJ.now (request_marks targets))
+abbrev pub reply_marks : List TargetValue → List (List ℕ) → List Mark
+reply_marks targets more =
+    element CTX_OBJ_SET.now CTX_OBJ_SET.now (element CTX_OBJ.now CTX_OBJ.now (request_marks targets more))
 
 -- the document: a declaration, the root element, and the end of a line
-abbrev pub reply_text : List TargetValue → List ℕ
-reply_text targets = DECLARATION.now ++ (xml_text (reply_marks targets) ++ codes "\n")
+abbrev pub reply_text : List TargetValue → List (List ℕ) → List ℕ
+reply_text targets more = DECLARATION.now ++ (xml_text (reply_marks targets more) ++ codes "\n")
 
 -- the reply to a query, and the one without a target
 unfoldable pub sfx_reply : SfxOptions → site_file.SiteValue → TallyValue → CitedTitleValue → List ℕ
-sfx_reply options site tally cited = reply_text (targets_of options site tally cited)
+sfx_reply options site tally cited = reply_text (targets_of options site tally cited) (more_of site tally.partial)
 
 unfoldable pub no_targets : List ℕ
-no_targets = reply_text []
+no_targets = reply_text [] []

@@ -1,17 +1,22 @@
 -- The hits of a query that a response counts, shows and chooses from.
-use Rattle.std.specs.Prelude.{ℕ, ◌+◌, ◌-◌, ◌==◌, ◌&&◌, nat_lt, nat_le, Bool, if◌then◌else◌, List, [], ◌∷◌, length, filter, Option, None}
-use Rattle.std.specs.List.{list_any}
+use Rattle.std.specs.Prelude.{ℕ, ◌+◌, ◌-◌, ◌==◌, ◌&&◌, nat_lt, Bool, if◌then◌else◌, List, [], ◌∷◌, length, filter, Option, None}
+use Rattle.std.specs.List.{flat_map, list_all, list_any}
 use Rattle.std.specs.Option.{option_or}
 use Rattle.node_site.specs.Proxies.{room_of}
 use Rattle.node_site.specs.declared.occasion.SearchOutcome.{SearchOutcome}
 use Rattle.node_site.specs.declared.occasion.SearchOutcome.TheVariants as outcome
+use Rattle.feed_names.specs.ReleaseName.{Name}
 use Rattle.node_hits.specs.Hits.{ReleaseHitValue, article_text, name_text, best_link, is_certain, is_open}
-use Rattle.node_hits.specs.Looks.{counted, row_limit}
+use Rattle.node_hits.specs.Looks.{FoundValue}
 use Rattle.node_hits.specs.Ranks.{ranked}
 
 -- the most hits that a response shows
 abbrev pub shown_limit : ℕ
 shown_limit = 1000
+
+-- the most packages that a response names
+abbrev pub named_limit : ℕ
+named_limit = 5
 
 -- the texts of the hits that a response shows have fewer bytes than this
 abbrev pub text_limit : ℕ
@@ -33,30 +38,41 @@ first_within places bytes (found ∷ more) =
     else []
 
 -- what a response needs to know of the hits of a query: text shows the first ones, JSON and a page those of the highest
--- ranks; the best link of all hits, the best link of open hits, and whether there is an open hit
+-- ranks; whether these are all hits of all releases, and the releases that may have more; the best link of all hits, the best
+-- link of open hits, and whether there is an open hit
 pub record TallyValue : Type 0 where
   pub count : ℕ
   pub is_whole : Bool
+  pub partial : List Name
   pub shown : List ReleaseHitValue
   pub top : List ReleaseHitValue
   pub best : Option (List ℕ)
   pub best_open : Option (List ℕ)
   pub has_open : Bool
 
--- the tally of what a search finds in the rows that have one of its identifiers: how many hits are in those that are looked
--- at, whether all rows are, the first hits, those of the highest ranks, the best links among them, and whether one is open
-abbrev pub tally_of : List (Option ReleaseHitValue) → TallyValue
-tally_of looks = record {
-  count = length (counted looks);
-  is_whole = nat_le (length looks) row_limit;
-  shown = first_within shown_limit text_limit (counted looks);
-  top = first_within shown_limit text_limit (ranked (counted looks));
-  best = best_link (counted looks);
-  best_open = best_link (filter is_open (counted looks));
-  has_open = list_any is_open (counted looks);
+-- the hits in some releases
+abbrev pub counted : List FoundValue → List ReleaseHitValue
+counted founds = flat_map (λ found. found.hits) founds
+
+-- the release, if more may be in it
+abbrev pub partial_name : FoundValue → List Name
+partial_name found = if found.is_whole then [] else found.name ∷ []
+
+-- the tally of what a search finds in releases: how many hits there are, whether these are all, the releases that may have
+-- more, the first hits, those of the highest ranks, the best links among them, and whether one is open
+abbrev pub tally_of : List FoundValue → TallyValue
+tally_of founds = record {
+  count = length (counted founds);
+  is_whole = list_all (λ found. found.is_whole) founds;
+  partial = flat_map partial_name founds;
+  shown = first_within shown_limit text_limit (counted founds);
+  top = first_within shown_limit text_limit (ranked (counted founds));
+  best = best_link (counted founds);
+  best_open = best_link (filter is_open (counted founds));
+  has_open = list_any is_open (counted founds);
 }
 
--- the outcome of a search. It is unknown if no open hit is found and more rows are left
+-- the outcome of a search. It is unknown if no open hit is found and a release may have more
 abbrev pub outcome_of : TallyValue → SearchOutcome
 outcome_of tally =
     if tally.has_open then outcome.Hits
@@ -72,7 +88,7 @@ abbrev pub link_if_certain : List ReleaseHitValue → Option (List ℕ) → Opti
 link_if_certain [] link = None
 link_if_certain (found ∷ more) link = if is_certain found then link else None
 
--- the link of the sole hit, if all rows are looked at, there is only one and a reader may be sent there without a choice
+-- the link of the sole hit, if no release may have more, there is only one and a reader may be sent there without a choice
 abbrev pub sole_link : TallyValue → Option (List ℕ)
 sole_link tally = if tally.is_whole && (tally.count == 1) then link_if_certain tally.shown tally.best else None
 

@@ -1,17 +1,11 @@
--- How a tally is made, one row after another.
-use Rattle.std.specs.Prelude.{ℕ, ◌+◌, ◌-◌, ◌<◌, ◌≤◌, ◌&&◌, ◌||◌, ◌==◌, nat_lt, Bool, true, false, if◌then◌else◌, List, [], ◌∷◌, ◌++◌, Option, Some, None, fold}
-use Rattle.std.specs.Prelude.{insert, length, option_map, reverse, slice_get, take}
-use Rattle.std.specs.List.{flat_map}
+-- How a tally is made, one release after another.
+use Rattle.std.specs.Prelude.{ℕ, ◌+◌, ◌-◌, ◌<◌, ◌≤◌, ◌&&◌, ◌||◌, nat_lt, Bool, true, false, if◌then◌else◌, List, [], ◌∷◌, ◌++◌, Option, None, fold}
+use Rattle.std.specs.Prelude.{insert, length, option_map, reverse, take}
 use Rattle.node_hits.specs.Hits.{LinkValue, ReleaseHitValue, better, is_open, link_of, link_url, rank_of}
 use Rattle.std.specs.List.Sorted.{IsNonDecreasingBy, IsPartitionPoint}
 use Rattle.node_hits.specs.Ranks.{rank_limit}
-use Rattle.feed_answer.specs.Places.{hit_at}
-use Rattle.feed_answer.specs.Today.{TodayValue}
-use Rattle.feed_kbart.specs.RowValue.{RowValue}
 use Rattle.feed_names.specs.ReleaseName.{Name}
-use Rattle.node_site.specs.Site as site_file
-use Rattle.node_hits.specs.Searches.{SearchValue, compared}
-use Rattle.node_hits.specs.Looks.{hit_found, looks_of, row_limit}
+use Rattle.node_hits.specs.Looks.{FoundValue}
 use Rattle.node_hits.specs.Tallies.{TallyValue, first_within, shown_limit, text_limit, text_size}
 
 -- the hits that are shown, and how many more and with how many bytes may be
@@ -68,76 +62,66 @@ kept_above rank hits = reverse (skip_below rank (reverse hits))
 abbrev pub with_top : List ReleaseHitValue → ReleaseHitValue → List ReleaseHitValue
 with_top top found = take shown_limit (insert top (length (kept_above (rank_of found) top)) found)
 
--- a tally that is being made: how many more rows are looked at, whether all were so far, how many hits were found, and what is
--- known of them
+-- a tally that is being made: whether all hits of the releases so far are counted, which releases may have more, how many hits
+-- were found, and what is known of them
 pub record RunningValue : Type 0 where
-  pub left : ℕ
   pub is_whole : Bool
+  pub partial : List Name
   pub count : ℕ
   pub shown : ShownValue
   pub top : List ReleaseHitValue
   pub links : LinksValue
 
--- before the first row
+-- before the first release
 abbrev pub no_hits : RunningValue
 no_hits = record {
-  left = row_limit;
   is_whole = true;
+  partial = [];
   count = 0;
   shown = record { hits = []; places = shown_limit; bytes = text_limit };
   top = [];
   links = no_links;
 }
 
--- one row more than are looked at: no later row is
-abbrev pub cut_off : RunningValue → RunningValue
-cut_off running = record {
-  left = running.left;
-  is_whole = false;
-  count = running.count;
-  shown = running.shown;
-  top = running.top;
-  links = running.links;
-}
-
--- one row more that is looked at, and what is found in it
-abbrev pub with_found : RunningValue → Option ReleaseHitValue → RunningValue
-with_found running None = record {
-  left = running.left - 1;
+-- one hit more
+abbrev pub with_hit : RunningValue → ReleaseHitValue → RunningValue
+with_hit running found = record {
   is_whole = running.is_whole;
-  count = running.count;
-  shown = running.shown;
-  top = running.top;
-  links = running.links;
-}
-with_found running (Some found) = record {
-  left = running.left - 1;
-  is_whole = running.is_whole;
+  partial = running.partial;
   count = running.count + 1;
   shown = with_shown running.shown found;
   top = with_top running.top found;
   links = with_links running.links found;
 }
 
--- one row more
-abbrev pub with_look : RunningValue → Option ReleaseHitValue → RunningValue
-with_look running look =
-    if running.is_whole then (if running.left == 0 then cut_off running else with_found running look) else running
+abbrev pub with_hits : RunningValue → List ReleaseHitValue → RunningValue
+with_hits running hits = fold with_hit running hits
 
--- all the rows of a list, in order
-abbrev pub with_looks : RunningValue → List (Option ReleaseHitValue) → RunningValue
-with_looks running looks = fold with_look running looks
+-- the end of a release, by whether all its hits are counted
+abbrev pub with_end : RunningValue → Name → Bool → RunningValue
+with_end running name is_whole = record {
+  is_whole = running.is_whole && is_whole;
+  partial = running.partial ++ (if is_whole then [] else name ∷ []);
+  count = running.count;
+  shown = running.shown;
+  top = running.top;
+  links = running.links;
+}
 
--- what a search finds in the rows of a release at these places
-abbrev pub looks_at : site_file.SiteValue → TodayValue → SearchValue → Name → List RowValue → List ℕ → List (Option ReleaseHitValue)
-looks_at site today search name rows places =
-    flat_map (λ place. looks_of (slice_get rows place) (hit_found site today search name (hit_at (compared search) rows place))) places
+-- one release more
+abbrev pub with_release : RunningValue → FoundValue → RunningValue
+with_release running found = with_end (with_hits running found.hits) found.name found.is_whole
 
--- the tally of the rows so far
+-- all the releases of a list, in order
+abbrev pub with_releases : RunningValue → List FoundValue → RunningValue
+with_releases running founds = fold with_release running founds
+
+-- the tally of the releases so far
 abbrev pub tally_from : RunningValue → TallyValue
 tally_from running = record {
   count = running.count;
   is_whole = running.is_whole;
+  partial = running.partial;
   shown = running.shown.hits;
   top = first_within shown_limit text_limit running.top;
   best = option_map link_url running.links.all;

@@ -21,9 +21,7 @@ use feed_answer::{Availability, Grade, Hit, Query, Today, availability_of};
 use feed_dates::DayRange;
 use feed_kbart::{Holdings, Kind, Row};
 use feed_names::ReleaseName;
-use node_site::{
-    SiteFile, article_link, is_direct, left_beside, library_has, may_be_link, note_on, proxied,
-};
+use node_site::{SiteFile, is_direct, left_beside, library_has, may_be_link, note_on, proxied};
 use std::alloc::{AllocError, Global};
 use std::borrow::CowSlice;
 use std::marker::Model;
@@ -88,12 +86,13 @@ impl<'a> ReleaseHit<'a> {
         alloc: Global,
         release: &LibraryRelease<'a>,
         site_place: usize,
-        search: &Search<'_>,
+        search: &mut Search<'_>,
         hit: &Hit<'a>,
     ) -> Result<ReleaseHit<'a>, AllocError>
         requires { site_place ≡ package_place release.now.site.now release.now.name.now.package_name }
-        ensures { IfOk result (λ found. found
-            ≡ release_hit release.now.site.now release.now.today.now search.now release.now.name.now
+        ensures same { search.new ≡ search.old }
+        ensures hit { IfOk result (λ found. found
+            ≡ release_hit release.now.site.now release.now.today.now search.old release.now.name.now
             (hit_of hit.now)) }
     {
         let (site, name, row) = (release.site, release.name, hit.row);
@@ -309,17 +308,17 @@ fn leads_to_article(scope: Scope, availability: Availability, row: &Row) -> bool
 fn article_of(
     alloc: Global,
     site: &SiteFile,
-    search: &Search<'_>,
+    search: &mut Search<'_>,
     availability: Availability,
     name: &ReleaseName,
     row: &Row,
 ) -> Result<Option<Vec<u8>>, AllocError>
-    ensures { IfOk result (λ link. option_map (λ text. text.items) link
-        ≡ article_of site.now search.now availability name.now row.now) }
+    ensures same { search.new ≡ search.old }
+    ensures link { IfOk result (λ link. option_map (λ text. text.items) link
+        ≡ article_of site.now search.old availability name.now row.now) }
 {
     if leads_to_article(search.scope(), availability, row) {
-        let (package_id, cited) = (name.package(), search.cited(row));
-        article_link(alloc, site, package_id, row.url(), is_free(row), &cited)
+        search.article_link(alloc, site, name, row)
     } else {
         Ok(None)
     }

@@ -1,14 +1,14 @@
 //! Writes the hits of a query in a release as text.
-ghost use Rattle.std.specs.Prelude.{◌≡◌, ◌++◌, OnOk, drop, true};
+ghost use Rattle.std.specs.Prelude.{◌≡◌, ◌≤◌, ◌++◌, OnOk, drop, true};
 ghost use Rattle.std.specs.List.{flat_map};
 ghost use Rattle.feed_names.specs.ReleaseName.{text_of};
 ghost use Rattle.node_hits.specs.HitsText.{cut_head_line, release_head_line, release_hit_line, release_text};
-ghost use Rattle.node_hits.specs.Looks.{looks_in};
-ghost use Rattle.node_hits.specs.Tallying.{tally_from, with_looks};
+ghost use Rattle.node_hits.specs.Looks.{release_found};
+ghost use Rattle.node_hits.specs.Tallying.{tally_from, with_release};
 
 use crate::hits::{LibraryRelease, ReleaseHit};
-use crate::lookup::Lookup;
 use crate::search::Search;
+use crate::shares::Shares;
 use crate::tally::Tally;
 use feed_answer::{write_head, write_hit};
 use feed_bytes::put_all;
@@ -80,27 +80,31 @@ fn put_head(
     }
 }
 
-/// Adds the hits of a query in a release that the library has to a tally, and writes the answer of the release: the
-/// number of its hits, and a line for each that the tally shows.
+/// Adds the hits of a search in a release that the library has to a tally, and writes the answer of the release: the
+/// number of its hits, whether these are all, and a line for each that the tally shows.
 #[tactic(auto, unfolding(crate::specs::HitsText::release_text))]
 pub fn put_release<'a>(
     alloc: Global,
     out: &mut Vec<u8>,
     tally: &mut Tally<'a>,
     release: &LibraryRelease<'a>,
-    lookup: &Lookup<'_>,
+    search: &mut Search<'_>,
+    shares: Shares,
 ) -> Result<(), AllocError>
+    requires { shares.rows ≤ 10000 }
+    ensures same { search.new ≡ search.old }
     ensures tally { OnOk result (tally.new
-        ≡ with_looks tally.old (looks_in release.now.site.now release.now.today.now lookup.now release.now.name.now
-        release.now.holdings.now.rows)) }
+        ≡ with_release tally.old (release_found shares release.now.site.now release.now.today.now search.old
+        release.now.name.now release.now.holdings.now.rows)) }
     ensures text { OnOk result (out.new.items
         ≡ out.old.items ++ release_text (tally_from tally.old) (tally_from tally.new) release.now.name.now) }
 {
     let counted = tally.count();
     let shown = tally.shown().len();
-    let search = Search::of(lookup);
-    tally.add_release(alloc, release, &search)?;
+    let partial = tally.partial().len();
+    tally.add_release(alloc, release, search, shares)?;
     let count = tally.count().saturating_sub(counted);
-    put_head(out, release.name, count, tally.is_whole())?;
+    let is_whole = tally.partial().len() == partial;
+    put_head(out, release.name, count, is_whole)?;
     put_lines(out, hits_from(tally.shown(), shown))
 }

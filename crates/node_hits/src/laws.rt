@@ -1,8 +1,8 @@
 //! Laws of hits, each stated as the contract of a function with an empty body.
 ghost use Rattle.node_hits.specs.Laws.{AnswerIsJson, ArticlesComeFirst, BestLinkRanksHighest, BooksComeFirst};
-ghost use Rattle.node_hits.specs.Laws.{HitsAreJson};
-ghost use Rattle.node_hits.specs.Laws.{LinksAreProxied, LooksAreAtPlaces, LooksAreOfAnswer, RanksInOrder};
-ghost use Rattle.node_hits.specs.Laws.{RedirectsToLink, SoleLinkIsOfSoleHit, TallyTellsOfHits};
+ghost use Rattle.node_hits.specs.Laws.{EachHasShare, HitsAreFound, HitsAreJson};
+ghost use Rattle.node_hits.specs.Laws.{LinksAreProxied, LooksAreAtPlaces, RanksInOrder};
+ghost use Rattle.node_hits.specs.Laws.{RedirectsToLink, SoleLinkIsOfSoleHit, TallyTellsOfHits, WholeIsOfAnswer};
 
 /// The URL of a redirect is one of `http` or `https` in at most 8,000 bytes of visible ASCII, so no byte of a file can
 /// end a line of a response's head.
@@ -44,20 +44,32 @@ pub fn sole_link_is_of_sole_hit()
     ensures { SoleLinkIsOfSoleHit }
 {}
 
-/// A tally that is made row by row says how many hits there are in the rows that are looked at, the first ones, those
-/// of the highest ranks, and the best link.
+/// A tally that is made release by release says how many hits there are, whether these are all, which releases may have
+/// more, the first hits, those of the highest ranks, and the best link.
 pub fn tally_tells_of_hits()
     ensures { TallyTellsOfHits }
 {}
 
-/// All rows of a release that have one of a search's identifiers have the hits of the core that are searched for and
-/// that the library has, in their order.
-pub fn looks_are_of_answer()
-    ensures { LooksAreOfAnswer }
+/// Of each release the first rows are looked at: 5,000 divided by the number of releases with rows of the query, and at
+/// least one, whatever the others have. In all releases together they are at most 5,000; if these have no more rows,
+/// all are looked at.
+pub fn each_has_share()
+    ensures { EachHasShare }
 {}
 
-/// A search looks at the rows that have one of the query's identifiers, in ascending order and at each once. Its first
-/// looks are at the first of their places.
+/// A hit in the rows that are looked at is counted, unless its texts count: then it may be skipped, and the release is
+/// not whole.
+pub fn hits_are_found()
+    ensures { HitsAreFound }
+{}
+
+/// A release that is whole has exactly the hits of the core that are searched for and that the library has, in their
+/// order.
+pub fn whole_is_of_answer()
+    ensures { WholeIsOfAnswer }
+{}
+
+/// A search looks at the rows that have one of the query's identifiers, in ascending order and at each once.
 pub fn looks_are_at_places()
     ensures { LooksAreAtPlaces }
 {}
@@ -69,7 +81,7 @@ pub fn hits_are_json()
 {}
 
 /// An answer in JSON is, by its grammar, an object with the citation, the query that is looked up, the reason why none
-/// is, the hits, and the titles whose date is covered and whose volume is not.
+/// is, the hits, the titles whose date is covered and whose volume is not, and the packages that may have more hits.
 pub fn answer_is_json()
     ensures { AnswerIsJson }
 {}

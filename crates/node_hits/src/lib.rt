@@ -20,10 +20,13 @@ mod row_places;
 mod search;
 mod sfx;
 mod sfx_laws;
+mod sfx_more;
 mod sfx_names;
 mod sfx_target;
+mod shares;
 mod shown;
 mod tally;
+mod text_room;
 mod top;
 
 pub use answer_json::put_answer_json;
@@ -32,9 +35,9 @@ pub use hits::{LibraryRelease, ReleaseHit, name_text};
 pub use hits_json::put_release_members;
 pub use hits_text::put_release;
 pub use laws::{
-    answer_is_json, articles_come_first, best_link_ranks_highest, books_come_first, hits_are_json,
-    links_are_proxied, looks_are_at_places, looks_are_of_answer, ranks_in_order, redirects_to_link,
-    sole_link_is_of_sole_hit, tally_tells_of_hits,
+    answer_is_json, articles_come_first, best_link_ranks_highest, books_come_first, each_has_share,
+    hits_are_found, hits_are_json, links_are_proxied, looks_are_at_places, ranks_in_order,
+    redirects_to_link, sole_link_is_of_sole_hit, tally_tells_of_hits, whole_is_of_answer,
 };
 pub use lookup::Lookup;
 pub use query_facts::{QueryFacts, is_blank, names_work};
@@ -44,7 +47,9 @@ pub use received_openurl::ReceivedOpenUrl;
 pub use search::{Scope, Search};
 pub use sfx::{put_no_targets, put_sfx};
 pub use sfx_laws::{
-    full_texts_are_alone, reply_has_targets, sfx_is_balanced, sfx_reads_back,
+    full_texts_are_alone, reply_has_targets, reply_names_more, sfx_is_balanced, sfx_reads_back,
     targets_are_hits_and_links, targets_are_links,
 };
+pub use shares::{ROW_LIMIT, Shares, equal_share, row_count};
+pub use shown::NAMED_LIMIT;
 pub use tally::Tally;

@@ -2,15 +2,18 @@
 ghost use Rattle.std.specs.Prelude.{◌≡◌, IfOk, option_map, take};
 ghost use Rattle.feed_answer.specs.Places.{listed};
 ghost use Rattle.feed_kbart.specs.Places.{has_isbn, has_issn};
-ghost use Rattle.node_hits.specs.Looks.{asked_places};
+ghost use Rattle.node_hits.specs.Looks.{asked_places, open_places};
 ghost use Rattle.node_hits.specs.Merging.{merged, next_place, with_each};
 
+use crate::hits::LibraryRelease;
 use feed_answer::{Query, RowPlaces};
 use feed_identifiers::{Isbn, Issn};
 use feed_kbart::Holdings;
+use node_site::may_hold;
 use std::alloc::{AllocError, Global};
 
-fn front(places: &[u32], limit: usize) -> &[u32]
+/// Returns the first of some places.
+pub(crate) fn front(places: &[u32], limit: usize) -> &[u32]
     ensures { result.now ≡ take limit places.now }
 {
     &places[..places.len().min(limit)]
@@ -99,9 +102,9 @@ fn with_isbns(
     Ok(all)
 }
 
-/// Returns the places of the first rows that have one of the identifiers of a query. Those of one identifier are a part
-/// of the index, and take no memory.
-pub(crate) fn first_places<'a>(
+// Returns the places of the first rows that have one of the identifiers of a query. Those of one identifier are a part
+// of the index, and take no memory.
+fn first_places<'a>(
     alloc: Global,
     holdings: &'a Holdings,
     query: &Query,
@@ -117,5 +120,25 @@ pub(crate) fn first_places<'a>(
     } else {
         let places = with_issns(alloc, Vec::new(alloc), holdings, issns, limit)?;
         Ok(RowPlaces::Merged(with_isbns(alloc, places, holdings, isbns, limit)?))
+    }
+}
+
+/// Returns the places of the first rows of a release that have one of the identifiers of a query. There are none if the
+/// library has nothing of the package.
+pub(crate) fn open_places<'a>(
+    alloc: Global,
+    release: &LibraryRelease<'a>,
+    query: &Query,
+    limit: usize,
+) -> Result<RowPlaces<'a>, AllocError>
+    ensures { IfOk result (λ places. listed places
+        ≡ take limit (open_places release.now.site.now release.now.name.now query.now
+        release.now.holdings.now.rows)) }
+{
+    let places = first_places(alloc, release.holdings, query, limit)?;
+    if places.as_slice().is_empty() || may_hold(release.site, release.name.package()) {
+        Ok(places)
+    } else {
+        Ok(RowPlaces::Indexed(&[]))
     }
 }

@@ -1,21 +1,26 @@
-//! Writes the reply of SFX to a query: its hits and the links of the library as targets.
-ghost use Rattle.std.specs.Prelude.{◌≡◌, ◌++◌, OnOk};
+//! Writes the reply of SFX to a query: its hits and the links of the library as targets, and the packages that may have
+//! more hits.
+ghost use Rattle.std.specs.Prelude.{◌≡◌, ◌++◌, OnOk, map};
 ghost use Rattle.std.specs.List.{flat_map};
 ghost use Rattle.node_site.specs.LibraryLinks.{library_links};
 ghost use Rattle.node_site.specs.declared.occasion.LinkUse.TheVariants.{Shown};
-ghost use Rattle.node_hits.specs.Sfx.{hit_service, is_asked, link_service, no_targets, service_of, sfx_reply};
-ghost use Rattle.node_hits.specs.SfxTexts.{end_text, hit_text, linked_text, start_text, way_text, ways_text};
+ghost use Rattle.node_hits.specs.Sfx.{hit_service, is_asked, link_service, more_of, no_targets, service_of};
+ghost use Rattle.node_hits.specs.Sfx.{sfx_reply};
+ghost use Rattle.node_hits.specs.SfxTexts.{behind_text, end_text, hit_text, linked_text, start_text, way_text};
+ghost use Rattle.node_hits.specs.SfxTexts.{ways_text};
 ghost use Rattle.node_hits.specs.Tallying.{tally_from};
 
 use crate::hits::ReleaseHit;
 use crate::rank::is_abstracts;
 use crate::ranked_hit::RankedHit;
+use crate::sfx_more::put_more;
 use crate::sfx_names::{
     ABSTRACT, CTX_OBJ, CTX_OBJ_ATTRIBUTES, CTX_OBJ_SET, CTX_OBJ_TARGETS, FULL_TEXT, WEB_SERVICE,
 };
 use crate::sfx_target::{Service, put_plain_target, put_row_target};
 use crate::tally::Tally;
 use feed_kbart::Row;
+use feed_names::ReleaseName;
 use feed_xml::{DECLARATION, put_closed, put_leaf, put_opened};
 use node_request::SfxOptions;
 use node_response::put;
@@ -168,13 +173,24 @@ fn put_start(out: &mut Vec<u8>) -> Result<(), AllocError>
 fn put_end(out: &mut Vec<u8>) -> Result<(), AllocError>
     ensures { OnOk result (out.new.items ≡ out.old.items ++ end_text) }
 {
-    put_closed(out, CTX_OBJ_TARGETS)?;
     put_closed(out, CTX_OBJ)?;
     put_closed(out, CTX_OBJ_SET)?;
     put(out, b"\n")
 }
 
-/// Writes the reply of SFX for the hits that a tally shows, and for the links of the library to what is cited.
+// Writes what is behind the targets.
+#[tactic(auto, unfolding(crate::specs::SfxTexts::behind_text))]
+fn put_behind(out: &mut Vec<u8>, site: &SiteFile, names: &[&ReleaseName]) -> Result<(), AllocError>
+    ensures { OnOk result (out.new.items
+        ≡ out.old.items ++ behind_text (more_of site.now (map (λ name. name.now) names.now))) }
+{
+    put_closed(out, CTX_OBJ_TARGETS)?;
+    put_more(out, site, names)?;
+    put_end(out)
+}
+
+/// Writes the reply of SFX for the hits that a tally shows, for the links of the library to what is cited, and for the
+/// packages that may have more hits.
 ///
 /// # Errors
 ///
@@ -192,7 +208,7 @@ pub fn put_sfx(
     put_start(out)?;
     put_hits(out, options, site, tally.top())?;
     put_ways(out, options, site, tally.outcome(), cited)?;
-    put_end(out)
+    put_behind(out, site, tally.partial())
 }
 
 /// Writes the reply without a target.
@@ -204,5 +220,6 @@ pub fn put_no_targets(out: &mut Vec<u8>) -> Result<(), AllocError>
     ensures { OnOk result (out.new.items ≡ out.old.items ++ no_targets) }
 {
     put_start(out)?;
+    put_closed(out, CTX_OBJ_TARGETS)?;
     put_end(out)
 }

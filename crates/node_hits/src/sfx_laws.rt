@@ -1,6 +1,6 @@
 //! Laws of the reply of SFX, each stated as the contract of a function with an empty body.
-ghost use Rattle.node_hits.specs.SfxLaws.{FullTextsAreAlone, ReplyHasTargets, SfxIsBalanced, SfxReadsBack};
-ghost use Rattle.node_hits.specs.SfxLaws.{TargetsAreHitsAndLinks, TargetsAreLinks};
+ghost use Rattle.node_hits.specs.SfxLaws.{FullTextsAreAlone, ReplyHasTargets, ReplyNamesMore, SfxIsBalanced};
+ghost use Rattle.node_hits.specs.SfxLaws.{SfxReadsBack, TargetsAreHitsAndLinks, TargetsAreLinks};
 
 /// A reader of XML gets the tags and the characters of a reply back from the text after the declaration. So no `<`, `>`
 /// or `&` of an address or of another text is read as markup.
@@ -13,9 +13,16 @@ pub fn sfx_is_balanced()
     ensures { SfxIsBalanced }
 {}
 
-/// A reader finds the address, the type and the public name of each target, in their order, and no others.
+/// A reader finds the address, the type and the public name of each target, in their order, and no others, whatever
+/// packages may have more.
 pub fn reply_has_targets()
     ensures { ReplyHasTargets }
+{}
+
+/// A reader finds the names of the first five packages that may have more, in their order and no others, and how many
+/// more there are.
+pub fn reply_names_more()
+    ensures { ReplyNamesMore }
 {}
 
 /// The targets are the hits that are shown and may be linked to, in the order of their ranks, each with its link, and

@@ -52,6 +52,16 @@ pub(crate) const EMBARGO_TEXT: &[u8] = b"embargo_text";
 
 pub(crate) const EMBARGO_STATEMENT: &[u8] = b"embargo_statement";
 
+/// The packages that may have more hits. SFX has no such element: it is outside of the list of targets, so that clients
+/// skip it.
+pub(crate) const MORE_IN: &[u8] = b"more_in";
+
+/// The name of such a package that readers see.
+pub(crate) const PACKAGE: &[u8] = b"package";
+
+/// How many others there are. It is there only if there are any.
+pub(crate) const OTHERS: &[u8] = b"others";
+
 /// The service of a hit, unless it is abstracts.
 pub(crate) const FULL_TEXT: &[u8] = b"getFullTxt";
 

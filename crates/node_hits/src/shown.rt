@@ -11,6 +11,9 @@ use std::marker::Model;
 // The most hits that a response shows.
 pub(crate) const SHOWN_LIMIT: usize = 1_000;
 
+/// The most packages that a response names.
+pub const NAMED_LIMIT: usize = 5;
+
 // The texts of the hits that a response shows have fewer bytes. Each byte takes at most six in JSON or in a page, and
 // JSON has an address up to three times, so that a response has at most 10 MiB.
 const TEXT_LIMIT: u32 = 524_288;

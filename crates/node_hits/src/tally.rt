@@ -1,41 +1,35 @@
 //! The tally of a query's hits: how many there are, the first ones, those of the highest ranks, and the best link.
-//! It is made row by row.
-ghost use Rattle.std.specs.Prelude.{◌≡◌, ◌<◌, ◌++◌, ◌∷◌, [], IfOk, None, OnOk, Option, option_copied, option_map};
-ghost use Rattle.std.specs.Prelude.{replicate, slice_get, true};
-ghost use Rattle.std.specs.Bool.{OnFalse, OnTrue};
+//! It is made release by release.
+ghost use Rattle.std.specs.Prelude.{◌≡◌, ◌≤◌, ◌&&◌, ◌∷◌, List, Option, IfOk, OnOk, map, option_copied, true};
 ghost use Rattle.std.specs.List.{AllPass};
 ghost use Rattle.feed_answer.specs.Places.{hit_at};
 ghost use Rattle.node_site.specs.Packages.{package_place};
 ghost use Rattle.node_hits.specs.Hits.{ReleaseHitValue};
-ghost use Rattle.node_hits.specs.Looks.{hit_found, looks_in, looks_of, more_looks};
+ghost use Rattle.node_hits.specs.Looks.{are_fitting, fitting, hit_found, looks_at, release_found};
 ghost use Rattle.node_hits.specs.Searches.{compared, is_asked_at};
 ghost use Rattle.node_hits.specs.Tallies.{left_out, outcome_of, shows_all, sole_link};
-ghost use Rattle.node_hits.specs.Tallying.{looks_at, no_hits, tally_from, with_found, with_looks};
+ghost use Rattle.node_hits.specs.Tallying.{no_hits, tally_from, with_end, with_hit, with_hits, with_release};
 
 use crate::hits::{LibraryRelease, ReleaseHit, is_found};
 use crate::links::Links;
 use crate::ranked_hit::RankedHit;
-use crate::row_places::first_places;
+use crate::row_places::{front, open_places};
 use crate::search::Search;
+use crate::shares::Shares;
 use crate::shown::{Shown, bytes_left};
+use crate::text_room::{TextRoom, text_looks};
 use crate::top::Top;
-use feed_kbart::Row;
+use feed_names::ReleaseName;
 use node_site::{SearchOutcome, package_place};
 use std::alloc::{AllocError, Global};
 use std::marker::Model;
 
-// The most rows that are looked at for a query, in all releases together, so that no list makes a response slow.
-const ROW_LIMIT: usize = 5_000;
-
-// A row counts as one more for so many bytes of a text, since a search may read them all.
-const LOOK_SIZE: usize = 250;
-
 /// The tally of the hits of a query so far.
 #[derive(Drop)]
 pub struct Tally<'a> {
-    // How many more rows are looked at.
-    left: usize,
     is_whole: bool,
+    // The releases that may have more hits.
+    partial: Vec<&'a ReleaseName>,
     count: usize,
     shown: Shown<'a>,
     top: Top<'a>,
@@ -43,63 +37,19 @@ pub struct Tally<'a> {
 }
 
 impl<'a> Model for Tally<'a> {
-    ghost use Rattle.std.specs.Prelude.{◌+◌, ◌≤◌};
-    ghost use Rattle.node_hits.specs.Looks.{row_limit};
+    ghost use Rattle.std.specs.Prelude.{map};
     ghost use Rattle.node_hits.specs.Tallying.{RunningValue};
 
     ghost Value = { RunningValue };
 
     ghost view = { λ t. record {
-      left = t.left;
       is_whole = t.is_whole;
+      partial = map (λ name. name.now) t.partial.items;
       count = t.count;
       shown = t.shown;
       top = t.top;
       links = t.links;
     } };
-
-    ghost invariant = { λ t. t.count + t.left ≤ row_limit };
-}
-
-// Returns how many rows a row counts as, beside itself.
-fn more_looks(row: Option<&Row>) -> usize
-    ensures { result ≡ more_looks (option_map (λ r. r.now) row.entry) }
-{
-    let Some(row) = row else {
-        return 0;
-    };
-    row.title().len() / LOOK_SIZE
-        + row.url().len() / LOOK_SIZE
-        + row.title_id().len() / LOOK_SIZE
-        + row.depth().len() / LOOK_SIZE
-        + row.embargo().len() / LOOK_SIZE
-        + row.access().len() / LOOK_SIZE
-}
-
-// Returns what a search finds in the row at a place of a release, whose package has this place in the order of a site.
-fn hit_found<'a>(
-    alloc: Global,
-    release: &LibraryRelease<'a>,
-    site_place: usize,
-    place: u32,
-    search: &Search<'_>,
-) -> Result<Option<ReleaseHit<'a>>, AllocError>
-    requires of { site_place ≡ package_place release.now.site.now release.now.name.now.package_name }
-    requires asked { is_asked_at search.now.query release.now.holdings.now.rows place ≡ true }
-    ensures { IfOk result (λ look. look
-        ≡ hit_found release.now.site.now release.now.today.now search.now release.now.name.now
-        (hit_at (compared search.now) release.now.holdings.now.rows place)) }
-{
-    match search.hit_at(release.holdings.rows(), place) {
-        Some(hit) => {
-            if is_found(release.site, search, release.name, &hit) {
-                Ok(Some(ReleaseHit::new(alloc, release, site_place, search, &hit)?))
-            } else {
-                Ok(None)
-            }
-        }
-        None => Ok(None),
-    }
 }
 
 impl<'a> Tally<'a> {
@@ -108,8 +58,8 @@ impl<'a> Tally<'a> {
         ensures { result ≡ no_hits }
     {
         Tally {
-            left: ROW_LIMIT,
             is_whole: true,
+            partial: Vec::new(alloc),
             count: 0,
             shown: Shown::new(alloc),
             top: Top::new(alloc),
@@ -117,18 +67,26 @@ impl<'a> Tally<'a> {
         }
     }
 
-    /// Returns the number of hits in the rows that were looked at.
+    /// Returns the number of hits that are counted.
     pub fn count(&self) -> usize
         ensures { result ≡ (tally_from self.now).count }
     {
         self.count
     }
 
-    /// Returns whether all rows were looked at, so that these are all hits.
+    /// Returns whether these are all hits.
     pub fn is_whole(&self) -> bool
         ensures { result ≡ (tally_from self.now).is_whole }
     {
         self.is_whole
+    }
+
+    /// Returns the releases that may have more hits: not all their rows were looked at, or a hit was skipped for its
+    /// long texts.
+    pub fn partial(&self) -> &[&'a ReleaseName]
+        ensures { map (λ name. name.now) result.now ≡ (tally_from self.now).partial }
+    {
+        &self.partial
     }
 
     /// Returns the first hits, which a response in text shows.
@@ -188,7 +146,7 @@ impl<'a> Tally<'a> {
         }
     }
 
-    /// Returns the link of the sole hit, if all rows were looked at, there is only one, a reader may be sent there
+    /// Returns the link of the sole hit, if no release may have more, there is only one, a reader may be sent there
     /// without a choice, and it has a link.
     pub fn sole_link(&self) -> Option<&[u8]>
         ensures { option_copied result ≡ sole_link (tally_from self.now) }
@@ -204,105 +162,120 @@ impl<'a> Tally<'a> {
         }
     }
 
-    // Adds what is found in a row that is looked at.
-    fn add_look(&mut self, alloc: Global, look: Option<ReleaseHit<'a>>) -> Result<(), AllocError>
-        requires { 0 < self.old.left }
-        ensures { OnOk result (self.new ≡ with_found self.old look.entry) }
+    // Adds a hit.
+    fn add_hit(&mut self, alloc: Global, found: ReleaseHit<'a>) -> Result<(), AllocError>
+        ensures { OnOk result (self.new ≡ with_hit self.old found.entry) }
     {
-        self.left -= 1;
-        match look {
-            Some(found) => {
-                self.count += 1;
-                self.links.add(alloc, &found)?;
-                let left = bytes_left(&found);
-                self.shown.add(alloc, &found, left)?;
-                self.top.add(alloc, found, left)
-            }
-            None => Ok(()),
-        }
+        let Some(count) = self.count.checked_add(1) else {
+            return Err(AllocError);
+        };
+        self.count = count;
+        self.links.add(alloc, &found)?;
+        let left = bytes_left(&found);
+        self.shown.add(alloc, &found, left)?;
+        self.top.add(alloc, found, left)
     }
 
-    // Counts the rows that a row counts as beside itself. Returns whether the row is looked at.
-    fn count_more(&mut self, more: usize) -> bool
-        ensures looked { OnTrue result ((look : Option ReleaseHitValue)
-            → with_looks self.old (replicate more None ++ look ∷ []) ≡ with_found self.new look) }
-        ensures left { OnTrue result (0 < self.new.left) }
-        ensures passed { OnFalse result ((look : Option ReleaseHitValue)
-            → with_looks self.old (replicate more None ++ look ∷ []) ≡ self.new) }
-    {
-        if !self.is_whole {
-            return false;
-        }
-        if self.left <= more {
-            self.left = 0;
-            self.is_whole = false;
-            return false;
-        }
-        self.left -= more;
-        true
-    }
-
-    // Looks at the row at a place, unless no more rows are looked at.
+    // Looks at the row at a place, and adds the hit that is found in it, unless its texts do not fit into the room.
     fn look_at(
         &mut self,
         alloc: Global,
         release: &LibraryRelease<'a>,
         site_place: usize,
         place: u32,
-        search: &Search<'_>,
+        search: &mut Search<'_>,
+        room: &mut TextRoom,
     ) -> Result<(), AllocError>
         requires of { site_place ≡ package_place release.now.site.now release.now.name.now.package_name }
-        requires asked { is_asked_at search.now.query release.now.holdings.now.rows place ≡ true }
-        ensures { OnOk result (self.new
-            ≡ with_looks self.old (looks_of (slice_get release.now.holdings.now.rows place)
-            (hit_found release.now.site.now release.now.today.now search.now release.now.name.now
-            (hit_at (compared search.now) release.now.holdings.now.rows place)))) }
+        requires asked { is_asked_at search.old.query release.now.holdings.now.rows place ≡ true }
+        ensures same { search.new ≡ search.old }
+        ensures hits { OnOk result ((more : List (Option ReleaseHitValue))
+            → with_hits self.new (fitting room.new.left more)
+            ≡ with_hits self.old (fitting room.old.left
+            (hit_found release.now.site.now release.now.today.now search.old release.now.name.now
+            (hit_at (compared search.old) release.now.holdings.now.rows place) ∷ more))) }
+        ensures whole { OnOk result ((more : List (Option ReleaseHitValue))
+            → (room.new.is_enough && are_fitting room.new.left more)
+            ≡ (room.old.is_enough && are_fitting room.old.left
+            (hit_found release.now.site.now release.now.today.now search.old release.now.name.now
+            (hit_at (compared search.old) release.now.holdings.now.rows place) ∷ more))) }
     {
-        if self.count_more(more_looks(release.holdings.rows().get(place as usize))) {
-            let look = hit_found(alloc, release, site_place, place, search)?;
-            self.add_look(alloc, look)
+        let Some(hit) = search.hit_at(release.holdings.rows(), place) else {
+            return Ok(());
+        };
+        if !is_found(release.site, search, release.name, &hit) {
+            return Ok(());
+        }
+        if room.take(text_looks(hit.row)) {
+            self.add_hit(
+                alloc,
+                ReleaseHit::new(alloc, release, site_place, search, &hit)?,
+            )
         } else {
             Ok(())
         }
     }
 
+    // Looks at the rows at some places. Returns whether the texts of all hits fit into a share.
     fn look_at_each(
         &mut self,
         alloc: Global,
         release: &LibraryRelease<'a>,
         site_place: usize,
         places: &[u32],
-        search: &Search<'_>,
-    ) -> Result<(), AllocError>
+        search: &mut Search<'_>,
+        texts: usize,
+    ) -> Result<bool, AllocError>
         requires of { site_place ≡ package_place release.now.site.now release.now.name.now.package_name }
-        requires asked { AllPass (is_asked_at search.now.query release.now.holdings.now.rows) places.now }
-        ensures { OnOk result (self.new
-            ≡ with_looks self.old (looks_at release.now.site.now release.now.today.now search.now release.now.name.now
-            release.now.holdings.now.rows places.now)) }
+        requires asked { AllPass (is_asked_at search.old.query release.now.holdings.now.rows) places.now }
+        ensures same { search.new ≡ search.old }
+        ensures hits { OnOk result (self.new
+            ≡ with_hits self.old (fitting texts (looks_at release.now.site.now release.now.today.now search.old
+            release.now.name.now release.now.holdings.now.rows places.now))) }
+        ensures whole { IfOk result (λ is_whole. is_whole
+            ≡ are_fitting texts (looks_at release.now.site.now release.now.today.now search.old
+            release.now.name.now release.now.holdings.now.rows places.now)) }
     {
+        let mut room = TextRoom::new(texts);
         for place in places {
-            self.look_at(alloc, release, site_place, *place, search)?;
+            self.look_at(alloc, release, site_place, *place, search, &mut room)?;
         }
-        Ok(())
+        Ok(room.is_enough)
     }
 
-    /// Looks at the rows of a release that have one of the identifiers of a search, in file order, and adds the hits
-    /// that the library has. Stops at the row behind the last one that is looked at.
+    // Ends a release, by whether all its hits are counted.
+    fn end_release(&mut self, name: &'a ReleaseName, is_whole: bool) -> Result<(), AllocError>
+        ensures { OnOk result (self.new ≡ with_end self.old name.now is_whole) }
+    {
+        if is_whole {
+            return Ok(());
+        }
+        self.is_whole = false;
+        Ok(self.partial.push(name)?)
+    }
+
+    /// Adds what a search finds in a release, within its shares. It looks at the first rows that have one of the
+    /// identifiers of the search, in file order, and counts the hits that the library has. A hit whose texts do not fit
+    /// into what is left of the release's share is skipped by itself.
     pub fn add_release(
         &mut self,
         alloc: Global,
         release: &LibraryRelease<'a>,
-        search: &Search<'_>,
+        search: &mut Search<'_>,
+        shares: Shares,
     ) -> Result<(), AllocError>
-        ensures { OnOk result (self.new
-            ≡ with_looks self.old (looks_in release.now.site.now release.now.today.now search.now release.now.name.now
-            release.now.holdings.now.rows)) }
+        requires { shares.rows ≤ 10000 }
+        ensures same { search.new ≡ search.old }
+        ensures added { OnOk result (self.new
+            ≡ with_release self.old (release_found shares release.now.site.now release.now.today.now search.old
+            release.now.name.now release.now.holdings.now.rows)) }
     {
-        if !self.is_whole {
-            return Ok(());
-        }
         let site_place = package_place(release.site, release.name.package());
-        let found = first_places(alloc, release.holdings, search.query(), self.left + 1)?;
-        self.look_at_each(alloc, release, site_place, found.as_slice(), search)
+        let found = open_places(alloc, release, search.query(), shares.rows + 1)?;
+        let places = found.as_slice();
+        let is_all = places.len() <= shares.rows;
+        let looked = front(places, shares.rows);
+        let fits = self.look_at_each(alloc, release, site_place, looked, search, shares.texts)?;
+        self.end_release(release.name, is_all && fits)
     }
 }

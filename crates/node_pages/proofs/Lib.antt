@@ -1,2 +1,3 @@
 pub mod NothingTold
 pub mod Packages
+pub mod NamesNext

@@ -18,6 +18,7 @@ use Rattle.node_pages.specs.Cards.{cards}
 use Rattle.node_pages.specs.Citations.{cited_top}
 use Rattle.node_pages.specs.Headings.{heading}
 use Rattle.node_pages.specs.Lists.{list_mark}
+use Rattle.node_pages.specs.Partial.{partial_names}
 use Rattle.node_pages.specs.SearchForms.{form_end}
 use Rattle.node_pages.specs.Ways.{cited_of, ways_to}
 use Rattle.node_pages.specs.declared.card.Fit.TheVariants.{Hit, Dated, Outside}
@@ -27,7 +28,7 @@ use Rattle.node_pages.specs.declared.hits_page.TheConstants.{LIST_START}
 abbrev pub is_none : TallyValue → TallyValue → TallyValue → Bool
 is_none tally also others = (tally.count == 0) && ((also.count == 0) && (others.count == 0))
 
--- what is said if all rows are looked at, and none is a hit: that no holdings match, or that the library has the titles
+-- what is said if no release may have more, and none is a hit: that no holdings match, or that the library has the titles
 -- only for another date or volume
 abbrev pub note_of : TallyValue → Bool → Option Text
 note_of tally is_none =
@@ -56,13 +57,14 @@ digits_of (Some number) = decimal number
 abbrev pub hint : site_file.SiteValue → TallyValue → List ℕ
 hint site tally = if tally.is_whole && not (shows_all tally) then text_of site text.NotShownHint else []
 
--- the end of the list, and how many hits are left out
+-- the end of the list, how many hits are left out, and which packages may have more
 unfoldable pub list_end : site_file.SiteValue → TallyValue → Bool → List Part
 list_end site tally is_none = with_values (
     (slot.Listed, list_mark is_none)
     ∷ (slot.LeastText, text_of site (least tally.is_whole))
     ∷ (slot.LeftOut, digits_of (number_left_out tally))
     ∷ (slot.Hint, hint site tally)
+    ∷ (slot.MayHaveMore, partial_names site tally.partial)
     ∷ []) (template.LeftOut ∷ [])
 
 -- what is behind the cards: the end of their list, the links of the library, and the form for a new search

@@ -1,6 +1,7 @@
 pub mod OpenUrlTexts
 pub mod SearchForms
 pub mod Lists
+pub mod Partial
 pub mod Ways
 pub mod Dates
 pub mod EmbargoTexts

@@ -10,6 +10,7 @@ use crate::citation::put_cited_top;
 use crate::form::put_form_end;
 use crate::heading::heading_of;
 use crate::lists::list_mark;
+use crate::partial::partial_names;
 use crate::ways::{cited_of, put_ways_to};
 use feed_answer::Pair;
 use feed_bytes::put_number;
@@ -41,7 +42,7 @@ pub(crate) fn is_none(found: &Tallies<'_>) -> bool
     found.hits.count() == 0 && (found.also.count() == 0 && found.others.count() == 0)
 }
 
-/// Returns what is said if all rows were looked at, and none is a hit: that no holdings match, or that the library has
+/// Returns what is said if no release may have more, and none is a hit: that no holdings match, or that the library has
 /// the titles only for another date or volume.
 pub(crate) fn note_of(tally: &Tally<'_>, is_none: bool) -> Option<Text>
     ensures { result ≡ note_of (tally_from tally.now) is_none }
@@ -99,7 +100,7 @@ pub(crate) fn digits_of(alloc: Global, number: Option<usize>) -> Result<Vec<u8>,
     Ok(digits)
 }
 
-/// Writes the end of the list, and how many hits are left out.
+/// Writes the end of the list, how many hits are left out, and which packages may have more.
 #[tactic(auto, unfolding(crate::specs::HitsPage::list_end))]
 pub(crate) fn put_list_end(
     alloc: Global,
@@ -112,6 +113,7 @@ pub(crate) fn put_list_end(
         ≡ out.old.items ++ page_text site.now (list_end site.now (tally_from tally.now) is_none)) }
 {
     let left_out = digits_of(alloc, number_left_out(tally))?;
+    let partial = partial_names(alloc, site, tally.partial())?;
     put_page(
         out,
         site,
@@ -121,6 +123,7 @@ pub(crate) fn put_list_end(
             (Slot::LeastText, text_of(site, least(tally.is_whole()))),
             (Slot::LeftOut, &left_out),
             (Slot::Hint, hint(site, tally)),
+            (Slot::MayHaveMore, &partial),
         ],
     )
 }

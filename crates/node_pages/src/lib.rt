@@ -21,6 +21,7 @@ mod lists;
 mod number_faults;
 mod opening;
 mod openurl_text;
+mod partial;
 mod refusals;
 mod titles;
 mod titles_page;

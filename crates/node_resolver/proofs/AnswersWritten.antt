@@ -16,47 +16,50 @@ use Rattle.node_request.specs.declared.representation.Representation.TheVariants
 use Rattle.std.specs.Option.{option_map_or}
 use Rattle.node_response.specs.Responses.{ResponseValue, redirect_to}
 use Rattle.node_response.specs.declared.status.Status.{Status}
-use Rattle.node_hits.specs.Hits.{ReleaseHitValue}
+use Rattle.node_hits.specs.Looks.{FoundValue}
+use Rattle.node_hits.specs.declared.shares.Shares.{Shares}
 use Rattle.node_hits.specs.HitsText.{release_text}
 use Rattle.node_hits.specs.AnswerJson.{answer_json}
 use Rattle.node_hits.specs.QueryFacts.{QueryFactsValue, ask_of}
 use Rattle.node_hits.specs.Tallies.{TallyValue, sole_link, tally_of}
-use Rattle.node_hits.specs.Tallying.{RunningValue, with_look, with_looks, no_hits, tally_from}
+use Rattle.node_hits.specs.Tallying.{RunningValue, with_release, with_releases, no_hits, tally_from}
 use Rattle.node_hits.proofs.Tallies.{tally_is}
-use Rattle.node_resolver.specs.Answers.{Sited, also_among, also_beside, release_looks, looks_among, others_among, others_beside, tally_among, texts_behind, answers_body}
+use Rattle.node_resolver.specs.Answers.{Sited, also_among, also_beside, release_in, shares_in, found_among, others_among, others_beside, tally_among, texts_behind, answers_body}
 use Rattle.node_resolver.specs.AnswerTexts.{texts_from}
 use Rattle.node_resolver.specs.Responses.{query_response, target_in, target_of}
 use Rattle.node_pages.specs.Fragments.{hits_fragment}
 use Rattle.node_pages.specs.HitsPage.{hits_page}
 
-abbrev after : List (Option ReleaseHitValue) → RunningValue
-after looks = with_looks no_hits looks
+abbrev after : List FoundValue → RunningValue
+after founds = with_releases no_hits founds
 
-texts_are : (site : site_file.SiteValue) (today : TodayValue) (search : SearchValue) (earlier : List (Option ReleaseHitValue)) (actives : List ActiveValue)
-    → texts_from site today search (after earlier) actives ≡ texts_behind site today search earlier actives
-texts_are site today search earlier [] = refl
-texts_are site today search earlier (active ∷ actives) =
-    let more = release_looks site today search active in
-    let joint : with_looks (after earlier) more ≡ after (earlier ++ more) = sym (fold-append with_look no_hits earlier more) in
-    ap (λ (r : RunningValue). release_text (tally_from (after earlier)) (tally_from r) active.name ++ texts_from site today search r actives) joint
-    ∙ ap (λ (t : TallyValue). release_text t (tally_from (after (earlier ++ more))) active.name ++ texts_from site today search (after (earlier ++ more)) actives) (tally_is earlier)
-    ∙ ap (λ (t : TallyValue). release_text (tally_of earlier) t active.name ++ texts_from site today search (after (earlier ++ more)) actives) (tally_is (earlier ++ more))
-    ∙ ap (λ t. release_text (tally_of earlier) (tally_of (earlier ++ more)) active.name ++ t) (texts_are site today search (earlier ++ more) actives)
+texts_are : (shares : Shares) (site : site_file.SiteValue) (today : TodayValue) (search : SearchValue) (earlier : List FoundValue) (actives : List ActiveValue)
+    → texts_from shares site today search (after earlier) actives ≡ texts_behind shares site today search earlier actives
+texts_are shares site today search earlier [] = refl
+texts_are shares site today search earlier (active ∷ actives) =
+    let own : FoundValue = release_in shares site today search active in
+    let joint : with_release (after earlier) own ≡ after (earlier ++ own ∷ []) = sym (fold-append with_release no_hits earlier (own ∷ [])) in
+    ap (λ (r : RunningValue). release_text (tally_from (after earlier)) (tally_from r) active.name ++ texts_from shares site today search r actives) joint
+    ∙ ap (λ (t : TallyValue). release_text t (tally_from (after (earlier ++ own ∷ []))) active.name ++ texts_from shares site today search (after (earlier ++ own ∷ [])) actives) (tally_is earlier)
+    ∙ ap (λ (t : TallyValue). release_text (tally_of earlier) t active.name ++ texts_from shares site today search (after (earlier ++ own ∷ [])) actives) (tally_is (earlier ++ own ∷ []))
+    ∙ ap (λ t. release_text (tally_of earlier) (tally_of (earlier ++ own ∷ [])) active.name ++ t) (texts_are shares site today search (earlier ++ own ∷ []) actives)
 
-pub text_written : (representation : Representation) (text : List ℕ) (search : SearchValue) (actives : Sited) (old new : List ℕ) → representation ≡ Text
-    → new ≡ old ++ texts_from actives.library actives.today search no_hits actives.actives → new ≡ old ++ answers_body representation text search actives
+pub text_written : (representation : Representation) (text : List ℕ) (shares : Shares) (search : SearchValue) (actives : Sited) (old new : List ℕ) → representation ≡ Text
+    → shares ≡ shares_in search actives → new ≡ old ++ texts_from shares actives.library actives.today search no_hits actives.actives
+    → new ≡ old ++ answers_body representation text search actives
 unfolding answers_body
-text_written representation text search actives old new chosen is =
-    is ∙ ap (λ t. old ++ t) (texts_are actives.library actives.today search [] actives.actives)
+text_written representation text shares search actives old new chosen shared is =
+    is ∙ ap (λ t. old ++ t) (texts_are shares actives.library actives.today search [] actives.actives)
+    ∙ ap (λ (s : Shares). old ++ texts_behind s actives.library actives.today search [] actives.actives) shared
     ∙ ap (λ (r : Representation). old ++ answers_body r text search actives) (sym chosen)
 
 pub json_written : (ask : QueryFactsValue) (search : SearchValue) (actives : Sited) (running also : RunningValue) (old new : List ℕ)
-    → running ≡ with_looks no_hits (looks_among search actives) → also ≡ with_looks no_hits (also_beside search actives)
+    → running ≡ with_releases no_hits (found_among search actives) → also ≡ with_releases no_hits (also_beside search actives)
     → new ≡ old ++ answer_json ask [] (tally_from running) (tally_from also)
     → new ≡ old ++ answer_json ask [] (tally_among search actives) (also_among search actives)
 json_written ask search actives running also old new made beside is =
     is ∙ ap (λ (r : RunningValue). old ++ answer_json ask [] (tally_from r) (tally_from also)) made
-    ∙ ap (λ (t : TallyValue). old ++ answer_json ask [] t (tally_from also)) (tally_is (looks_among search actives))
+    ∙ ap (λ (t : TallyValue). old ++ answer_json ask [] t (tally_from also)) (tally_is (found_among search actives))
     ∙ ap (λ (r : RunningValue). old ++ answer_json ask [] (tally_among search actives) (tally_from r)) beside
     ∙ ap (λ (t : TallyValue). old ++ answer_json ask [] (tally_among search actives) t) (tally_is (also_beside search actives))
 
@@ -74,18 +77,18 @@ Shows = site_file.SiteValue → QueryFactsValue → TallyValue → TallyValue �
 
 pub shown_written : (shows : Shows) (site : site_file.SiteValue) (ask : QueryFactsValue) (search : SearchValue) (actives : Sited)
     (running also others : RunningValue) (count : ℕ) (old new : List ℕ)
-    → site ≡ actives.library → running ≡ with_looks no_hits (looks_among search actives) → also ≡ with_looks no_hits (also_beside search actives)
-    → count ≡ (tally_from running).count → others ≡ with_looks no_hits (others_beside count search actives)
+    → site ≡ actives.library → running ≡ with_releases no_hits (found_among search actives) → also ≡ with_releases no_hits (also_beside search actives)
+    → count ≡ (tally_from running).count → others ≡ with_releases no_hits (others_beside count search actives)
     → new ≡ old ++ shows site ask (tally_from running) (tally_from also) (tally_from others)
     → new ≡ old ++ shows actives.library ask (tally_among search actives) (also_among search actives) (others_among search actives)
 shown_written shows site ask search actives running also others count old new of made dated counts beside is =
     let tally : TallyValue = tally_among search actives in
     let covered : TallyValue = also_among search actives in
     let counted_is : count ≡ tally.count =
-    counts ∙ ap (λ (r : RunningValue). (tally_from r).count) made ∙ ap (λ (t : TallyValue). t.count) (tally_is (looks_among search actives)) in
+    counts ∙ ap (λ (r : RunningValue). (tally_from r).count) made ∙ ap (λ (t : TallyValue). t.count) (tally_is (found_among search actives)) in
     is ∙ ap (λ (s : site_file.SiteValue). old ++ shows s ask (tally_from running) (tally_from also) (tally_from others)) of
     ∙ ap (λ (r : RunningValue). old ++ shows actives.library ask (tally_from r) (tally_from also) (tally_from others)) made
-    ∙ ap (λ (t : TallyValue). old ++ shows actives.library ask t (tally_from also) (tally_from others)) (tally_is (looks_among search actives))
+    ∙ ap (λ (t : TallyValue). old ++ shows actives.library ask t (tally_from also) (tally_from others)) (tally_is (found_among search actives))
     ∙ ap (λ (r : RunningValue). old ++ shows actives.library ask tally (tally_from r) (tally_from others)) dated
     ∙ ap (λ (t : TallyValue). old ++ shows actives.library ask tally t (tally_from others)) (tally_is (also_beside search actives))
     ∙ ap (λ (r : RunningValue). old ++ shows actives.library ask tally covered (tally_from r)) beside
@@ -102,7 +105,7 @@ page_answered representation text ask search actives old new chosen read is =
     ∙ ap (λ (r : Representation). old ++ answers_body r text search actives) (sym chosen)
 
 pub sfx_written : (options : SfxOptions) (text : List ℕ) (site : site_file.SiteValue) (search : SearchValue) (actives : Sited) (running : RunningValue) (cited : CitedTitleValue)
-    (old new : List ℕ) → options ≡ sfx_options_in text → site ≡ actives.library → running ≡ with_looks no_hits (looks_among search actives)
+    (old new : List ℕ) → options ≡ sfx_options_in text → site ≡ actives.library → running ≡ with_releases no_hits (found_among search actives)
     → cited ≡ with_title_id [] search.cited → new ≡ old ++ sfx_reply options site (tally_from running) cited
     → new ≡ old ++ answers_body Sfx text search actives
 unfolding answers_body
@@ -110,7 +113,7 @@ sfx_written options text site search actives running cited old new read of made 
     is ∙ ap (λ (o : SfxOptions). old ++ sfx_reply o site (tally_from running) cited) read
     ∙ ap (λ (s : site_file.SiteValue). old ++ sfx_reply (sfx_options_in text) s (tally_from running) cited) of
     ∙ ap (λ (r : RunningValue). old ++ sfx_reply (sfx_options_in text) actives.library (tally_from r) cited) made
-    ∙ ap (λ (t : TallyValue). old ++ sfx_reply (sfx_options_in text) actives.library t cited) (tally_is (looks_among search actives))
+    ∙ ap (λ (t : TallyValue). old ++ sfx_reply (sfx_options_in text) actives.library t cited) (tally_is (found_among search actives))
     ∙ ap (λ (c : CitedTitleValue). old ++ sfx_reply (sfx_options_in text) actives.library (tally_among search actives) c) cites
 
 pub fragment_answered : (representation : Representation) (text : List ℕ) (ask : QueryFactsValue) (search : SearchValue) (actives : Sited) (old new : List ℕ)
@@ -124,20 +127,20 @@ fragment_answered representation text ask search actives old new chosen read is 
 
 -- the address that follows from a tally, by the site of its search
 pub target_made : (site : site_file.SiteValue) (search : SearchValue) (actives : Sited) (running : RunningValue) → site ≡ actives.library
-    → running ≡ with_looks no_hits (looks_among search actives) → target_in site search (tally_from running) ≡ target_of search actives
+    → running ≡ with_releases no_hits (found_among search actives) → target_in site search (tally_from running) ≡ target_of search actives
 target_made site search actives running of made =
     ap (λ (s : site_file.SiteValue). target_in s search (tally_from running)) of
     ∙ ap (λ (r : RunningValue). target_in actives.library search (tally_from r)) made
-    ∙ ap (λ (t : TallyValue). target_in actives.library search t) (tally_is (looks_among search actives))
+    ∙ ap (λ (t : TallyValue). target_in actives.library search t) (tally_is (found_among search actives))
 
-pub sole_made : (search : SearchValue) (actives : Sited) (running : RunningValue) → running ≡ with_looks no_hits (looks_among search actives)
-    → sole_link (tally_from running) ≡ sole_link (tally_of (looks_among search actives))
-sole_made search actives running made = ap (λ (r : RunningValue). sole_link (tally_from r)) made ∙ ap sole_link (tally_is (looks_among search actives))
+pub sole_made : (search : SearchValue) (actives : Sited) (running : RunningValue) → running ≡ with_releases no_hits (found_among search actives)
+    → sole_link (tally_from running) ≡ sole_link (tally_of (found_among search actives))
+sole_made search actives running made = ap (λ (r : RunningValue). sole_link (tally_from r)) made ∙ ap sole_link (tally_is (found_among search actives))
 
-pub whole_made : (search : SearchValue) (actives : Sited) (running : RunningValue) → running ≡ with_looks no_hits (looks_among search actives)
-    → (tally_from running).is_whole ≡ (tally_of (looks_among search actives)).is_whole
+pub whole_made : (search : SearchValue) (actives : Sited) (running : RunningValue) → running ≡ with_releases no_hits (found_among search actives)
+    → (tally_from running).is_whole ≡ (tally_of (found_among search actives)).is_whole
 whole_made search actives running made =
-    ap (λ (r : RunningValue). (tally_from r).is_whole) made ∙ ap (λ (t : TallyValue). t.is_whole) (tally_is (looks_among search actives))
+    ap (λ (r : RunningValue). (tally_from r).is_whole) made ∙ ap (λ (t : TallyValue). t.is_whole) (tally_is (found_among search actives))
 
 -- a redirect to the link, if one was copied, and another response if not
 pub linked : {A : Type 0} (text : A → List ℕ) (link : Option A) (found : Option (List ℕ)) (one : A) (other : ResponseValue) → option_map text link ≡ found → link ≡ Some one

@@ -1,19 +1,23 @@
 -- The hits of a response are those of the core that the library has.
 use Rattle.std.proofs.Common.{◌≡◌, ℕ, zero, suc, List, [], ◌∷◌, ◌++◌, Bool, true, false, Option, Some, None, refl, sym, ap, ◌∙◌, subst, inl, inr, arith, map}
-use Rattle.std.specs.Prelude.{◌⊎◌, cond, filter, slice_get, take}
+use Rattle.std.specs.Prelude.{◌⊎◌, cond, filter, if◌then◌else◌, slice_get}
 use Rattle.std.specs.List.{Contains, flat_map}
 use Rattle.std.proofs.lemmas.List.Elements.{Contains-append_left, Contains-append_right, Contains-append_cases, Contains-get_or}
 use Rattle.std.proofs.lemmas.Bool.{false≢true}
 use Rattle.std.proofs.lemmas.Option.{get_or_from_slice_get, slice_get_within}
 use Rattle.feed_answer.specs.Answers.{answer_of}
+use Rattle.feed_releases.specs.Actives.{ActiveValue}
 use Rattle.node_hits.specs.Searches.{SearchValue, compared}
 use Rattle.node_hits.specs.Hits.{ReleaseHitValue, best_link, held_hits, is_found, is_open, link_text, release_hit}
-use Rattle.node_hits.specs.Looks.{counted, found_in, row_limit}
+use Rattle.node_hits.specs.Looks.{FoundValue}
 use Rattle.node_hits.specs.Ranks.{IsBestLink}
+use Rattle.node_hits.specs.Tallies.{partial_name}
 use Rattle.node_hits.proofs.BestLinks.{best_is}
+use Rattle.node_hits.proofs.HitsFound.{hit_answers, hits_are_found}
 use Rattle.node_hits.proofs.LooksPlaced.{of_answer}
-use Rattle.node_resolver.specs.Answers.{Sited, hits_among, looks_among, release_looks}
-use Rattle.node_resolver.specs.Laws.{HitsAreHeld, IsHeldHit, LinksAreHeld}
+use Rattle.node_hits.proofs.ShareBounds.{each_has_share}
+use Rattle.node_resolver.specs.Answers.{Sited, found_among, hits_among, release_in, row_counts, shares_in}
+use Rattle.node_resolver.specs.Laws.{EachReleaseIsLookedAt, HitsAreHeld, IsHeldHit, LinksAreHeld}
 
 -- ---- elements of lists
 
@@ -86,89 +90,79 @@ flat_gives {X} {Y} f (w ∷ xs) x y has own = by (λ later. flat_gives f xs x y 
     by behind (inl same) = Contains-append_left (f w) (flat_map f xs) y (subst (λ (v : X). Contains (f v) y) (sym same) own)
     by behind (inr later) = Contains-append_right (f w) (flat_map f xs) y (behind later)
 
-take_has : {X : Type 0} → (n : ℕ) (xs : List X) (x : X) → Contains (take n xs) x → Contains xs x
-take_has {X} zero xs x has = absurd (none_is x has)
-take_has {X} (suc n) [] x has = absurd (none_is x has)
-take_has {X} (suc n) (w ∷ xs) x has = by (take_has n xs x) (first_or_later w (take n xs) x has)
-  where
-    by : (Contains (take n xs) x → Contains xs x) → (w ≡ x) ⊎ Contains (take n xs) x → Contains (w ∷ xs) x
-    by behind (inl same) = subst (λ (y : X). Contains (w ∷ xs) y) same (first_is w xs)
-    by behind (inr later) = later_is w xs x (behind later)
-
 -- ---- hits
 
-found_has : (looks : List (Option ReleaseHitValue)) (found : ReleaseHitValue) → Contains (found_in looks) found → Contains looks (Some found)
-found_has [] found has = absurd (none_is found has)
-found_has (None ∷ looks) found has = later_is None looks (Some found) (found_has looks found has)
-found_has (Some one ∷ looks) found has = by (found_has looks found) (first_or_later one (found_in looks) found has)
-  where
-    by : (Contains (found_in looks) found → Contains looks (Some found)) → (one ≡ found) ⊎ Contains (found_in looks) found → Contains (Some one ∷ looks) (Some found)
-    by behind (inl same) = subst (λ (f : ReleaseHitValue). Contains (Some one ∷ looks) (Some f)) same (first_is (Some one) looks)
-    by behind (inr later) = later_is (Some one) looks (Some found) (behind later)
-
-some_is : (one found : ReleaseHitValue) → Some one ≡ Some found → one ≡ found
-some_is one found same = cc
-
-found_gives : (looks : List (Option ReleaseHitValue)) (found : ReleaseHitValue) → Contains looks (Some found) → Contains (found_in looks) found
-found_gives [] found has = absurd (none_is (Some found) has)
-found_gives (None ∷ looks) found has = by (found_gives looks found) (first_or_later None looks (Some found) has)
-  where
-    by : (Contains looks (Some found) → Contains (found_in looks) found) → (None ≡ Some found) ⊎ Contains looks (Some found) → Contains (found_in looks) found
-    by behind (inl same) = absurd (cc)
-    by behind (inr later) = behind later
-found_gives (Some one ∷ looks) found has = by (found_gives looks found) (first_or_later (Some one) looks (Some found) has)
-  where
-    by : (Contains looks (Some found) → Contains (found_in looks) found) → (Some one ≡ Some found) ⊎ Contains looks (Some found) → Contains (one ∷ found_in looks) found
-    by behind (inl same) = subst (λ (f : ReleaseHitValue). Contains (one ∷ found_in looks) f) (some_is one found same) (first_is one (found_in looks))
-    by behind (inr later) = later_is one (found_in looks) found (behind later)
+-- what is found in a release
+abbrev own_of : SearchValue → Sited → ActiveValue → FoundValue
+own_of search actives active = release_in (shares_in search actives) actives.library actives.today search active
 
 held_from : (search : SearchValue) (actives : Sited) (found : ReleaseHitValue) → Contains (hits_among search actives) found → IsHeldHit search actives found
 held_from search actives found has =
-    let from = flat_has (release_looks actives.library actives.today search) actives.actives (Some found) (found_has (looks_among search actives) found has) in
-    let name = from.0.name in
-    let answer = answer_of from.0.holdings (compared search) in
-    let own = subst (λ hits. Contains hits found) (of_answer actives.library actives.today search name from.0.holdings)
-    (found_gives (release_looks actives.library actives.today search from.0) found from.2) in
+    let from = flat_has (λ (release : FoundValue). release.hits) (found_among search actives) found has in
+    let of = map_has (own_of search actives) actives.actives from.0 from.1 in
+    let name = of.0.name in
+    let answer = answer_of of.0.holdings (compared search) in
+    let own = hit_answers actives.library actives.today search name (shares_in search actives) of.0.holdings found
+    (subst (λ (release : FoundValue). Contains release.hits found) of.2 from.2) in
     let hit = map_has (release_hit actives.library actives.today search name) (held_hits actives.library search name answer) found own in
     let kept = filter_has (is_found actives.library search name) answer hit.0 hit.1 in
-    record { active = from.0; hit = hit.0; is_active = from.1; answers = kept.0; held = kept.1; shown = hit.2 }
+    record { active = of.0; hit = hit.0; is_active = of.1; answers = kept.0; held = kept.1; shown = hit.2 }
 
-held_gives : (search : SearchValue) (actives : Sited) (found : ReleaseHitValue) → IsHeldHit search actives found → Contains (hits_among search actives) found
-held_gives search actives found is =
+held_gives : (search : SearchValue) (actives : Sited) (found : ReleaseHitValue) (is : IsHeldHit search actives found)
+    → (own_of search actives is.active).is_whole ≡ true → Contains (hits_among search actives) found
+held_gives search actives found is whole =
     let name = is.active.name in
     let answer = answer_of is.active.holdings (compared search) in
     let kept = filter_gives (is_found actives.library search name) answer is.hit is.answers is.held in
     let own = map_gives (release_hit actives.library actives.today search name) (held_hits actives.library search name answer) is.hit kept in
-    let looked = found_has (release_looks actives.library actives.today search is.active) (release_hit actives.library actives.today search name is.hit)
-    (subst (λ hits. Contains hits (release_hit actives.library actives.today search name is.hit)) (sym (of_answer actives.library actives.today search name is.active.holdings)) own) in
+    let counted_is = subst (λ (hits : List ReleaseHitValue). Contains hits (release_hit actives.library actives.today search name is.hit))
+    (sym (of_answer actives.library actives.today search name (shares_in search actives) is.active.holdings whole)) own in
     subst (λ (f : ReleaseHitValue). Contains (hits_among search actives) f) (sym is.shown)
-    (found_gives (looks_among search actives) (release_hit actives.library actives.today search name is.hit)
-    (flat_gives (release_looks actives.library actives.today search) actives.actives is.active (Some (release_hit actives.library actives.today search name is.hit)) is.is_active looked))
+    (flat_gives (λ (release : FoundValue). release.hits) (found_among search actives) (own_of search actives is.active)
+    (release_hit actives.library actives.today search name is.hit)
+    (map_gives (own_of search actives) actives.actives is.active is.is_active) counted_is)
 
 pub hits_are : HitsAreHeld
 hits_are search actives found = (held_from search actives found, held_gives search actives found)
+
+-- ---- each release
+
+named_partial : (release : FoundValue) → release.is_whole ≡ false → Contains (partial_name release) release.name
+named_partial release is =
+    subst (λ (b : Bool). Contains (if b then [] else release.name ∷ []) release.name) (sym is) (first_is release.name [])
+
+pub each_is_looked_at : EachReleaseIsLookedAt
+each_is_looked_at search actives active there =
+    let shares = shares_in search actives in
+    let own = own_of search actives active in
+    let has = map_gives (own_of search actives) actives.actives active there in
+    record {
+      shares = each_has_share (row_counts actives.library search.query actives.actives);
+      found = has;
+      counted = λ hit looked. elim (hits_are_found shares actives.library actives.today search active.name active.holdings.rows hit looked) [
+        | inl counted ↦ inl (flat_gives (λ (release : FoundValue). release.hits) (found_among search actives) own hit has counted)
+        | inr skipped ↦ inr (skipped.0, flat_gives partial_name (found_among search actives) own active.name has (named_partial own skipped.1))
+      ];
+    }
+
+-- ---- links
 
 place_has : {X : Type 0} → (xs : List X) (place : ℕ) (x : X) → slice_get xs place ≡ Some x → Contains xs x
 place_has {X} xs place x at =
     subst (λ (y : X). Contains xs y) (get_or_from_slice_get xs place x x at) (Contains-get_or xs place x (slice_get_within xs place x at))
 
--- a hit that is counted is one of all
-counted_has : (looks : List (Option ReleaseHitValue)) (found : ReleaseHitValue) → Contains (counted looks) found → Contains (found_in looks) found
-counted_has looks found has = found_gives looks found (take_has row_limit looks (Some found) (found_has (take row_limit looks) found has))
-
 link_from : (search : SearchValue) (actives : Sited) (url : List ℕ) (hits : List ReleaseHitValue) (best : Option (List ℕ))
-    → ((found : ReleaseHitValue) → Contains hits found → Contains (counted (looks_among search actives)) found) → best ≡ Some url → IsBestLink hits best
+    → ((found : ReleaseHitValue) → Contains hits found → Contains (hits_among search actives) found) → best ≡ Some url → IsBestLink hits best
     → (found : ReleaseHitValue) × IsHeldHit search actives found × (url ≡ link_text found)
 link_from search actives url hits None within at is = absurd (cc)
 link_from search actives url hits (Some text) within at is =
     let same : text ≡ url = cc in
-    let looks = looks_among search actives in
-    (is.1, held_from search actives is.1 (counted_has looks is.1 (within is.1 (place_has hits is.0 is.1 is.2.at))), sym same ∙ is.3)
+    (is.1, held_from search actives is.1 (within is.1 (place_has hits is.0 is.1 is.2.at)), sym same ∙ is.3)
 
 pub links_are : LinksAreHeld
 links_are search actives url (inl at) =
-    let hits = counted (looks_among search actives) in
+    let hits = hits_among search actives in
     link_from search actives url hits (best_link hits) (λ found has. has) at (best_is hits)
 links_are search actives url (inr at) =
-    let hits = counted (looks_among search actives) in
+    let hits = hits_among search actives in
     link_from search actives url (filter is_open hits) (best_link (filter is_open hits)) (λ found has. (filter_has is_open hits found has).0) at (best_is (filter is_open hits))

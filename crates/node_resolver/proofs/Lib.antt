@@ -10,5 +10,6 @@ pub mod Tagged
 pub mod Conditions
 pub mod SameTags
 pub mod Held
+pub mod Shared
 pub mod Hosted
 pub mod SitesTaken

@@ -44,10 +44,9 @@ use Rattle.feed_releases.specs.Actives.{ActiveValue}
 use Rattle.node_site.specs.Hosts.{host_of, is_link}
 use Rattle.node_site.specs.Urls.{url_limit, is_visible}
 use Rattle.node_hits.specs.Hits.{is_open}
-use Rattle.node_hits.specs.Looks.{counted}
 use Rattle.node_hits.specs.Tallies.{outcome_of, sole_link}
 use Rattle.node_hits.proofs.Redirects.{best_is}
-use Rattle.node_resolver.specs.Answers.{Sited, is_of, looks_among, tally_among}
+use Rattle.node_resolver.specs.Answers.{Sited, found_among, hits_among, is_of, tally_among}
 use Rattle.node_resolver.specs.Responses.{first_address, found_response, library_target, sole_redirect, status_without, target_of}
 use Rattle.node_resolver.specs.Responses.{query_response, hits_response, resolve_response, resolve_response_at, redirect_response, go_response, route_response, path_of, target_query, target_response}
 use Rattle.node_resolver.specs.Responses.{has_coded_body}
@@ -107,14 +106,14 @@ sole_wanted true link url e = (refl, e)
 sole_wanted false link url e = absurd (cc)
 
 pub sole_hit : (representation : Representation) (actives : Sited) (query : SearchValue) (url : List ℕ) → sole_redirect representation actives query ≡ Some url
-    → (representation ≡ Html) × (actives.library.redirects_sole_hit ≡ true) × IsSoleHit (looks_among query actives) url
+    → (representation ≡ Html) × (actives.library.redirects_sole_hit ≡ true) × IsSoleHit (found_among query actives) url
 sole_hit Text actives query url e = absurd (cc)
 sole_hit Json actives query url e = absurd (cc)
 sole_hit Fragment actives query url e = absurd (cc)
 sole_hit Sfx actives query url e = absurd (cc)
 sole_hit Html actives query url e =
     let wanted = sole_wanted actives.library.redirects_sole_hit (sole_link (tally_among query actives)) url e in
-    (refl, wanted.0, (sole_is (looks_among query actives) url).0 wanted.1)
+    (refl, wanted.0, (sole_is (found_among query actives) url).0 wanted.1)
 
 redirect_located : (hits_link : Option (List ℕ)) (other : ResponseValue) → ((url : List ℕ) → hits_link ≡ Some url → is_link url ≡ true) → IsLocated other
     → IsLocated (option_map_or redirect_to hits_link other)
@@ -146,7 +145,7 @@ either_is_link (Some text) other url first_safe second_safe is = first_safe url 
 
 pub target_is_link : (search : SearchValue) (actives : Sited) (url : List ℕ) → target_of search actives ≡ Some url → is_link url ≡ true
 target_is_link search actives url is =
-    let hits = counted (looks_among search actives) in
+    let hits = hits_among search actives in
     let tally = tally_among search actives in
     let library = library_target actives.library (outcome_of tally) search in
     let cited = with_title_id [] search.cited in

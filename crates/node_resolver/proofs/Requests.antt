@@ -36,13 +36,12 @@ use Rattle.node_hits.specs.Hits.{best_link, is_open}
 use Rattle.node_hits.specs.Lookups.{asked_of}
 use Rattle.node_hits.specs.Laws.{IsSoleHit}
 use Rattle.node_site.specs.Hosts.{is_link}
-use Rattle.node_hits.specs.Looks.{counted}
 use Rattle.node_hits.specs.Tallies.{outcome_of, sole_link}
 use Rattle.node_site.specs.declared.text_table.Text.TheVariants as advice
 use Rattle.node_pages.specs.ErrorPages.{error_response}
 use Rattle.node_hits.proofs.BestLinks as links
 use Rattle.node_response.specs.Tags.{SiteValue}
-use Rattle.node_resolver.specs.Answers.{Dated, Sited, sited, is_of, looks_among, tally_among}
+use Rattle.node_resolver.specs.Answers.{Dated, Sited, found_among, hits_among, sited, is_of, tally_among}
 use Rattle.node_resolver.specs.Responses.{found_response, library_target, sole_redirect, status_without, target_of}
 use Rattle.node_resolver.specs.Responses.{route_response, resolve_response, package_response, redirect_response, go_response, hits_response, query_response, target_response, target_query, path_of}
 use Rattle.node_resolver.specs.Responses.{method_refusal, has_coded_body, resolve_response_at, response_by_form, untagged_response, site_response, tagged_response, response_to, IsResponse}
@@ -264,7 +263,7 @@ sited_redirect redirects (Some url) other = refl
 
 pub goes_to_best : GoesToBest
 goes_to_best site keeps actives bytes body head query response begins asks is =
-    let hits = counted (looks_among query (sited site actives)) in
+    let hits = hits_among query (sited site actives) in
     let whole : Bool = (tally_among query (sited site actives)).is_whole in
     let other : ResponseValue = hits_response (status_without whole) (accepted_representation head) (target_query head) (sited site actives) query in
     let target : Option (List ℕ) = target_of query (sited site actives) in
@@ -297,7 +296,7 @@ redirect_of (Some url) other good found = refl
 sole_redirected : (representation : Representation) (text : List ℕ) (actives : Sited) (o : Result SearchValue OpenUrlFault) (query : SearchValue) → o ≡ Ok query
     → (query_response actives status.Good representation text (found_response representation text actives) o).status ≡ status.Found
     → (representation ≡ Html) × (actives.library.redirects_sole_hit ≡ true)
-    × IsSoleHit (looks_among query actives) (query_response actives status.Good representation text (found_response representation text actives) o).location
+    × IsSoleHit (found_among query actives) (query_response actives status.Good representation text (found_response representation text actives) o).location
 sole_redirected representation text actives o query is found =
     let at : query_response actives status.Good representation text (found_response representation text actives) o ≡ found_response representation text actives query =
     ap (query_response actives status.Good representation text (found_response representation text actives)) is in
@@ -305,7 +304,7 @@ sole_redirected representation text actives o query is found =
     let other : ResponseValue = hits_response status.Good representation text actives query in
     let own = sole_hit representation actives query (option_map_or redirect_to link other).location
     (redirect_of link other refl (subst (λ (r : ResponseValue). r.status ≡ status.Found) at found)) in
-    (own.0, own.1, subst (λ (r : ResponseValue). IsSoleHit (looks_among query actives) r.location) (sym at) own.2)
+    (own.0, own.1, subst (λ (r : ResponseValue). IsSoleHit (found_among query actives) r.location) (sym at) own.2)
 
 pub redirects_sole_hit : RedirectsSoleHit
 redirects_sole_hit representation text query actives asked found = sole_redirected representation text actives (asked_of text) query asked found

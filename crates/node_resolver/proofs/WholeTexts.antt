@@ -1,11 +1,8 @@
--- A response that shows all hits has the answers of the releases as they are.
-use Rattle.std.proofs.Common.{◌≡◌, ◌≤◌, ◌-◌, ℕ, suc, Option, List, [], ◌∷◌, ◌++◌, Bool, true, false, inl, inr, refl, sym, ap, ◌∙◌, arith, length, drop, map, subst, append_assoc}
-use Rattle.std.specs.Prelude.{if◌then◌else◌, nat_lt, nat_le, ◌&&◌}
-use Rattle.std.specs.List.{flat_map}
-use Rattle.std.proofs.lemmas.List.{take_all}
-use Rattle.std.proofs.lemmas.List.Elements.{filter_map-append}
-use Rattle.std.proofs.lemmas.Bool.{false≢true}
-use Rattle.std.proofs.lemmas.Bool.Decides.{leb_tells}
+-- A response that has all hits and shows them has the answers of the releases as they are.
+use Rattle.std.proofs.Common.{◌≡◌, ◌-◌, ℕ, suc, List, [], ◌∷◌, ◌++◌, Bool, true, false, refl, sym, ap, ◌∙◌, arith, length, drop, map, subst, append_assoc}
+use Rattle.std.specs.Prelude.{if◌then◌else◌, nat_lt, ◌&&◌, ◌==◌}
+use Rattle.std.specs.List.{flat_map, list_all}
+use Rattle.std.proofs.lemmas.List.{append-nil}
 use Rattle.feed_names.specs.ReleaseName.{Name, text_of}
 use Rattle.feed_answer.specs.HitValue.{HitValue}
 use Rattle.feed_answer.specs.Answers.{answer_of, answer_text, hit_line}
@@ -15,10 +12,11 @@ use Rattle.node_hits.specs.Searches.{SearchValue, compared}
 use Rattle.feed_releases.specs.Actives.{ActiveValue}
 use Rattle.node_hits.specs.Hits.{ReleaseHitValue, held_hits, release_hit}
 use Rattle.node_hits.specs.HitsText.{release_hit_line, release_head_line, release_text}
-use Rattle.node_hits.specs.Tallies.{text_size, first_within, shown_limit, text_limit, tally_of}
-use Rattle.node_hits.specs.Looks.{counted, found_in, row_limit}
+use Rattle.node_hits.specs.Looks.{FoundValue}
+use Rattle.node_hits.specs.Tallies.{counted, partial_name, text_size, first_within, shown_limit, text_limit, tally_of}
+use Rattle.node_hits.specs.declared.shares.Shares.{Shares}
 use Rattle.node_hits.proofs.LooksPlaced.{of_answer}
-use Rattle.node_resolver.specs.Answers.{sited_by, release_looks, looks_among, texts_behind, answers_body}
+use Rattle.node_resolver.specs.Answers.{sited_by, release_in, found_by, shares_in, texts_behind, answers_body}
 use Rattle.node_resolver.specs.Laws.{written_answer, WholeTextIsWritten}
 
 -- all hits of the list are shown
@@ -40,20 +38,37 @@ prefix_shown places bytes (found ∷ hits) more all =
     (first_within (places - 1) (bytes - text_size found) (hits ++ more)) (hits ++ more) all in
     rw (parts.0) (ap (λ l. found ∷ l) (prefix_shown (places - 1) (bytes - text_size found) hits more parts.1))
 
--- all rows are looked at, and all hits in them are shown
-record IsWhole (looks : List (Option ReleaseHitValue)) : Type 0 where
-  counts : counted looks ≡ found_in looks
-  shows : first_within shown_limit text_limit (counted looks) ≡ found_in looks
-  test : nat_le (length looks) row_limit ≡ true
+abbrev all_whole : List FoundValue → Bool
+all_whole founds = list_all (λ release. release.is_whole) founds
 
-whole_of : (looks : List (Option ReleaseHitValue)) → length looks ≤ row_limit → AllShown shown_limit text_limit (found_in looks) → IsWhole looks
-whole_of looks few all =
-    let same : counted looks ≡ found_in looks = ap found_in (take_all row_limit looks few) in
-    record {
-      counts = same;
-      shows = ap (first_within shown_limit text_limit) same ∙ all;
-      test = elim (leb_tells (length looks) row_limit) [ inl (e, le) ↦ e | inr (e, less) ↦ absurd (omega (arith, few, less)) ];
-    }
+-- no release has more, and all hits are shown
+record IsWhole (founds : List FoundValue) : Type 0 where
+  shows : first_within shown_limit text_limit (counted founds) ≡ counted founds
+  none : flat_map partial_name founds ≡ []
+
+both : (a b : Bool) → (a && b) ≡ true → (a ≡ true) × (b ≡ true)
+both true b e = (refl, e)
+both false b e = absurd (cc)
+
+none_partial : (founds : List FoundValue) → all_whole founds ≡ true → flat_map partial_name founds ≡ []
+none_partial [] whole = refl
+none_partial (found ∷ founds) whole =
+    let parts = both found.is_whole (all_whole founds) whole in
+    ap (λ b. (if b then [] else found.name ∷ []) ++ flat_map partial_name founds) parts.0 ∙ none_partial founds parts.1
+
+front_all : (founds more : List FoundValue) → all_whole (founds ++ more) ≡ true → all_whole founds ≡ true
+front_all [] more whole = refl
+front_all (found ∷ founds) more whole =
+    let parts = both found.is_whole (all_whole (founds ++ more)) whole in
+    ap (λ b. b && all_whole founds) parts.0 ∙ front_all founds more parts.1
+
+back_all : (founds more : List FoundValue) → all_whole (founds ++ more) ≡ true → all_whole more ≡ true
+back_all [] more whole = whole
+back_all (found ∷ founds) more whole = back_all founds more (both found.is_whole (all_whole (founds ++ more)) whole).1
+
+counted_append : (founds more : List FoundValue) → counted (founds ++ more) ≡ counted founds ++ counted more
+counted_append [] more = refl
+counted_append (found ∷ founds) more = ap (λ l. found.hits ++ l) (counted_append founds more) ∙ sym (append_assoc found.hits (counted founds) (counted more))
 
 -- the lines of a release
 lines_are : (site : site_file.SiteValue) (today : TodayValue) (search : SearchValue) (name : Name) (hits : List HitValue)
@@ -73,56 +88,50 @@ length_append : {A : Type 0} → (xs ys : List A) → length (xs ++ ys) - length
 length_append {A} [] ys = omega arith
 length_append {A} (x ∷ xs) ys = let less = length_append xs ys in omega (arith, less)
 
-release_is : (site : site_file.SiteValue) (today : TodayValue) (search : SearchValue) (earlier looks : List (Option ReleaseHitValue)) (name : Name) (hits : List HitValue)
-    → found_in looks ≡ map (release_hit site today search name) hits → IsWhole earlier → IsWhole (earlier ++ looks)
-    → release_text (tally_of earlier) (tally_of (earlier ++ looks)) name ≡ answer_text (text_of name) hits
+release_is : (site : site_file.SiteValue) (today : TodayValue) (search : SearchValue) (earlier : List FoundValue) (found : FoundValue) (name : Name) (hits : List HitValue)
+    → found.hits ≡ map (release_hit site today search name) hits → IsWhole earlier → IsWhole (earlier ++ found ∷ [])
+    → release_text (tally_of earlier) (tally_of (earlier ++ found ∷ [])) name ≡ answer_text (text_of name) hits
 unfolding release_text answer_text
-release_is site today search earlier looks name hits same before after =
+release_is site today search earlier found name hits same before after =
     let own = map (release_hit site today search name) hits in
-    let old = found_in earlier in
-    let joint : found_in (earlier ++ looks) ≡ old ++ own = filter_map-append (λ look. look) earlier looks ∙ ap (λ l. old ++ l) same in
+    let old = counted earlier in
+    let both_of = earlier ++ found ∷ [] in
+    let joint : counted both_of ≡ old ++ own = counted_append earlier (found ∷ []) ∙ ap (λ l. old ++ l) (append-nil found.hits ∙ same) in
     let head = text_of name in
-    let lines = flat_map release_hit_line (drop (length (tally_of earlier).shown) (tally_of (earlier ++ looks)).shown) in
-    ap (λ b. release_head_line head (length (counted (earlier ++ looks)) - length (counted earlier)) b ++ lines) after.test
-    ∙ ap (λ l. release_head_line head (length l - length (counted earlier)) true ++ lines) (after.counts ∙ joint)
-    ∙ ap (λ l. release_head_line head (length (old ++ own) - length l) true ++ lines) before.counts
+    let lines = flat_map release_hit_line (drop (length (tally_of earlier).shown) (tally_of both_of).shown) in
+    ap (λ (l : List Name). release_head_line head (length (counted both_of) - length old) (length l == length (flat_map partial_name earlier)) ++ lines) after.none
+    ∙ ap (λ (l : List Name). release_head_line head (length (counted both_of) - length old) (0 == length l) ++ lines) before.none
+    ∙ ap (λ l. release_head_line head (length l - length old) true ++ lines) joint
     ∙ ap (λ n. release_head_line head n true ++ lines) (length_append old own ∙ length_map site today search name hits)
-    ∙ ap (λ l. release_head_line head (length hits) true ++ flat_map release_hit_line (drop (length l) (tally_of (earlier ++ looks)).shown)) before.shows
+    ∙ ap (λ l. release_head_line head (length hits) true ++ flat_map release_hit_line (drop (length l) (tally_of both_of).shown)) before.shows
     ∙ ap (λ l. release_head_line head (length hits) true ++ flat_map release_hit_line (drop (length old) l)) (after.shows ∙ joint)
     ∙ ap (λ l. release_head_line head (length hits) true ++ flat_map release_hit_line l) (drop_front old own)
     ∙ ap (λ t. release_head_line head (length hits) true ++ t) (lines_are site today search name hits)
 
-fewer : {A : Type 0} → (xs ys : List A) → length xs ≤ length (xs ++ ys)
-fewer {A} [] ys = omega arith
-fewer {A} (x ∷ xs) ys = let less : length xs ≤ length (xs ++ ys) = fewer xs ys in omega (arith, less)
+-- the first releases of some that all have no more, and whose hits are all shown
+front_whole : (founds more : List FoundValue) → all_whole (founds ++ more) ≡ true → AllShown shown_limit text_limit (counted (founds ++ more)) → IsWhole founds
+front_whole founds more whole all = record {
+  shows = prefix_shown shown_limit text_limit (counted founds) (counted more) (subst (AllShown shown_limit text_limit) (counted_append founds more) all);
+  none = none_partial founds (front_all founds more whole);
+}
 
--- the first rows of some that are all looked at, and whose hits are all shown
-front_whole : (looks more : List (Option ReleaseHitValue)) → length (looks ++ more) ≤ row_limit → AllShown shown_limit text_limit (found_in (looks ++ more)) → IsWhole looks
-front_whole looks more few all =
-    let less : length looks ≤ length (looks ++ more) = fewer looks more in
-    whole_of looks (omega (arith, few, less))
-    (prefix_shown shown_limit text_limit (found_in looks) (found_in more) (subst (AllShown shown_limit text_limit) (filter_map-append (λ look. look) looks more) all))
-
-texts_whole : (site : site_file.SiteValue) (today : TodayValue) (search : SearchValue) (earlier : List (Option ReleaseHitValue)) (actives : List ActiveValue)
-    → length (earlier ++ looks_among search (sited_by site today actives)) ≤ row_limit
-    → AllShown shown_limit text_limit (found_in (earlier ++ looks_among search (sited_by site today actives)))
-    → texts_behind site today search earlier actives ≡ flat_map (written_answer site search) actives
-texts_whole site today search earlier [] few all = refl
-texts_whole site today search earlier (active ∷ actives) few all =
-    let own = release_looks site today search active in
-    let rest = looks_among search (sited_by site today actives) in
-    let joint : earlier ++ (own ++ rest) ≡ (earlier ++ own) ++ rest = sym (append_assoc earlier own rest) in
-    let count : length ((earlier ++ own) ++ rest) ≤ row_limit = rw (← joint) few in
-    let shown : AllShown shown_limit text_limit (found_in ((earlier ++ own) ++ rest)) = rw (← joint) all in
-    ap (λ t. t ++ texts_behind site today search (earlier ++ own) actives)
+texts_whole : (shares : Shares) (site : site_file.SiteValue) (today : TodayValue) (search : SearchValue) (earlier : List FoundValue) (actives : List ActiveValue)
+    → all_whole (earlier ++ found_by shares search (sited_by site today actives)) ≡ true
+    → AllShown shown_limit text_limit (counted (earlier ++ found_by shares search (sited_by site today actives)))
+    → texts_behind shares site today search earlier actives ≡ flat_map (written_answer site search) actives
+texts_whole shares site today search earlier [] whole all = refl
+texts_whole shares site today search earlier (active ∷ actives) whole all =
+    let own : FoundValue = release_in shares site today search active in
+    let rest = found_by shares search (sited_by site today actives) in
+    let joint : earlier ++ (own ∷ rest) ≡ (earlier ++ own ∷ []) ++ rest = sym (append_assoc earlier (own ∷ []) rest) in
+    let each : all_whole ((earlier ++ own ∷ []) ++ rest) ≡ true = rw (← joint) whole in
+    let shown : AllShown shown_limit text_limit (counted ((earlier ++ own ∷ []) ++ rest)) = rw (← joint) all in
+    let mine = (both own.is_whole (all_whole rest) (back_all earlier (own ∷ rest) whole)).0 in
+    ap (λ t. t ++ texts_behind shares site today search (earlier ++ own ∷ []) actives)
     (release_is site today search earlier own active.name (held_hits site search active.name (answer_of active.holdings (compared search)))
-    (of_answer site today search active.name active.holdings) (front_whole earlier (own ++ rest) few all) (front_whole (earlier ++ own) rest count shown))
-    ∙ ap (λ t. written_answer site search active ++ t) (texts_whole site today search (earlier ++ own) actives count shown)
+    (of_answer site today search active.name shares active.holdings mine) (front_whole earlier (own ∷ rest) whole all) (front_whole (earlier ++ own ∷ []) rest each shown))
+    ∙ ap (λ t. written_answer site search active ++ t) (texts_whole shares site today search (earlier ++ own ∷ []) actives each shown)
 
 pub whole_text : WholeTextIsWritten
 unfolding answers_body
-whole_text text search actives whole all =
-    let looks = looks_among search actives in
-    let few : length looks ≤ row_limit = (elim (leb_tells (length looks) row_limit) [ inl (e, le) ↦ le | inr (e, less) ↦ absurd (false≢true (sym e ∙ whole)) ]) in
-    let same : counted looks ≡ found_in looks = ap found_in (take_all row_limit looks few) in
-    texts_whole actives.library actives.today search [] actives.actives few (ap (first_within shown_limit text_limit) (sym same) ∙ all)
+whole_text text search actives whole all = texts_whole (shares_in search actives) actives.library actives.today search [] actives.actives whole all

@@ -1,6 +1,5 @@
 -- The hits of a query in active releases on a day, and the body that lists them.
-use Rattle.std.specs.Prelude.{ℕ, ◌==◌, ◌&&◌, ◌||◌, Bool, if◌then◌else◌, List, [], ◌∷◌, ◌++◌, drop, take, Option, is_some}
-use Rattle.std.specs.List.{flat_map}
+use Rattle.std.specs.Prelude.{ℕ, ◌==◌, ◌&&◌, ◌||◌, Bool, if◌then◌else◌, List, [], ◌∷◌, ◌++◌, drop, length, map, take, is_some}
 use Rattle.std.specs.Str.{bytes_eq}
 use Rattle.feed_answer.specs.Today.{TodayValue}
 use Rattle.node_site.specs.Site as site_file
@@ -10,14 +9,16 @@ use Rattle.node_request.specs.declared.representation.Representation.{Representa
 use Rattle.node_request.specs.declared.representation.Representation.TheVariants.{Text, Json, Html, Fragment, Sfx}
 use Rattle.node_request.specs.SfxQueries.{sfx_options_in}
 use Rattle.node_hits.specs.Hits.{ReleaseHitValue}
-use Rattle.node_hits.specs.Looks.{found_in, looks_in}
+use Rattle.node_hits.specs.Looks.{FoundValue, open_places, release_found}
+use Rattle.node_hits.specs.Shares.{shares_of}
+use Rattle.node_hits.specs.declared.shares.Shares.{Shares}
 use Rattle.node_hits.specs.AnswerJson.{answer_json}
 use Rattle.node_hits.specs.QueryFacts.{ask_of}
 use Rattle.node_hits.specs.Searches.{SearchValue, in_scope, with_title_id}
 use Rattle.node_hits.specs.declared.search.Scope.TheVariants as scope
 use Rattle.node_hits.specs.HitsText.{release_text}
 use Rattle.node_hits.specs.Sfx.{sfx_reply}
-use Rattle.node_hits.specs.Tallies.{TallyValue, tally_of}
+use Rattle.node_hits.specs.Tallies.{TallyValue, counted, tally_of}
 use Rattle.node_pages.specs.Fragments.{hits_fragment}
 use Rattle.node_pages.specs.HitsPage.{hits_page}
 use Rattle.node_response.specs.Tags.{SiteValue}
@@ -54,17 +55,28 @@ pub record ContextValue : Type 0 where
 abbrev pub sited_in : ContextValue → Sited
 sited_in context = sited context.site context.actives
 
--- what a search finds in each row of a release that has one of its identifiers
-abbrev pub release_looks : site_file.SiteValue → TodayValue → SearchValue → ActiveValue → List (Option ReleaseHitValue)
-release_looks site today search active = looks_in site today search active.name active.holdings.rows
+-- how many rows of each release a query may look at
+abbrev pub row_counts : site_file.SiteValue → QueryValue → List ActiveValue → List ℕ
+row_counts site query actives = map (λ active. length (open_places site active.name query active.holdings.rows)) actives
 
--- the same of all the releases, in their order
-abbrev pub looks_among : SearchValue → Sited → List (Option ReleaseHitValue)
-looks_among search actives = flat_map (release_looks actives.library actives.today search) actives.actives
+-- the shares of the releases
+abbrev pub shares_in : SearchValue → Sited → Shares
+shares_in search actives = shares_of (row_counts actives.library search.query actives.actives)
 
--- the hits in all these rows
+-- what a search finds in a release, within its shares
+abbrev pub release_in : Shares → site_file.SiteValue → TodayValue → SearchValue → ActiveValue → FoundValue
+release_in shares site today search active = release_found shares site today search active.name active.holdings.rows
+
+-- what it finds in all the releases, in their order
+abbrev pub found_by : Shares → SearchValue → Sited → List FoundValue
+found_by shares search actives = map (release_in shares actives.library actives.today search) actives.actives
+
+abbrev pub found_among : SearchValue → Sited → List FoundValue
+found_among search actives = found_by (shares_in search actives) search actives
+
+-- the hits that are counted
 abbrev pub hits_among : SearchValue → Sited → List ReleaseHitValue
-hits_among search actives = found_in (looks_among search actives)
+hits_among search actives = counted (found_among search actives)
 
 -- the release belongs to the package
 abbrev pub is_of : List ℕ → ActiveValue → Bool
@@ -72,14 +84,14 @@ is_of package_name active = bytes_eq active.name.package_name package_name
 
 -- the tally of the hits in all the releases
 abbrev pub tally_among : SearchValue → Sited → TallyValue
-tally_among search actives = tally_of (looks_among search actives)
+tally_among search actives = tally_of (found_among search actives)
 
--- the answers of releases as text, behind releases with these rows: the limits are on the rows and the hits of all
-abbrev pub texts_behind : site_file.SiteValue → TodayValue → SearchValue → List (Option ReleaseHitValue) → List ActiveValue → List ℕ
-texts_behind site today search earlier [] = []
-texts_behind site today search earlier (active ∷ actives) =
-    release_text (tally_of earlier) (tally_of (earlier ++ release_looks site today search active)) active.name
-    ++ texts_behind site today search (earlier ++ release_looks site today search active) actives
+-- the answers of releases as text, behind those in which this was found: the limits on what is shown are on all
+abbrev pub texts_behind : Shares → site_file.SiteValue → TodayValue → SearchValue → List FoundValue → List ActiveValue → List ℕ
+texts_behind shares site today search earlier [] = []
+texts_behind shares site today search earlier (active ∷ actives) =
+    release_text (tally_of earlier) (tally_of (earlier ++ release_in shares site today search active ∷ [])) active.name
+    ++ texts_behind shares site today search (earlier ++ release_in shares site today search active ∷ []) actives
 
 -- the query names a date and a volume, or one of them
 abbrev pub has_both : QueryValue → Bool
@@ -89,24 +101,25 @@ abbrev pub is_placed : QueryValue → Bool
 is_placed query = is_some query.days || is_some query.volume
 
 -- the rows of the same titles whose days are covered and whose volumes are not, if the query names both
-abbrev pub also_beside : SearchValue → Sited → List (Option ReleaseHitValue)
-also_beside search actives = if has_both search.query then looks_among (in_scope scope.Dated search) actives else []
+abbrev pub also_beside : SearchValue → Sited → List FoundValue
+also_beside search actives = if has_both search.query then found_among (in_scope scope.Dated search) actives else []
 
 abbrev pub also_among : SearchValue → Sited → TallyValue
 also_among search actives = tally_of (also_beside search actives)
 
 -- the other rows of the same titles, for any date and volume, which a query that names a date or a volume has if it has no
 -- hits of its own
-abbrev pub others_beside : ℕ → SearchValue → Sited → List (Option ReleaseHitValue)
+abbrev pub others_beside : ℕ → SearchValue → Sited → List FoundValue
 others_beside count search actives =
-    if (count == 0) && is_placed search.query then looks_among (in_scope scope.Others search) actives else []
+    if (count == 0) && is_placed search.query then found_among (in_scope scope.Others search) actives else []
 
 abbrev pub others_among : SearchValue → Sited → TallyValue
 others_among search actives = tally_of (others_beside (tally_among search actives).count search actives)
 
 -- the body of an answer from these releases, for what this text asks; as text, an answer does not repeat the query
 unfoldable pub answers_body : Representation → List ℕ → SearchValue → Sited → List ℕ
-answers_body Text text search actives = texts_behind actives.library actives.today search [] actives.actives
+answers_body Text text search actives =
+    texts_behind (shares_in search actives) actives.library actives.today search [] actives.actives
 answers_body Json text search actives = answer_json (ask_of text) [] (tally_among search actives) (also_among search actives)
 answers_body Html text search actives =
     hits_page actives.library text (ask_of text) (tally_among search actives) (also_among search actives) (others_among search actives)

@@ -1,5 +1,5 @@
 -- The laws of responses.
-use Rattle.std.specs.Prelude.{◌≡◌, ◌↔◌, ◌⊎◌, ℕ, Bool, true, All, List, Some, map}
+use Rattle.std.specs.Prelude.{◌≡◌, ◌⊎◌, ◌<◌, ℕ, Bool, true, All, List, Some, map}
 use Rattle.std.specs.List.{Contains, flat_map}
 use Rattle.json.specs.Json.{document, array}
 use Rattle.json.specs.Value.{items_of}
@@ -14,7 +14,9 @@ use Rattle.node_request.specs.declared.representation.Representation.TheVariants
 use Rattle.node_hits.specs.Hits.{ReleaseHitValue, held_hits, is_found, link_text, release_hit}
 use Rattle.node_site.specs.Site as site_file
 use Rattle.node_response.specs.Responses.{ResponseTextValue}
-use Rattle.node_resolver.specs.Answers.{Sited, hits_among, tally_among, answers_body}
+use Rattle.node_hits.specs.Laws.{AreShares}
+use Rattle.node_hits.specs.Looks.{looks_in, text_looks}
+use Rattle.node_resolver.specs.Answers.{Sited, answers_body, found_among, hits_among, release_in, row_counts, shares_in, tally_among}
 use Rattle.node_resolver.specs.Status.{IsCountable, active_value, status_body}
 use Rattle.node_response.specs.Tags.{SiteValue}
 use Rattle.node_resolver.specs.Responses.{IsResponseAt}
@@ -62,10 +64,29 @@ pub record IsHeldHit (search : SearchValue) (actives : Sited) (found : ReleaseHi
   pub held : is_found actives.library search active.name hit ≡ true
   pub shown : found ≡ release_hit actives.library actives.today search active.name hit
 
--- the rows that have one of a query's identifiers have exactly the hits of the core that the library has
+-- each hit that is counted is such a hit, and each such hit is counted, if its release is whole
 abbrev pub HitsAreHeld : Type 0
 HitsAreHeld = (search : SearchValue) (actives : Sited) (found : ReleaseHitValue)
-    → Contains (hits_among search actives) found ↔ IsHeldHit search actives found
+    → (Contains (hits_among search actives) found → IsHeldHit search actives found)
+    × ((is : IsHeldHit search actives found)
+    → (release_in (shares_in search actives) actives.library actives.today search is.active).is_whole ≡ true
+    → Contains (hits_among search actives) found)
+
+-- each release is looked at: let so many releases have rows that the query may look at. Of each, the first rows are looked at,
+-- 5,000 divided by that number and one at least, whatever the others have, unless more releases than that have rows. A hit in a row that is looked at is counted, or its
+-- texts count and its release is said to have more. In all releases together the rows are no more than 5,000, and if they have
+-- no more, all are looked at
+pub record IsLookedAt (search : SearchValue) (actives : Sited) (active : ActiveValue) : Type 0 where
+  pub shares : AreShares (row_counts actives.library search.query actives.actives) (shares_in search actives)
+  pub found : Contains (found_among search actives) (release_in (shares_in search actives) actives.library actives.today search active)
+  pub counted : (hit : ReleaseHitValue)
+      → Contains (looks_in (shares_in search actives) actives.library actives.today search active.name active.holdings.rows) (Some hit)
+      → Contains (hits_among search actives) hit
+      ⊎ ((0 < text_looks hit.hit.row) × Contains (tally_among search actives).partial active.name)
+
+abbrev pub EachReleaseIsLookedAt : Type 0
+EachReleaseIsLookedAt =
+    (search : SearchValue) (actives : Sited) (active : ActiveValue) → Contains actives.actives active → IsLookedAt search actives active
 
 -- the best link, of all hits or of the open ones, is that of such a hit
 abbrev pub LinksAreHeld : Type 0
@@ -78,7 +99,7 @@ abbrev pub written_answer : site_file.SiteValue → SearchValue → ActiveValue 
 written_answer site search active =
     answer_text (text_of active.name) (held_hits site search active.name (answer_of active.holdings (compared search)))
 
--- a response that looks at all rows and shows all hits has, as text, the answers that `Answer::write` prints, of the
+-- a response that has all hits and shows them has, as text, the answers that `Answer::write` prints, of the
 -- hits that the library has
 abbrev pub WholeTextIsWritten : Type 0
 WholeTextIsWritten =

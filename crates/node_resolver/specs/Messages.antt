@@ -18,11 +18,10 @@ use Rattle.node_hits.specs.Lookups.{asked_of}
 use Rattle.node_hits.specs.Hits.{ReleaseHitValue, is_open}
 use Rattle.node_hits.specs.Laws.{IsSoleHit}
 use Rattle.node_hits.specs.Ranks.{IsBestLink}
-use Rattle.node_hits.specs.Looks.{counted}
 use Rattle.node_hits.specs.Tallies.{outcome_of}
 use Rattle.std.specs.Str.{IsUtf8}
 use Rattle.node_response.specs.Tags.{SiteValue}
-use Rattle.node_resolver.specs.Answers.{Dated, Sited, looks_among, sited, tally_among}
+use Rattle.node_resolver.specs.Answers.{Dated, Sited, found_among, hits_among, sited, tally_among}
 use Rattle.node_request.specs.Forms.{form_of}
 use Rattle.node_resolver.specs.Responses.{IsResponse, library_target, untagged_response, has_coded_body, path_of, resolve_response, site_response, target_query}
 
@@ -88,7 +87,7 @@ GoesToBest =
     (site : SiteValue) (keeps : Bool) (actives : Dated) (bytes body : List ℕ) (head : RequestHead) (search : SearchValue) (response : ResponseTextValue)
     → BeginsWith bytes head → AsksToGo head search → IsResponse site bytes body keeps actives response
     → (target : Option (List ℕ))
-    × IsFollowed (counted (looks_among search (sited site actives)))
+    × IsFollowed (hits_among search (sited site actives))
     (library_target site.library (outcome_of (tally_among search (sited site actives))) search) target
     × GoesTo target (tally_among search (sited site actives)).is_whole response
 
@@ -99,7 +98,7 @@ RedirectsSoleHit =
     (representation : Representation) (text : List ℕ) (search : SearchValue) (actives : Sited)
     → asked_of text ≡ Ok search → (resolve_response representation text actives).status ≡ status.Found
     → (representation ≡ Html) × (actives.library.redirects_sole_hit ≡ true)
-    × IsSoleHit (looks_among search actives) (resolve_response representation text actives).location
+    × IsSoleHit (found_among search actives) (resolve_response representation text actives).location
 
 -- a GET that asks what a form asks: the same fields and path, and the form as its query
 pub record IsGetOfForm (post get : RequestHead) (body : List ℕ) : Type 0 where

@@ -1,16 +1,18 @@
 //! Counts the hits of a query in the active releases on a day, and writes the body that lists them.
-ghost use Rattle.std.specs.Prelude.{◌≡◌, ◌++◌, IfOk, OnOk};
-ghost use Rattle.node_hits.specs.Tallying.{no_hits, with_looks};
+ghost use Rattle.std.specs.Prelude.{◌≡◌, ◌≤◌, ◌++◌, IfOk, OnOk};
+ghost use Rattle.node_hits.specs.Tallying.{no_hits, with_release, with_releases};
 ghost use Rattle.node_request.specs.declared.representation.Representation.TheVariants.{Json, Html, Fragment, Sfx};
-ghost use Rattle.node_resolver.specs.Answers.{also_beside, answers_body, has_both, is_placed, looks_among};
-ghost use Rattle.node_resolver.specs.Answers.{others_beside, release_looks, sited_in};
+ghost use Rattle.node_resolver.specs.Answers.{also_beside, answers_body, found_among, found_by, has_both, is_placed};
+ghost use Rattle.node_resolver.specs.Answers.{others_beside, release_in, shares_in, sited_in};
 ghost use Rattle.node_resolver.specs.AnswerTexts.{texts_from};
 
 use crate::context::Context;
+use crate::shares::shares_among;
 use feed_answer::Query;
 use feed_releases::ActiveRelease;
 use node_hits::{
-    LibraryRelease, Lookup, ReceivedOpenUrl, Search, Tally, put_answer_json, put_release, put_sfx,
+    LibraryRelease, Lookup, ReceivedOpenUrl, Search, Shares, Tally, put_answer_json, put_release,
+    put_sfx,
 };
 use node_pages::{Tallies, put_hits_fragment, put_hits_page};
 use node_request::{Representation, sfx_options_in};
@@ -21,11 +23,14 @@ fn add_release<'a>(
     tally: &mut Tally<'a>,
     context: &Context<'a>,
     active: &ActiveRelease<'a>,
-    search: &Search<'_>,
+    search: &mut Search<'_>,
+    shares: Shares,
 ) -> Result<(), AllocError>
-    ensures { OnOk result (tally.new
-        ≡ with_looks tally.old
-        (release_looks context.now.site.library context.now.actives.today search.now active.now)) }
+    requires { shares.rows ≤ 10000 }
+    ensures same { search.new ≡ search.old }
+    ensures added { OnOk result (tally.new
+        ≡ with_release tally.old
+        (release_in shares context.now.site.library context.now.actives.today search.old active.now)) }
 {
     let release = LibraryRelease {
         site: context.library(),
@@ -33,21 +38,23 @@ fn add_release<'a>(
         name: active.name(),
         holdings: active.holdings(),
     };
-    tally.add_release(alloc, &release, search)
+    tally.add_release(alloc, &release, search, shares)
 }
 
-// Returns the tally of the hits of a search in the releases, in their order.
+// Returns the tally of the hits of a search in the releases, in their order, within these shares.
 fn tally_by<'a>(
     alloc: Global,
     context: &Context<'a>,
-    search: &Search<'_>,
+    mut search: Search<'_>,
+    shares: Shares,
 ) -> Result<Tally<'a>, AllocError>
+    requires { shares.rows ≤ 10000 }
     ensures { IfOk result (λ tally. tally
-        ≡ with_looks no_hits (looks_among search.now (sited_in context.now))) }
+        ≡ with_releases no_hits (found_by shares search.entry (sited_in context.now))) }
 {
     let mut tally = Tally::new(alloc);
     for active in context.actives {
-        add_release(alloc, &mut tally, context, active, search)?;
+        add_release(alloc, &mut tally, context, active, &mut search, shares)?;
     }
     Ok(tally)
 }
@@ -57,11 +64,14 @@ pub(crate) fn tally_among<'a>(
     alloc: Global,
     context: &Context<'a>,
     lookup: &Lookup<'_>,
+    shares: Shares,
 ) -> Result<Tally<'a>, AllocError>
+    requires shares { shares ≡ shares_in lookup.now (sited_in context.now) }
+    requires small { shares.rows ≤ 10000 }
     ensures { IfOk result (λ tally. tally
-        ≡ with_looks no_hits (looks_among lookup.now (sited_in context.now))) }
+        ≡ with_releases no_hits (found_among lookup.now (sited_in context.now))) }
 {
-    tally_by(alloc, context, &Search::of(lookup))
+    tally_by(alloc, context, Search::of(alloc, lookup), shares)
 }
 
 fn has_both(query: &Query) -> bool
@@ -82,12 +92,15 @@ fn also_beside<'a>(
     alloc: Global,
     context: &Context<'a>,
     lookup: &Lookup<'_>,
+    shares: Shares,
 ) -> Result<Tally<'a>, AllocError>
+    requires shares { shares ≡ shares_in lookup.now (sited_in context.now) }
+    requires small { shares.rows ≤ 10000 }
     ensures { IfOk result (λ tally. tally
-        ≡ with_looks no_hits (also_beside lookup.now (sited_in context.now))) }
+        ≡ with_releases no_hits (also_beside lookup.now (sited_in context.now))) }
 {
     if has_both(lookup.query()) {
-        tally_by(alloc, context, &Search::dated(lookup))
+        tally_by(alloc, context, Search::dated(alloc, lookup), shares)
     } else {
         Ok(Tally::new(alloc))
     }
@@ -99,13 +112,16 @@ fn others_beside<'a>(
     alloc: Global,
     context: &Context<'a>,
     lookup: &Lookup<'_>,
+    shares: Shares,
     count: usize,
 ) -> Result<Tally<'a>, AllocError>
+    requires shares { shares ≡ shares_in lookup.now (sited_in context.now) }
+    requires small { shares.rows ≤ 10000 }
     ensures { IfOk result (λ tally. tally
-        ≡ with_looks no_hits (others_beside count lookup.now (sited_in context.now))) }
+        ≡ with_releases no_hits (others_beside count lookup.now (sited_in context.now))) }
 {
     if count == 0 && is_placed(lookup.query()) {
-        tally_by(alloc, context, &Search::others(lookup))
+        tally_by(alloc, context, Search::others(alloc, lookup), shares)
     } else {
         Ok(Tally::new(alloc))
     }
@@ -117,13 +133,16 @@ fn put_texts(
     out: &mut Vec<u8>,
     context: &Context<'_>,
     lookup: &Lookup<'_>,
+    shares: Shares,
 ) -> Result<(), AllocError>
+    requires { shares.rows ≤ 10000 }
     ensures { OnOk result (out.new.items
         ≡ out.old.items
-        ++ texts_from context.now.site.library context.now.actives.today lookup.now no_hits
+        ++ texts_from shares context.now.site.library context.now.actives.today lookup.now no_hits
         context.now.actives.actives) }
 {
     let mut tally = Tally::new(alloc);
+    let mut search = Search::of(alloc, lookup);
     for active in context.actives {
         let release = LibraryRelease {
             site: context.library(),
@@ -131,7 +150,7 @@ fn put_texts(
             name: active.name(),
             holdings: active.holdings(),
         };
-        put_release(alloc, out, &mut tally, &release, lookup)?;
+        put_release(alloc, out, &mut tally, &release, &mut search, shares)?;
     }
     Ok(())
 }
@@ -143,14 +162,17 @@ fn put_json(
     query: &ReceivedOpenUrl<'_>,
     context: &Context<'_>,
     lookup: &Lookup<'_>,
+    shares: Shares,
     hits: &Tally<'_>,
 ) -> Result<(), AllocError>
-    requires { hits.now ≡ with_looks no_hits (looks_among lookup.now (sited_in context.now)) }
+    requires shares { shares ≡ shares_in lookup.now (sited_in context.now) }
+    requires small { shares.rows ≤ 10000 }
+    requires hits { hits.now ≡ with_releases no_hits (found_among lookup.now (sited_in context.now)) }
     ensures { OnOk result (out.new.items
         ≡ out.old.items ++ answers_body Json query.now.text.now lookup.now (sited_in context.now)) }
 {
     let ask = query.ask(alloc)?;
-    let also = also_beside(alloc, context, lookup)?;
+    let also = also_beside(alloc, context, lookup, shares)?;
     put_answer_json(out, &ask, b"", hits, &also)
 }
 
@@ -161,15 +183,18 @@ fn put_page<'a>(
     query: &ReceivedOpenUrl<'_>,
     context: &Context<'a>,
     lookup: &Lookup<'_>,
+    shares: Shares,
     hits: Tally<'a>,
 ) -> Result<(), AllocError>
-    requires { hits ≡ with_looks no_hits (looks_among lookup.now (sited_in context.now)) }
+    requires shares { shares ≡ shares_in lookup.now (sited_in context.now) }
+    requires small { shares.rows ≤ 10000 }
+    requires hits { hits ≡ with_releases no_hits (found_among lookup.now (sited_in context.now)) }
     ensures { OnOk result (out.new.items
         ≡ out.old.items ++ answers_body Html query.now.text.now lookup.now (sited_in context.now)) }
 {
     let ask = query.ask(alloc)?;
-    let also = also_beside(alloc, context, lookup)?;
-    let others = others_beside(alloc, context, lookup, hits.count())?;
+    let also = also_beside(alloc, context, lookup, shares)?;
+    let others = others_beside(alloc, context, lookup, shares, hits.count())?;
     let found = Tallies { hits, also, others };
     put_hits_page(alloc, out, context.library(), query.pairs(), &ask, &found)
 }
@@ -182,7 +207,7 @@ fn put_targets(
     lookup: &Lookup<'_>,
     hits: &Tally<'_>,
 ) -> Result<(), AllocError>
-    requires { hits.now ≡ with_looks no_hits (looks_among lookup.now (sited_in context.now)) }
+    requires { hits.now ≡ with_releases no_hits (found_among lookup.now (sited_in context.now)) }
     ensures { OnOk result (out.new.items
         ≡ out.old.items ++ answers_body Sfx query.now.text.now lookup.now (sited_in context.now)) }
 {
@@ -197,15 +222,18 @@ fn put_fragment<'a>(
     query: &ReceivedOpenUrl<'_>,
     context: &Context<'a>,
     lookup: &Lookup<'_>,
+    shares: Shares,
     hits: Tally<'a>,
 ) -> Result<(), AllocError>
-    requires { hits ≡ with_looks no_hits (looks_among lookup.now (sited_in context.now)) }
+    requires shares { shares ≡ shares_in lookup.now (sited_in context.now) }
+    requires small { shares.rows ≤ 10000 }
+    requires hits { hits ≡ with_releases no_hits (found_among lookup.now (sited_in context.now)) }
     ensures { OnOk result (out.new.items
         ≡ out.old.items ++ answers_body Fragment query.now.text.now lookup.now (sited_in context.now)) }
 {
     let ask = query.ask(alloc)?;
-    let also = also_beside(alloc, context, lookup)?;
-    let others = others_beside(alloc, context, lookup, hits.count())?;
+    let also = also_beside(alloc, context, lookup, shares)?;
+    let others = others_beside(alloc, context, lookup, shares, hits.count())?;
     let found = Tallies { hits, also, others };
     put_hits_fragment(alloc, out, context.library(), query.pairs(), &ask, &found)
 }
@@ -218,18 +246,21 @@ pub(crate) fn put_counted<'a>(
     query: &ReceivedOpenUrl<'_>,
     context: &Context<'a>,
     lookup: &Lookup<'_>,
+    shares: Shares,
     hits: Tally<'a>,
 ) -> Result<(), AllocError>
-    requires { hits ≡ with_looks no_hits (looks_among lookup.now (sited_in context.now)) }
+    requires shares { shares ≡ shares_in lookup.now (sited_in context.now) }
+    requires small { shares.rows ≤ 10000 }
+    requires hits { hits ≡ with_releases no_hits (found_among lookup.now (sited_in context.now)) }
     ensures { OnOk result (out.new.items
         ≡ out.old.items
         ++ answers_body query.now.representation query.now.text.now lookup.now (sited_in context.now)) }
 {
     match query.representation {
-        Representation::Text => put_texts(alloc, out, context, lookup),
-        Representation::Json => put_json(alloc, out, query, context, lookup, &hits),
-        Representation::Html => put_page(alloc, out, query, context, lookup, hits),
-        Representation::Fragment => put_fragment(alloc, out, query, context, lookup, hits),
+        Representation::Text => put_texts(alloc, out, context, lookup, shares),
+        Representation::Json => put_json(alloc, out, query, context, lookup, shares, &hits),
+        Representation::Html => put_page(alloc, out, query, context, lookup, shares, hits),
+        Representation::Fragment => put_fragment(alloc, out, query, context, lookup, shares, hits),
         Representation::Sfx => put_targets(out, query, context, lookup, &hits),
     }
 }
@@ -246,11 +277,12 @@ pub(crate) fn put_answer(
         ≡ out.old.items
         ++ answers_body query.now.representation query.now.text.now lookup.now (sited_in context.now)) }
 {
+    let shares = shares_among(alloc, context, lookup)?;
     match query.representation {
-        Representation::Text => put_texts(alloc, out, context, lookup),
+        Representation::Text => put_texts(alloc, out, context, lookup, shares),
         _ => {
-            let hits = tally_among(alloc, context, lookup)?;
-            put_counted(alloc, out, query, context, lookup, hits)
+            let hits = tally_among(alloc, context, lookup, shares)?;
+            put_counted(alloc, out, query, context, lookup, shares, hits)
         }
     }
 }

@@ -1,6 +1,6 @@
 //! Laws of all responses, each stated as the contract of a function with an empty body.
 ghost use Rattle.node_resolver.specs.Laws.{SameReleasesSameBytes, SameReleasesSameNodeBytes, StatusIsJson};
-ghost use Rattle.node_resolver.specs.Laws.{HitsAreHeld, LinksAreHeld, WholeTextIsWritten};
+ghost use Rattle.node_resolver.specs.Laws.{EachReleaseIsLookedAt, HitsAreHeld, LinksAreHeld, WholeTextIsWritten};
 ghost use Rattle.node_resolver.specs.Messages.{EveryPageIsUtf8, FormIsGet, GoesToBest, HeadIsHeadOfGet};
 ghost use Rattle.node_resolver.specs.Messages.{RedirectsSoleHit};
 ghost use Rattle.node_resolver.specs.SiteLaws.{HostHasItsSite, HostWithoutSiteIsMisdirected};
@@ -24,8 +24,8 @@ pub fn head_is_head_of_get()
     ensures { HeadIsHeadOfGet }
 {}
 
-/// `/go` redirects to a hit that is open to readers, or else to a link of the library, or else to a hit. No such hit in
-/// the rows that are looked at, that may be linked to, ranks above it.
+/// `/go` redirects to a hit that is open to readers, or else to a link of the library, or else to a hit. No such hit
+/// that is counted, and that may be linked to, ranks above it.
 pub fn goes_to_best()
     ensures { GoesToBest }
 {}
@@ -41,9 +41,16 @@ pub fn status_is_json()
     ensures { StatusIsJson }
 {}
 
-/// The rows that have one of a query's identifiers have exactly the hits of the core that the library has.
+/// Each hit that is counted is one of the core that the library has. Each such hit is counted, if its release is whole.
 pub fn hits_are_held()
     ensures { HitsAreHeld }
+{}
+
+/// Each release is looked at, whatever the others have. Let N releases have rows that the query may look at: in each,
+/// the first 5,000 / N rows are looked at, and one at least. A hit in a row that is looked at is counted,
+/// or its texts are long and its release is said to have more.
+pub fn each_release_is_looked_at()
+    ensures { EachReleaseIsLookedAt }
 {}
 
 /// A hit that the library does not have is never linked to.
@@ -51,7 +58,7 @@ pub fn links_are_held()
     ensures { LinksAreHeld }
 {}
 
-/// A response that looks at all rows and shows all hits has, as text, the answers that `Answer::write` prints of the
+/// A response that has all hits and shows them has, as text, the answers that `Answer::write` prints of the
 /// hits that the library has.
 pub fn whole_text_is_written()
     ensures { WholeTextIsWritten }

@@ -11,6 +11,7 @@ mod node;
 mod node_sites;
 mod request;
 mod responses;
+mod shares;
 mod sites_read;
 mod sites_reading;
 mod sites_responses;
@@ -21,8 +22,8 @@ mod validators;
 pub use context::Context;
 pub use feed_responses::{Activity, FeedTarget, LastFetch, ends_fetch, respond_about_feed};
 pub use laws::{
-    every_page_is_utf8, form_is_get, goes_to_best, head_is_head_of_get, hits_are_held,
-    host_has_its_site, host_without_site_is_misdirected, links_are_held,
+    each_release_is_looked_at, every_page_is_utf8, form_is_get, goes_to_best, head_is_head_of_get,
+    hits_are_held, host_has_its_site, host_without_site_is_misdirected, links_are_held,
     not_modified_has_tag_of_good, other_sites_do_not_count, redirects_sole_hit,
     same_inputs_same_bytes, same_releases_same_bytes, same_releases_same_node_bytes,
     same_releases_same_tag, status_is_json, whole_text_is_written,

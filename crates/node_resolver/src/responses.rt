@@ -1,5 +1,5 @@
 //! Computes the response to the head of a request and to its body, which only a form has.
-ghost use Rattle.std.specs.Prelude.{◌≡◌, IfOk, position};
+ghost use Rattle.std.specs.Prelude.{◌≡◌, ◌≤◌, IfOk, position};
 ghost use Rattle.std.specs.Option.{option_map_or};
 ghost use Rattle.httparse.specs.Grammar.{AllPass, RequestHead, is_uri_byte};
 ghost use Rattle.feed_http_heads.specs.Options.{SaysWhetherItKeeps};
@@ -15,8 +15,8 @@ ghost use Rattle.node_pages.specs.TitlesPage.{titles_response};
 ghost use Rattle.node_response.specs.Responses.{of_site, redirect_to, response_with, response_of};
 ghost use Rattle.node_response.specs.Messages.{IsLocation, IsMessageFor};
 ghost use Rattle.node_response.specs.declared.status.Status.TheVariants as status;
-ghost use Rattle.node_resolver.specs.Answers.{dated, is_of, looks_among, sited_in, tally_among};
-ghost use Rattle.node_hits.specs.Tallying.{no_hits, with_looks};
+ghost use Rattle.node_resolver.specs.Answers.{dated, found_among, is_of, shares_in, sited_in, tally_among};
+ghost use Rattle.node_hits.specs.Tallying.{no_hits, with_releases};
 ghost use Rattle.node_resolver.specs.Responses.{IsResponse, IsResponseAt, hits_response, go_response, resolve_response};
 ghost use Rattle.node_resolver.specs.Responses.{found_response, package_response, redirect_response};
 ghost use Rattle.node_resolver.specs.Responses.{status_without, target_response};
@@ -30,6 +30,7 @@ ghost use Rattle.node_pages.specs.HomePage.{home_page};
 use crate::answers::{put_answer, put_counted, tally_among};
 use crate::context::Context;
 use crate::request::ReaderRequest;
+use crate::shares::shares_among;
 use crate::status::put_status;
 use crate::targets::{copied, target_in};
 use crate::validators::{preflight_status, tag_to, validated_response};
@@ -37,7 +38,7 @@ use feed_answer::Today;
 use feed_http_heads::Request;
 use feed_keep::Keep;
 use feed_releases::{ActiveRelease, Feed};
-use node_hits::{Lookup, ReceivedOpenUrl, Tally};
+use node_hits::{Lookup, ReceivedOpenUrl, Shares, Tally};
 use node_pages::{OpenUrlText, error_response, put_home_page, unasked_response};
 use node_request::{
     FormFault, ParsedRequest, ReceivedRequest, Representation, Route, accepted_representation,
@@ -69,14 +70,17 @@ fn counted_response<'a>(
     query: &ReceivedOpenUrl<'_>,
     context: &Context<'a>,
     lookup: &Lookup<'_>,
+    shares: Shares,
     hits: Tally<'a>,
 ) -> Result<Response, AllocError>
-    requires { hits ≡ with_looks no_hits (looks_among lookup.now (sited_in context.now)) }
+    requires shares { shares ≡ shares_in lookup.now (sited_in context.now) }
+    requires small { shares.rows ≤ 10000 }
+    requires hits { hits ≡ with_releases no_hits (found_among lookup.now (sited_in context.now)) }
     ensures { IfOk result (λ reply. reply
         ≡ hits_response status query.now.representation query.now.text.now (sited_in context.now) lookup.now) }
 {
     let mut body = Vec::new(alloc);
-    put_counted(alloc, &mut body, query, context, lookup, hits)?;
+    put_counted(alloc, &mut body, query, context, lookup, shares, hits)?;
     Ok(Response::new(status, query.representation, body))
 }
 
@@ -91,10 +95,11 @@ fn sole_response(
         ≡ option_map_or redirect_to (sole_link (tally_among lookup.now (sited_in context.now)))
         (hits_response status.Good query.now.representation query.now.text.now (sited_in context.now) lookup.now)) }
 {
-    let hits = tally_among(alloc, context, lookup)?;
+    let shares = shares_among(alloc, context, lookup)?;
+    let hits = tally_among(alloc, context, lookup, shares)?;
     match copied(alloc, hits.sole_link())? {
         Some(link) => Ok(Response::redirect(alloc, link)),
-        None => counted_response(alloc, Status::Good, query, context, lookup, hits),
+        None => counted_response(alloc, Status::Good, query, context, lookup, shares, hits),
     }
 }
 
@@ -180,11 +185,12 @@ fn redirect_response(
     ensures { IfOk result (λ reply. reply
         ≡ redirect_response query.now.representation query.now.text.now (sited_in context.now) lookup.now) }
 {
-    let hits = tally_among(alloc, context, lookup)?;
+    let shares = shares_among(alloc, context, lookup)?;
+    let hits = tally_among(alloc, context, lookup, shares)?;
     let status = status_without(hits.is_whole());
     match target_in(alloc, context.library(), lookup, &hits)? {
         Some(link) => Ok(Response::redirect(alloc, link)),
-        None => counted_response(alloc, status, query, context, lookup, hits),
+        None => counted_response(alloc, status, query, context, lookup, shares, hits),
     }
 }
 

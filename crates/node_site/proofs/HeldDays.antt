@@ -1,14 +1,17 @@
 -- A library has a day that is asked for and covered, if its days share one with each.
-use Rattle.std.proofs.Common.{◌≡◌, ℕ, ℤ, ◌≤ℤ◌, int_le, Bool, true, false, cond, List, [], ◌∷◌, Option, Some, None, refl, arith}
-use Rattle.std.specs.Prelude.{◌&&◌, int_lt, not}
+use Rattle.std.proofs.Common.{◌≡◌, ◌∙◌, ℕ, ℤ, ◌≤ℤ◌, int_le, Bool, true, false, cond, List, [], ◌∷◌, Option, Some, None, ap, refl, arith}
+use Rattle.std.specs.Prelude.{◌&&◌, ◌||◌, int_lt, is_some, not, option_map, unwrap_or}
+use Rattle.std.specs.List.{find}
+use Rattle.std.specs.Str.{bytes_eq}
 use Rattle.std.proofs.lemmas.Int.{ints}
 use Rattle.feed_dates.specs.declared.day_range.DayRange.{DayRange}
-use Rattle.node_site.specs.Site.{HoldingValue, SiteValue}
+use Rattle.node_site.specs.Site.{HoldingValue, SiteValue, TitleValue}
 use Rattle.node_site.specs.Valid.{is_forward}
-use Rattle.node_site.specs.HoldingsFiles.{rows_of}
-use Rattle.node_site.specs.Held.{has_asked, has_days, library_has, listed_package, listed_title, shares_day, unlisted}
+use Rattle.node_site.specs.HoldingsFiles.{has_bytes, rows_of}
+use Rattle.node_site.specs.Held.{has_asked, has_days, holding_at, holding_beside, holding_of_title, is_on_title, is_title, library_has, listed_package, listed_title}
+use Rattle.node_site.specs.Held.{shares_day, title_holding, unlisted}
 use Rattle.node_site.proofs.HoldingsRead.{no_rows}
-use Rattle.node_site.specs.HeldLaws.{AllIsHeld, AreDays, Begun, HeldDaysAreShown, IsHeldDay, IsWithin, Lasts, OffIsNotHeld, UnlistedIsNotHeld}
+use Rattle.node_site.specs.HeldLaws.{AllIsHeld, AreDays, Begun, HeldDaysAreShown, IsHeldDay, IsWithin, Lasts, OffIsNotHeld, OffPackageIsNotHeld, UnlistedIsNotHeld}
 
 both_true : (s t : Bool) → (s && t) ≡ true → (s ≡ true) × (t ≡ true)
 both_true true t h = (refl, h)
@@ -113,6 +116,50 @@ pub off : OffIsNotHeld
 unfolding library_has
 off site package_id id first last asked is = rw is refl
 
+-- ---- a package of which the library may have no title
+
+-- no file says nothing
+nothing_listed : (package_id id : List ℕ) → listed_title package_id id (rows_of []) ≡ None
+nothing_listed package_id [] = refl
+nothing_listed package_id (b ∷ id) = rw no_rows refl
+
+neither : (a b : Bool) → (a || b) ≡ false → (a ≡ false) × (b ≡ false)
+neither true b e = absurd (cc)
+neither false b e = (refl, e)
+
+no_bytes : (text : List ℕ) → has_bytes text ≡ false → text ≡ []
+no_bytes [] e = refl
+no_bytes (b ∷ rest) e = absurd (cc)
+
+-- no table switches a title on, so that of a title switches it off
+title_off : (package_id id : List ℕ) (rules : List TitleValue) (rest : HoldingValue) → is_some (find (is_on_title package_id) rules) ≡ false → rest.is_held ≡ false
+    → (unwrap_or (title_holding package_id id rules) rest).is_held ≡ false
+title_off package_id id [] rest none off = off
+title_off package_id id (rule ∷ rules) rest none off =
+    go rule.holding.is_held (bytes_eq rule.package_id package_id) (bytes_eq rule.id id) refl none (title_off package_id id rules rest)
+  where
+    go : (held same title : Bool) → rule.holding.is_held ≡ held → is_some (cond (held && same) (Some rule) (find (is_on_title package_id) rules)) ≡ false
+        → (is_some (find (is_on_title package_id) rules) ≡ false → rest.is_held ≡ false → (unwrap_or (title_holding package_id id rules) rest).is_held ≡ false)
+        → (unwrap_or (option_map holding_of_title (cond (same && title) (Some rule) (find (is_title package_id id) rules))) rest).is_held ≡ false
+    go true true title is some more = absurd (cc)
+    go true false title is some more = more some off
+    go false false title is some more = more some off
+    go false true true is some more = is
+    go false true false is some more = more some off
+
+pub off_package : OffPackageIsNotHeld
+unfolding library_has
+off_package site package_id id first last asked is =
+    let parts = neither (holding_beside site package_id).is_held (is_some (find (is_on_title package_id) site.titles) || has_bytes site.listing) is in
+    let titles = neither (is_some (find (is_on_title package_id) site.titles)) (has_bytes site.listing) parts.1 in
+    let listing = no_bytes site.listing titles.1 in
+    let unlisted_is : listed_title package_id id (rows_of site.listing) ≡ None =
+    ap (λ (t : List ℕ). listed_title package_id id (rows_of t)) listing ∙ nothing_listed package_id id in
+    let held : (holding_at site package_id id).is_held ≡ false =
+    ap (λ (o : Option HoldingValue). (unwrap_or (title_holding package_id id site.titles) (unwrap_or o (holding_beside site package_id))).is_held) unlisted_is
+    ∙ title_off package_id id site.titles (holding_beside site package_id) titles.0 parts.0 in
+    rw held refl
+
 open_days : (first last : Option ℤ) → shares_day None None first last ≡ true
 open_days None None = refl
 open_days None (Some last) = refl
@@ -121,11 +168,6 @@ open_days (Some first) last = refl
 open_asked : (site : SiteValue) (asked : Option DayRange) → has_asked (unlisted site) asked ≡ true
 open_asked site None = refl
 open_asked site (Some days) = refl
-
--- no file says nothing
-nothing_listed : (package_id id : List ℕ) → listed_title package_id id (rows_of []) ≡ None
-nothing_listed package_id [] = refl
-nothing_listed package_id (b ∷ id) = rw no_rows refl
 
 nothing_of_package : (package_id : List ℕ) → listed_package package_id (rows_of []) ≡ None
 nothing_of_package package_id = rw no_rows refl

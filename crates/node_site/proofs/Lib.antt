@@ -22,3 +22,4 @@ pub mod HoldingsOrder
 pub mod SitesKept
 pub mod HoldingsRead
 pub mod HoldingsSteps
+pub mod RowFields

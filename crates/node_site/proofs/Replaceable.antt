@@ -79,6 +79,7 @@ texts_have_names text.Years = refl
 texts_have_names text.NotShown = refl
 texts_have_names text.NotShownAtLeast = refl
 texts_have_names text.NotShownHint = refl
+texts_have_names text.MoreIn = refl
 texts_have_names text.HeldOther = refl
 texts_have_names text.NoHoldings = refl
 texts_have_names text.NoNumber = refl

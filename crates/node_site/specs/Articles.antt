@@ -1,13 +1,18 @@
 -- The links to articles, and to what a DOI names.
-use Rattle.std.specs.Prelude.{ℕ, Bool, false, List, ◌++◌, Option, Some, None, if◌then◌else◌, codes}
-use Rattle.std.specs.List.{find}
+use Rattle.std.specs.Prelude.{◌≡◌, ℕ, Bool, true, false, All, List, [], ◌++◌, Option, Some, None, if◌then◌else◌, codes, option_map}
+use Rattle.std.specs.List.{find, list_any}
 use Rattle.std.specs.Option.{option_and_then, option_or}
 use Rattle.node_site.specs.Held.{is_package}
 use Rattle.node_site.specs.Hosts.{host_of}
 use Rattle.node_site.specs.Platforms.{platform_at}
 use Rattle.node_site.specs.Proxies.{is_direct, proxied}
-use Rattle.node_site.specs.Requests.{CitedTitleValue, filled, gives_all, if_link}
+use Rattle.node_site.specs.Fields.{field_named}
+use Rattle.node_site.specs.Requests.{CitedTitleValue, filled, gives_all, if_link, names_in}
 use Rattle.node_site.specs.Site.{PackageValue, PlatformValue, SiteValue}
+use Rattle.node_site.specs.declared.article_addresses.ArticleAddresses.{ArticleAddresses}
+use Rattle.node_site.specs.declared.article_addresses.MadeAddress.{MadeAddress}
+use Rattle.node_site.specs.declared.field.Field.{Field}
+use Rattle.node_site.specs.declared.field.Field.TheVariants.{TitleId}
 
 abbrev pub article_of_package : PackageValue → Option (List ℕ)
 article_of_package rule = rule.article
@@ -26,9 +31,34 @@ platform_article site host = option_and_then article_of_platform (platform_at si
 abbrev pub article_template : SiteValue → List ℕ → List ℕ → Option (List ℕ)
 article_template site id url = option_or (package_article site id) (option_and_then (platform_article site) (host_of url))
 
+-- a name is that of the `title_id` of a row
+abbrev pub is_row_field : Option Field → Bool
+is_row_field (Some TitleId) = true
+is_row_field other = false
+
+abbrev pub is_row_name : List ℕ → Bool
+is_row_name name = is_row_field (field_named name)
+
+-- a template has such a name, so that its addresses differ by the row
+abbrev pub depends_on_row : List ℕ → Bool
+depends_on_row template = list_any is_row_name (names_in template)
+
+-- a citation whose row is unknown
+abbrev pub without_row : CitedTitleValue → CitedTitleValue
+without_row cited = record cited { title_id = [] }
+
 -- the address of the cited article, if the citation has every name of the template
 abbrev pub article_address : CitedTitleValue → List ℕ → Option (List ℕ)
 article_address cited template = if gives_all cited template then Some (filled cited template) else None
+
+-- an address that was made for a citation: it depends on no row
+abbrev pub IsMade : CitedTitleValue → MadeAddress → Type 0
+IsMade cited made =
+    (depends_on_row made.template.items ≡ false)
+    × (option_map (λ text. text.items) made.address ≡ article_address cited made.template.items)
+
+abbrev pub AreMade : CitedTitleValue → ArticleAddresses → Type 0
+AreMade cited addresses = All (IsMade cited) addresses.made.items
 
 -- the link to the cited article in a row of a package, which goes through a proxy as the link to the row does
 unfoldable pub article_link : SiteValue → List ℕ → List ℕ → Bool → CitedTitleValue → Option (List ℕ)

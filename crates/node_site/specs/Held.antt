@@ -1,11 +1,11 @@
 -- The holdings of a library among the rows of a list.
-use Rattle.std.specs.Prelude.{ℕ, ℤ, ◌&&◌, Bool, true, List, [], ◌∷◌, Option, Some, None, option_map, unwrap_or}
+use Rattle.std.specs.Prelude.{ℕ, ℤ, ◌&&◌, ◌||◌, Bool, true, List, [], ◌∷◌, Option, Some, None, is_some, option_map, unwrap_or}
 use Rattle.std.specs.List.{find}
 use Rattle.std.specs.Str.{bytes_eq}
 use Rattle.feed_dates.specs.declared.day_range.DayRange.{DayRange}
 use Rattle.node_site.specs.Site.{HoldingValue, PackageValue, TitleValue, SiteValue}
 use Rattle.node_site.specs.Valid.{is_forward}
-use Rattle.node_site.specs.HoldingsFiles.{rows_of}
+use Rattle.node_site.specs.HoldingsFiles.{has_bytes, rows_of}
 
 -- the table is about this package, or about this title of it
 abbrev pub is_package : List ℕ → PackageValue → Bool
@@ -40,15 +40,28 @@ listed_package package_id rows = title_holding package_id [] rows
 abbrev pub unlisted : SiteValue → HoldingValue
 unlisted site = record { is_held = site.holds_unlisted; first = None; last = None }
 
+-- what the library has of the titles of a package of which nothing else is said: the package's table decides before its row in
+-- the holdings file
+abbrev pub holding_beside : SiteValue → List ℕ → HoldingValue
+holding_beside site package_id =
+    unwrap_or (package_holding package_id site.packages) (unwrap_or (listed_package package_id (rows_of site.listing)) (unlisted site))
+
+-- the table switches a title of this package on
+abbrev pub is_on_title : List ℕ → TitleValue → Bool
+is_on_title package_id rule = rule.holding.is_held && bytes_eq rule.package_id package_id
+
+-- the library may have titles of a package: unless the package is off, no table switches a title of it on, and there is no
+-- holdings file that might
+abbrev pub may_hold : SiteValue → List ℕ → Bool
+may_hold site package_id =
+    (holding_beside site package_id).is_held || (is_some (find (is_on_title package_id) site.titles) || has_bytes site.listing)
+
 -- what the library has of a title of a package. The first place that says something decides, in this order: the title's table,
 -- its row in the holdings file, the package's table, its row in the file, and else the default
 abbrev pub holding_at : SiteValue → List ℕ → List ℕ → HoldingValue
 holding_at site package_id id =
     unwrap_or (title_holding package_id id site.titles)
-    (unwrap_or (listed_title package_id id (rows_of site.listing))
-    (unwrap_or (package_holding package_id site.packages)
-    (unwrap_or (listed_package package_id (rows_of site.listing))
-    (unlisted site))))
+    (unwrap_or (listed_title package_id id (rows_of site.listing)) (holding_beside site package_id))
 
 -- the days from a first to a last one share a day with others: neither begins after the other has ended
 abbrev pub shares_day : Option ℤ → Option ℤ → Option ℤ → Option ℤ → Bool

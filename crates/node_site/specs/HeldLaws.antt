@@ -4,7 +4,7 @@ use Rattle.feed_dates.specs.declared.day_range.DayRange.{DayRange}
 use Rattle.node_site.specs.Site.{HoldingValue, SiteValue}
 use Rattle.node_site.specs.Valid.{is_forward, is_holding}
 use Rattle.node_site.specs.HoldingsFiles.{rows_of}
-use Rattle.node_site.specs.Held.{has_days, holding_at, library_has, listed_package, listed_title, package_holding, shares_day, title_holding}
+use Rattle.node_site.specs.Held.{has_days, holding_at, library_has, listed_package, listed_title, may_hold, package_holding, shares_day, title_holding}
 
 -- a day is not before the first one, and not after the last one; a side without a day is open
 abbrev pub Begun : Option ℤ → ℤ → Type 0
@@ -41,6 +41,11 @@ HeldDaysAreShown = (holding : HoldingValue) (first last : Option ℤ) (days : Da
 abbrev pub OffIsNotHeld : Type 0
 OffIsNotHeld = (site : SiteValue) (package_id id : List ℕ) (first last : Option ℤ) (asked : Option DayRange)
     → (holding_at site package_id id).is_held ≡ false → library_has site package_id id first last asked ≡ false
+
+-- nor of a package of which it may have nothing
+abbrev pub OffPackageIsNotHeld : Type 0
+OffPackageIsNotHeld = (site : SiteValue) (package_id id : List ℕ) (first last : Option ℤ) (asked : Option DayRange)
+    → may_hold site package_id ≡ false → library_has site package_id id first last asked ≡ false
 
 -- a site without packages and titles, whose default is not turned round, has everything
 abbrev pub AllIsHeld : Type 0

@@ -10,7 +10,7 @@ use Rattle.toml.specs.Data.{Items, no_items, item, Members, as_table}
 use Rattle.node_site.specs.declared.places.Places.{Places}
 use Rattle.node_site.specs.declared.title_places.TitlePlaces.{TitlePlaces}
 use Rattle.node_site.specs.declared.domains.Domains.{Domains}
-use Rattle.node_site.specs.Held.{is_package, is_title}
+use Rattle.node_site.specs.Held.{is_on_title, is_package, is_title}
 use Rattle.node_site.specs.Platforms.{is_platform}
 use Rattle.node_site.specs.Lookups.{items_at}
 use Rattle.node_site.specs.Site.{except_in, package_of, platform_of, texts_in, title_of}
@@ -55,6 +55,10 @@ ArePackages rows places = (id : List ℕ) → place_at id places ≡ first_place
 abbrev pub AreTitles : Option Items → TitlePlaces → Type 0
 AreTitles rows titles = (package_id id : List ℕ) → title_at package_id id titles ≡ first_place_in title_of (is_title package_id id) rows
 
+-- .. that switch a title of a package on
+abbrev pub AreOnTitles : Option Items → Places → Type 0
+AreOnTitles rows places = (id : List ℕ) → place_at id places ≡ first_place_in title_of (is_on_title id) rows
+
 -- .. about platforms, by their hosts in lower case
 abbrev pub ArePlatforms : Option Items → Places → Type 0
 ArePlatforms rows places = (host : List ℕ) → place_at (str_to_ascii_lowercase host) places ≡ first_place_in platform_of (is_platform host) rows
@@ -98,8 +102,9 @@ count_in None = 0
 count_in (Some rows) = count_of rows
 
 -- the look-ups of a document
-pub record AreIndexes (doc : Members) (platform_places package_places : Places) (title_places : TitlePlaces) (domains : Domains) : Type 0 where
+pub record AreIndexes (doc : Members) (platform_places package_places : Places) (title_places : TitlePlaces) (on_places : Places) (domains : Domains) : Type 0 where
   pub platforms : ArePlatforms (items_at (codes "platform") doc) platform_places
   pub packages : ArePackages (items_at (codes "package") doc) package_places
   pub titles : AreTitles (items_at (codes "title") doc) title_places
+  pub on_titles : AreOnTitles (items_at (codes "title") doc) on_places
   pub except : IsKnown (texts_in (except_in doc)) domains.places

@@ -1,5 +1,5 @@
 -- The texts that a site file may have for each kind of value.
-use Rattle.std.specs.Prelude.{ℕ, ◌&&◌, ◌||◌, ◌==◌, Bool, false, not, is_some, nat_lt, List, [], ◌∷◌, length, drop, Option, Some, None, codes}
+use Rattle.std.specs.Prelude.{ℕ, ◌&&◌, ◌||◌, ◌==◌, Bool, count_by, false, not, is_some, nat_le, nat_lt, List, [], ◌∷◌, length, drop, Option, Some, None, codes}
 use Rattle.std.specs.List.{list_all, list_any}
 use Rattle.std.specs.Char.{is_ascii_alphabetic, is_ascii_alphanumeric, is_ascii_hexdigit}
 use Rattle.std.specs.Str.{bytes_eq}
@@ -43,9 +43,19 @@ is_color (hash ∷ digits) = (hash == 35) && (is_sized 6 6 digits && list_all is
 abbrev pub is_after_open : Names → List ℕ → Bool
 is_after_open names piece = (has_byte 125 piece && is_allowed names (before_byte 125 piece)) && not (has_byte 125 (after_byte 125 piece))
 
--- each brace encloses a name that is allowed
+-- the most names of a template
+abbrev pub names_limit : ℕ
+names_limit = 20
+
+-- how many braces open
+abbrev pub names_count : List ℕ → ℕ
+names_count text = count_by (λ b. b == 123) text
+
+-- each brace encloses a name that is allowed, and there are not too many of them
 abbrev pub has_fields : Names → List ℕ → Bool
-has_fields names text = not (has_byte 125 (before_byte 123 text)) && list_all (is_after_open names) (drop 1 (parts_between 123 text))
+has_fields names text =
+    not (has_byte 125 (before_byte 123 text))
+    && (list_all (is_after_open names) (drop 1 (parts_between 123 text)) && nat_le (names_count text) names_limit)
 
 -- a byte that ends an authority
 abbrev pub ends_authority : ℕ → Bool

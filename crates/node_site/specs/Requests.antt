@@ -1,5 +1,5 @@
 -- The addresses of forms and of articles, with the parts of a citation in their places.
-use Rattle.std.specs.Prelude.{ℕ, ◌==◌, ◌||◌, Bool, true, false, not, List, [], ◌∷◌, ◌++◌, Option, Some, None, if◌then◌else◌, codes, drop, filter, take}
+use Rattle.std.specs.Prelude.{ℕ, ◌==◌, ◌||◌, Bool, true, false, not, nat_lt, List, [], ◌∷◌, ◌++◌, Option, Some, None, if◌then◌else◌, codes, drop, filter, length, take}
 use Rattle.std.specs.List.{flat_map, list_all}
 use Rattle.std.specs.Str.{bytes_eq}
 use Rattle.percent_encoding.specs.Percent.{percent_encode}
@@ -53,8 +53,19 @@ abbrev pub pair_text : List ℕ → List ℕ → List ℕ
 pair_text key [] = []
 pair_text key (b ∷ text) = key ++ escaped (b ∷ text)
 
+-- the most bytes of a value in a link, before they are escaped; a longer value counts as absent
+abbrev pub value_limit : ℕ
+value_limit = 1000
+
+abbrev pub if_short : List ℕ → List ℕ
+if_short text = if nat_lt value_limit (length text) then [] else text
+
+-- a part of a citation, as links have it
+abbrev pub part_value : CitationValue → CitationPart → List ℕ
+part_value citation part = if_short (text_at citation part)
+
 abbrev pub part_pair : CitationValue → CitationPart → List ℕ
-part_pair citation part = pair_text (key_of part) (text_at citation part)
+part_pair citation part = pair_text (key_of part) (part_value citation part)
 
 -- the whole citation as the query of an OpenURL 1.0, which names no format
 unfoldable pub citation_query : CitedTitleValue → List ℕ
@@ -71,11 +82,11 @@ field_text cited None = []
 field_text cited (Some Issn) = cited.issn
 field_text cited (Some IssnPlain) = without_hyphens cited.issn
 field_text cited (Some Isbn) = cited.isbn
-field_text cited (Some TitleId) = cited.title_id
+field_text cited (Some TitleId) = if_short cited.title_id
 field_text cited (Some Year) = take 4 cited.date
 field_text cited (Some Month) = take 2 (drop 5 cited.date)
 field_text cited (Some Query) = citation_query cited
-field_text cited (Some (Cited part)) = text_at cited.citation part
+field_text cited (Some (Cited part)) = part_value cited.citation part
 
 -- a step of a path (RFC 3986, section 3.3). Browsers take `%2E` for a dot, so escaping does not change what it is
 abbrev pub is_step : List ℕ → Bool

@@ -104,6 +104,7 @@ row_of text.NotShownHint =
     row "not_shown_hint" "Ask with a date or a volume for fewer."
     "Mit einem Datum oder einem Band werden es weniger."
     "Précisez une date ou un volume pour en obtenir moins."
+row_of text.MoreIn = row "more_in" "More may be found in" "Mehr gibt es vielleicht in" "D’autres résultats sont possibles dans"
 row_of text.HeldOther =
     row "held_other" "This library has the title, but not for what you asked for."
     "Diese Bibliothek hat den Titel, aber nicht für Ihre Anfrage."

@@ -1,14 +1,16 @@
 //! The links to articles, and to what a DOI names.
 ghost use Rattle.std.specs.Prelude.{◌≡◌, ◌++◌, codes, IfOk, option_copied, option_map};
-ghost use Rattle.node_site.specs.Articles.{article_address, article_link, article_template, doi_link, package_article};
-ghost use Rattle.node_site.specs.Articles.{platform_article};
+ghost use Rattle.std.specs.Option.{option_and_then};
+ghost use Rattle.node_site.specs.Articles.{AreMade, article_address, article_link, article_template, doi_link};
+ghost use Rattle.node_site.specs.Articles.{package_article, platform_article, without_row};
 ghost use Rattle.node_site.specs.Proxies.{is_direct, is_proxied_package, proxied};
 ghost use Rattle.node_site.specs.Requests.{if_link};
 
+use crate::article_addresses::ArticleAddresses;
 use crate::cited::CitedTitle;
 use crate::filling::{Filling, if_link};
 use crate::hosts::host_of;
-use crate::links::proxied;
+use crate::links::{may_be_link, proxied};
 use crate::lookup::{switch_at, text_at};
 use crate::site_file::SiteFile;
 use std::alloc::{AllocError, Global};
@@ -47,23 +49,6 @@ fn article_template<'a>(site: &'a SiteFile, id: &[u8], url: &[u8]) -> Option<&'a
     }
 }
 
-// Returns the address of the cited article, if the citation has every name of the template.
-fn article_address(
-    alloc: Global,
-    cited: &CitedTitle<'_>,
-    template: &[u8],
-) -> Result<Option<Vec<u8>>, AllocError>
-    ensures { IfOk result (λ address. option_map (λ text. text.items) address
-        ≡ article_address cited.now template.now) }
-{
-    let filling = Filling::of(alloc, cited, template)?;
-    if filling.is_whole {
-        Ok(Some(filling.link))
-    } else {
-        Ok(None)
-    }
-}
-
 fn is_proxied_package(site: &SiteFile, id: &[u8]) -> bool
     ensures { result ≡ is_proxied_package site.now id.now }
 {
@@ -91,13 +76,87 @@ fn safe_link(
     ensures { IfOk result (λ link. option_map (λ text. text.items) link
         ≡ if_link (proxied site.now address.now is_direct)) }
 {
+    if !may_be_link(site, address, is_direct) {
+        return Ok(None);
+    }
     let link = proxied(alloc, site, address, is_direct)?;
     Ok(if_link(link.into_owned(alloc)?))
 }
 
+fn slice_of(address: &Option<Vec<u8>>) -> Option<&[u8]>
+    ensures { option_copied result ≡ option_map (λ text. text.items) address.now }
+{
+    match address {
+        Some(address) => Some(address),
+        None => None,
+    }
+}
+
+// Returns the safe link to an address, if there is an address.
+fn link_if_any(
+    alloc: Global,
+    site: &SiteFile,
+    address: Option<&[u8]>,
+    is_direct: bool,
+) -> Result<Option<Vec<u8>>, AllocError>
+    ensures { IfOk result (λ link. option_map (λ text. text.items) link
+        ≡ option_and_then (λ address. if_link (proxied site.now address is_direct)) (option_copied address.entry)) }
+{
+    match address {
+        Some(address) => safe_link(alloc, site, address, is_direct),
+        None => Ok(None),
+    }
+}
+
+// Returns the address of the cited article by a template, if the citation has every name of it, and keeps it if it
+// suits all rows.
+fn new_link(
+    alloc: Global,
+    site: &SiteFile,
+    cited: &CitedTitle<'_>,
+    template: &[u8],
+    is_direct: bool,
+    addresses: &mut ArticleAddresses,
+) -> Result<Option<Vec<u8>>, AllocError>
+    requires { AreMade (without_row cited.now) addresses.old }
+    ensures made { AreMade (without_row cited.now) addresses.new }
+    ensures link { IfOk result (λ link. option_map (λ text. text.items) link
+        ≡ option_and_then (λ address. if_link (proxied site.now address is_direct))
+        (article_address cited.now template.now)) }
+{
+    let filling = Filling::of(alloc, cited, template)?;
+    let names_row = filling.names_row;
+    let address = filling.address();
+    let link = link_if_any(alloc, site, slice_of(&address), is_direct)?;
+    addresses.keep(alloc, template, address, names_row)?;
+    Ok(link)
+}
+
+// Returns the link to the cited article by a template.
+fn template_link(
+    alloc: Global,
+    site: &SiteFile,
+    cited: &CitedTitle<'_>,
+    template: &[u8],
+    is_direct: bool,
+    addresses: &mut ArticleAddresses,
+) -> Result<Option<Vec<u8>>, AllocError>
+    requires { AreMade (without_row cited.now) addresses.old }
+    ensures made { AreMade (without_row cited.now) addresses.new }
+    ensures link { IfOk result (λ link. option_map (λ text. text.items) link
+        ≡ option_and_then (λ address. if_link (proxied site.now address is_direct))
+        (article_address cited.now template.now)) }
+{
+    if let Some(made) = addresses.find(template) {
+        return link_if_any(alloc, site, slice_of(&made.address), is_direct);
+    }
+    new_link(alloc, site, cited, template, is_direct, addresses)
+}
+
 /// Returns the link to the cited article in a row of a package. It is there if the package, or else the platform of the
 /// row's URL, has a template and the citation each name in it, and if it has at most 8,000 bytes. It goes through a
-/// proxy as the link to the row does.
+/// proxy as the link to the row does. An address that suits all rows is kept with those that were made for the
+/// citation, and made once.
 ///
 /// # Errors
 ///
@@ -110,17 +169,25 @@ pub fn article_link(
     url: &[u8],
     is_free: bool,
     cited: &CitedTitle<'_>,
+    addresses: &mut ArticleAddresses,
 ) -> Result<Option<Vec<u8>>, AllocError>
-    ensures { IfOk result (λ link. option_map (λ text. text.items) link
+    requires { AreMade (without_row cited.now) addresses.old }
+    ensures made { AreMade (without_row cited.now) addresses.new }
+    ensures link { IfOk result (λ link. option_map (λ text. text.items) link
         ≡ article_link site.now id.now url.now is_free cited.now) }
 {
     let Some(template) = article_template(site, id, url) else {
         return Ok(None);
     };
-    match article_address(alloc, cited, template.as_bytes())? {
-        Some(address) => safe_link(alloc, site, &address, is_direct(site, id, is_free)),
-        None => Ok(None),
-    }
+    let is_direct = is_direct(site, id, is_free);
+    template_link(
+        alloc,
+        site,
+        cited,
+        template.as_bytes(),
+        is_direct,
+        addresses,
+    )
 }
 
 fn doi_address(alloc: Global, doi: &[u8]) -> Result<Vec<u8>, AllocError>

@@ -1,5 +1,5 @@
-//! Classes of bytes, and texts that have bytes of one class alone.
-ghost use Rattle.std.specs.Prelude.{◌≡◌};
+//! Classes of bytes, texts that have bytes of one class alone, and how often a byte is in a text.
+ghost use Rattle.std.specs.Prelude.{◌≡◌, ◌==◌, count_by};
 ghost use Rattle.std.specs.List.{list_all};
 ghost use Rattle.node_site.specs.Bytes.{is_in};
 
@@ -42,4 +42,11 @@ impl ByteClass {
     {
         text.iter().all(|byte| self.has(*byte))
     }
+}
+
+/// Returns how often a byte is in a text.
+pub(crate) fn count_of(byte: u8, text: &[u8]) -> usize
+    ensures { result ≡ count_by (λ b. b == byte) text.now }
+{
+    text.iter().filter(|other| **other == byte).count()
 }

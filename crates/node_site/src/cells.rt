@@ -1,5 +1,5 @@
 //! The lines of a holdings file: their cells, and what is wrong with them.
-ghost use Rattle.std.specs.Prelude.{◌≡◌, ◌≤◌, ◌==◌, length, count_by};
+ghost use Rattle.std.specs.Prelude.{◌≡◌, ◌≤◌, length};
 ghost use Rattle.node_site.specs.HoldingsFiles.{cells_of, has_header, holding_in, line_at, line_number};
 ghost use Rattle.node_site.specs.HoldingsFiles.{subject_at, without_mark, without_return};
 ghost use Rattle.node_site.specs.HoldingsFaults.{at_line, cell_fault, cells_flaw, flaw_at, is_empty_or};
@@ -7,6 +7,7 @@ ghost use Rattle.node_site.specs.HoldingsFaults.{is_yes_or_no, line_fault};
 ghost use Rattle.node_site.specs.Kinds.{is_date, is_text};
 ghost use Rattle.node_site.specs.Limits.{holdings_limit};
 
+use crate::bytes::count_of;
 use crate::checks::is_backward;
 use crate::column::Column;
 use crate::cuts::{after, before, is_sized};
@@ -177,12 +178,6 @@ fn cells_flaw(cells: &Cells<'_>) -> Option<CellFlaw>
     } else {
         None
     }
-}
-
-fn count_of(byte: u8, text: &[u8]) -> usize
-    ensures { result ≡ count_by (λ b. b == byte) text.now }
-{
-    text.iter().filter(|other| **other == byte).count()
 }
 
 #[tactic(auto, using(crate::proofs::HoldingsRows::few_feeds))]

@@ -1,14 +1,18 @@
 //! A citation, and its parts by the names that templates have for them.
 ghost use Rattle.std.specs.Prelude.{◌≡◌, ◌++◌, IfOk, OnOk, drop, take};
 ghost use Rattle.std.specs.List.{flat_map};
-ghost use Rattle.node_site.specs.Requests.{citation_query, field_text, is_step, key_of, pair_text, part_of, part_pair};
-ghost use Rattle.node_site.specs.Requests.{without_hyphens, without_step};
+ghost use Rattle.node_site.specs.Requests.{citation_query, field_text, if_short, is_step, key_of, pair_text, part_of};
+ghost use Rattle.node_site.specs.Requests.{part_pair, part_value, without_hyphens, without_step};
 
 use crate::field::Field;
 use crate::links::encoded;
 use feed_openurl::{Citation, CitationPart, PARTS};
 use std::alloc::{AllocError, Global};
 use std::marker::Model;
+
+// The most bytes of a value in a link, before they are escaped: a longer value counts as absent, so that a client
+// cannot make each link of an answer long.
+const VALUE_LIMIT: usize = 1_000;
 
 /// A citation, the identifiers of a query, its date as it is understood, such as `1996-03`, and the `title_id` of a
 /// row, for the names in templates. An absent one is empty.
@@ -76,6 +80,19 @@ fn put_pair(alloc: Global, out: &mut Vec<u8>, key: &[u8], text: &[u8]) -> Result
     }
 }
 
+fn if_short(text: &[u8]) -> &[u8]
+    ensures { result.now ≡ if_short text.now }
+{
+    if text.len() > VALUE_LIMIT { b"" } else { text }
+}
+
+// Returns a part of a citation, as links have it.
+fn part_value(citation: &Citation, part: CitationPart) -> &[u8]
+    ensures { result.now ≡ part_value citation.now part }
+{
+    if_short(citation.text(part).as_bytes())
+}
+
 fn put_part(
     alloc: Global,
     out: &mut Vec<u8>,
@@ -84,7 +101,7 @@ fn put_part(
 ) -> Result<(), AllocError>
     ensures { OnOk result (out.new.items ≡ out.old.items ++ part_pair citation.now part) }
 {
-    put_pair(alloc, out, key_of(part), citation.text(part).as_bytes())
+    put_pair(alloc, out, key_of(part), part_value(citation, part))
 }
 
 fn put_parts(
@@ -149,11 +166,11 @@ fn field_text(
         Some(Field::Issn) => Vec::from_slice(alloc, cited.issn),
         Some(Field::IssnPlain) => Ok(without_hyphens(Vec::from_slice(alloc, cited.issn)?)),
         Some(Field::Isbn) => Vec::from_slice(alloc, cited.isbn),
-        Some(Field::TitleId) => Vec::from_slice(alloc, cited.title_id),
+        Some(Field::TitleId) => Vec::from_slice(alloc, if_short(cited.title_id)),
         Some(Field::Year) => Vec::from_slice(alloc, front(cited.date, 4)),
         Some(Field::Month) => Vec::from_slice(alloc, front(behind(cited.date, 5), 2)),
         Some(Field::Query) => citation_query(alloc, cited),
-        Some(Field::Cited(part)) => Vec::from_slice(alloc, cited.citation.text(part).as_bytes()),
+        Some(Field::Cited(part)) => Vec::from_slice(alloc, part_value(cited.citation, part)),
         None => Ok(Vec::new(alloc)),
     }
 }

@@ -1,5 +1,5 @@
 //! The words of each text in English, in the order of the texts.
-pub(crate) static ENGLISH: [&'static str; 98] = [
+pub(crate) static ENGLISH: [&'static str; 99] = [
     "Full text",
     "Abstract only",
     "Holdings found",
@@ -72,6 +72,7 @@ pub(crate) static ENGLISH: [&'static str; 98] = [
     "Not shown:",
     "Not shown: at least",
     "Ask with a date or a volume for fewer.",
+    "More may be found in",
     "This library has the title, but not for what you asked for.",
     "No holdings match.",
     "The query has no ISSN and no ISBN with its check character, so no holdings were looked up.",

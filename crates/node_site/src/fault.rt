@@ -26,7 +26,7 @@ pub enum ValueFault {
     Color,
     /// The text is not a URL of `http` or `https` with a host.
     Url,
-    /// The text is not such a URL, or a brace does not enclose a name of a field.
+    /// The text is not such a URL, a brace does not enclose a name of a field, or there are more than 20 names.
     Template,
     /// The same of the address of an article, or it has no name.
     Article,
@@ -76,11 +76,11 @@ impl ValueFault {
                 "it is not a URL of http or https with a host, as https://library.example/"
             }
             ValueFault::Template => {
-                "it is not a URL of http or https with parts of a citation in braces, \
+                "it is not a URL of http or https with at most 20 parts of a citation in braces, \
                 as https://library.example/ill?issn={issn}"
             }
             ValueFault::Article => {
-                "it is not a URL of http or https with names in braces, at least one, \
+                "it is not a URL of http or https with 1 to 20 names in braces, \
                 as https://platform.example/{issn}/{volume}/{spage}"
             }
             ValueFault::Prefix => {

@@ -1,19 +1,23 @@
 //! Fills templates: each name in braces is replaced by the part of a citation.
-ghost use Rattle.std.specs.Prelude.{◌≡◌, ◌++◌, ◌∷◌, ◌&&◌, [], false, true, IfOk, List, ℕ, OnOk, option_map};
-ghost use Rattle.std.specs.List.{list_all};
+ghost use Rattle.std.specs.Prelude.{◌≡◌, ◌++◌, ◌∷◌, ◌&&◌, ◌||◌, [], false, true, IfOk, List, ℕ, OnOk, option_map};
+ghost use Rattle.std.specs.List.{list_all, list_any};
+ghost use Rattle.node_site.specs.Articles.{depends_on_row, is_row_name};
 ghost use Rattle.node_site.specs.Requests.{filled, filled_from, gives, gives_all, if_link, is_given, names_from};
 ghost use Rattle.node_site.specs.Requests.{part_text};
 
 use crate::cited::{CitedTitle, part_of};
+use crate::field::Field;
 use crate::hosts::is_link;
 use crate::links::encoded;
 use std::alloc::{AllocError, Global};
 
-/// A link that is being made, whether all its parts are given so far, and the name that was read in an open brace.
+/// A link that is being made, whether all its parts are given so far, whether one is that of a row, and the name that
+/// was read in an open brace.
 #[derive(Drop)]
 pub(crate) struct Filling {
     pub(crate) link: Vec<u8>,
     pub(crate) is_whole: bool,
+    pub(crate) names_row: bool,
     name: Vec<u8>,
     is_open: bool,
 }
@@ -27,16 +31,28 @@ fn is_given(part: &[u8]) -> bool
     }
 }
 
+// Returns whether a name is that of the `title_id` of a row.
+fn is_row_name(name: &[u8]) -> bool
+    ensures { result ≡ is_row_name name.now }
+{
+    match Field::named(name) {
+        Some(Field::TitleId) => true,
+        Some(_) | None => false,
+    }
+}
+
 impl Filling {
     fn new(alloc: Global) -> Filling
         ensures link { result.link.items ≡ [] }
         ensures whole { result.is_whole ≡ true }
+        ensures row { result.names_row ≡ false }
         ensures name { result.name.items ≡ [] }
         ensures closed { result.is_open ≡ false }
     {
         Filling {
             link: Vec::new(alloc),
             is_whole: true,
+            names_row: false,
             name: Vec::new(alloc),
             is_open: false,
         }
@@ -49,6 +65,7 @@ impl Filling {
             ≡ self.old.link.items ++ part_text cited.now self.old.name.items) }
         ensures whole { OnOk result (self.new.is_whole
             ≡ (self.old.is_whole && gives cited.now self.old.name.items)) }
+        ensures row { OnOk result (self.new.names_row ≡ (self.old.names_row || is_row_name self.old.name.items)) }
         ensures name { OnOk result (self.new.name.items ≡ []) }
         ensures closed { OnOk result (self.new.is_open ≡ false) }
     {
@@ -56,13 +73,14 @@ impl Filling {
         let text = encoded(alloc, &part)?;
         self.link.extend_from_slice(text.as_bytes())?;
         self.is_whole = self.is_whole && is_given(&part);
+        self.names_row = self.names_row || is_row_name(&self.name);
         self.name.clear();
         self.is_open = false;
         Ok(())
     }
 
     // Adds a byte of the template.
-    #[tactic(auto, using(crate::proofs::Fillings::and_assoc))]
+    #[tactic(auto, using(crate::proofs::Fillings::and_assoc, crate::proofs::Fillings::or_assoc))]
     fn add(&mut self, alloc: Global, cited: &CitedTitle<'_>, byte: u8) -> Result<(), AllocError>
         ensures link { OnOk result ((rest : List ℕ) →
             self.new.link.items ++ filled_from cited.now self.new.is_open self.new.name.items rest
@@ -71,6 +89,10 @@ impl Filling {
             (self.new.is_whole && list_all (gives cited.now) (names_from self.new.is_open self.new.name.items rest))
             ≡ (self.old.is_whole
             && list_all (gives cited.now) (names_from self.old.is_open self.old.name.items (byte ∷ rest)))) }
+        ensures row { OnOk result ((rest : List ℕ) →
+            (self.new.names_row || list_any is_row_name (names_from self.new.is_open self.new.name.items rest))
+            ≡ (self.old.names_row
+            || list_any is_row_name (names_from self.old.is_open self.old.name.items (byte ∷ rest)))) }
     {
         if self.is_open {
             if byte == b'}' {
@@ -87,7 +109,7 @@ impl Filling {
     }
 
     /// Fills a template.
-    #[tactic(auto, using(crate::proofs::Fillings::and_true))]
+    #[tactic(auto, using(crate::proofs::Fillings::and_true, crate::proofs::Fillings::or_false))]
     pub(crate) fn of(
         alloc: Global,
         cited: &CitedTitle<'_>,
@@ -95,12 +117,24 @@ impl Filling {
     ) -> Result<Filling, AllocError>
         ensures link { IfOk result (λ filling. filling.link.items ≡ filled cited.now template.now) }
         ensures whole { IfOk result (λ filling. filling.is_whole ≡ gives_all cited.now template.now) }
+        ensures row { IfOk result (λ filling. filling.names_row ≡ depends_on_row template.now) }
     {
         let mut filling = Filling::new(alloc);
         for byte in template {
             filling.add(alloc, cited, *byte)?;
         }
         Ok(filling)
+    }
+}
+
+impl Filling {
+    ghost use Rattle.std.specs.Prelude.{if◌then◌else◌, Some, None};
+
+    /// Returns the address that was made, if all its parts are given.
+    pub(crate) fn address(self) -> Option<Vec<u8>>
+        ensures { option_map (λ text. text.items) result ≡ (if self.is_whole then Some self.link.items else None) }
+    {
+        if self.is_whole { Some(self.link) } else { None }
     }
 }
 

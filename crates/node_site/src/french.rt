@@ -1,5 +1,5 @@
 //! The words of each text in French, in the order of the texts.
-pub(crate) static FRENCH: [&'static str; 98] = [
+pub(crate) static FRENCH: [&'static str; 99] = [
     "Texte intégral",
     "Résumé seulement",
     "Ressources trouvées",
@@ -72,6 +72,7 @@ pub(crate) static FRENCH: [&'static str; 98] = [
     "Non affichés :",
     "Non affichés : au moins",
     "Précisez une date ou un volume pour en obtenir moins.",
+    "D’autres résultats sont possibles dans",
     "Cette bibliothèque possède ce titre, mais pas ce que vous demandez.",
     "Aucune ressource ne correspond à votre demande.",
     "La demande ne contient ni ISSN ni ISBN avec sa clé de contrôle : aucune recherche n’a été faite.",

@@ -1,5 +1,5 @@
 //! The words of each text in German, in the order of the texts.
-pub(crate) static GERMAN: [&'static str; 98] = [
+pub(crate) static GERMAN: [&'static str; 99] = [
     "Volltext",
     "Nur Zusammenfassung",
     "Bestand gefunden",
@@ -72,6 +72,7 @@ pub(crate) static GERMAN: [&'static str; 98] = [
     "Nicht angezeigt:",
     "Nicht angezeigt: mindestens",
     "Mit einem Datum oder einem Band werden es weniger.",
+    "Mehr gibt es vielleicht in",
     "Diese Bibliothek hat den Titel, aber nicht für Ihre Anfrage.",
     "Kein Bestand passt zu Ihrer Anfrage.",
     "Die Anfrage enthält keine ISSN oder ISBN mit richtiger Prüfziffer, daher wurde kein Bestand gesucht.",

@@ -1,13 +1,14 @@
 //! The holdings of a library among the rows of a list.
 ghost use Rattle.std.specs.Prelude.{◌≡◌};
 ghost use Rattle.toml.specs.View.{table_view};
-ghost use Rattle.node_site.specs.Held.{holding_at, library_has, listed_package, listed_title, package_holding};
-ghost use Rattle.node_site.specs.Held.{title_holding, unlisted};
+ghost use Rattle.node_site.specs.Held.{holding_at, holding_beside, library_has, listed_package, listed_title};
+ghost use Rattle.node_site.specs.Held.{may_hold, package_holding, title_holding, unlisted};
 ghost use Rattle.node_site.specs.HoldingsFiles.{rows_of};
 ghost use Rattle.node_site.specs.Site.{holding_of, package_of, title_of};
 
 use crate::checks::days_at;
 use crate::holding::Holding;
+use crate::holdings_rows::has_bytes;
 use crate::lookup::switch_at;
 use crate::site_file::SiteFile;
 use feed_dates::DayRange;
@@ -68,6 +69,19 @@ fn listed_package(site: &SiteFile, package_id: &[u8]) -> Option<Holding>
     site.listed_holding(package_id, b"")
 }
 
+// Returns what the library has of the titles of a package of which nothing else is said.
+fn holding_beside(site: &SiteFile, package_id: &[u8]) -> Holding
+    ensures { result ≡ holding_beside site.now package_id.now }
+{
+    if let Some(holding) = package_holding(site, package_id) {
+        return holding;
+    }
+    match listed_package(site, package_id) {
+        Some(holding) => holding,
+        None => unlisted(site),
+    }
+}
+
 // Returns the holdings of the library in a title of a package: those of the first place that says something.
 fn holding_at(site: &SiteFile, package_id: &[u8], id: &[u8]) -> Holding
     ensures { result ≡ holding_at site.now package_id.now id.now }
@@ -78,13 +92,16 @@ fn holding_at(site: &SiteFile, package_id: &[u8], id: &[u8]) -> Holding
     if let Some(holding) = listed_title(site, package_id, id) {
         return holding;
     }
-    if let Some(holding) = package_holding(site, package_id) {
-        return holding;
-    }
-    match listed_package(site, package_id) {
-        Some(holding) => holding,
-        None => unlisted(site),
-    }
+    holding_beside(site, package_id)
+}
+
+/// Returns whether a library may have titles of a package. If not, it has none: the package is switched off, no table
+/// switches a title of it on, and there is no holdings file that might.
+pub fn may_hold(site: &SiteFile, package_id: &[u8]) -> bool
+    ensures { result ≡ may_hold site.now package_id.now }
+{
+    holding_beside(site, package_id).is_held
+        || (site.on_title_table(package_id).is_some() || has_bytes(site.listing()))
 }
 
 /// Returns whether a library has what is asked for of a row of this package, with this `title_id` and this coverage,

@@ -14,7 +14,8 @@ use crate::holdings_fault::HoldingsFault;
 /// The most bytes of a holdings file: 16 MiB.
 pub const HOLDINGS_LIMIT: usize = 16_777_216;
 
-fn has_bytes(line: &[u8]) -> bool
+/// Returns whether a line or a file has bytes.
+pub(crate) fn has_bytes(line: &[u8]) -> bool
     ensures { result ≡ has_bytes line.now }
 {
     !line.is_empty()

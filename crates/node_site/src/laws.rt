@@ -3,7 +3,8 @@
 ghost use Rattle.node_site.specs.Laws.{ExceptedIsDirect, FreeIsDirect, NoProxyIsDirect, OthersGoThrough};
 ghost use Rattle.node_site.specs.Laws.{LinkFits, SubdomainsAreWithin};
 ghost use Rattle.node_site.specs.HostLaws.{HostsAreStandard, LinksAreStandard};
-ghost use Rattle.node_site.specs.HeldLaws.{AllIsHeld, HeldDaysAreShown, OffIsNotHeld, UnlistedIsNotHeld};
+ghost use Rattle.node_site.specs.HeldLaws.{AllIsHeld, HeldDaysAreShown, OffIsNotHeld, OffPackageIsNotHeld};
+ghost use Rattle.node_site.specs.HeldLaws.{UnlistedIsNotHeld};
 ghost use Rattle.node_site.specs.RequestLaws.{ArticlesAreWhole, PartsAddNoMarks, PartsAreNoSteps, RequestsAreLinks};
 ghost use Rattle.node_site.specs.RequestLaws.{RequestsKeepHost};
 ghost use Rattle.node_site.specs.SitesLaws.{CaseDoesNotCount, OtherSiteDecides, OwnSiteDecides};
@@ -59,6 +60,11 @@ pub fn held_days_are_shown()
 /// A library has nothing of a title that is switched off.
 pub fn off_is_not_held()
     ensures { OffIsNotHeld }
+{}
+
+/// A library has nothing of a package of which it may have no title, so nobody has to look at the package's rows.
+pub fn off_package_is_not_held()
+    ensures { OffPackageIsNotHeld }
 {}
 
 /// A library whose site file names no package and no title has everything, unless `held = false` turns the default

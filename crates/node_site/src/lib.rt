@@ -3,6 +3,7 @@
 //! which a site may replace.
 #![tactic(auto)]
 
+mod article_addresses;
 mod articles;
 mod bytes;
 mod cells;
@@ -34,6 +35,7 @@ mod lookup;
 mod merge;
 mod notes;
 mod occasion;
+mod on_titles;
 mod open_prefixes;
 mod packages;
 mod places;
@@ -54,11 +56,12 @@ mod title_places;
 mod urls;
 mod values;
 
+pub use article_addresses::ArticleAddresses;
 pub use articles::{article_link, doi_link, is_direct};
 pub use cited::{CitedTitle, citation_query};
 pub use column::Column;
 pub use fault::ValueFault;
-pub use held::library_has;
+pub use held::{library_has, may_hold};
 pub use holdings_fault::{BadLine, HoldingsFault};
 pub use holdings_file::HoldingsFile;
 pub use holdings_reading::{HoldingsReading, ReadingStep};
@@ -67,9 +70,9 @@ pub use hosts::{host_of, is_link, shown_host};
 pub use laws::{
     all_is_held, articles_are_whole, case_does_not_count, excepted_is_direct, free_is_direct,
     held_days_are_shown, hosts_are_standard, link_fits, links_are_standard, no_proxy_is_direct,
-    off_is_not_held, other_site_decides, others_go_through, own_site_decides, parts_add_no_marks,
-    parts_are_no_steps, requests_are_links, requests_keep_host, subdomains_are_within,
-    texts_have_names, unlisted_is_not_held,
+    off_is_not_held, off_package_is_not_held, other_site_decides, others_go_through,
+    own_site_decides, parts_add_no_marks, parts_are_no_steps, requests_are_links,
+    requests_keep_host, subdomains_are_within, texts_have_names, unlisted_is_not_held,
 };
 pub use library_link::{LibraryLink, library_links};
 pub use links::{left_beside, may_be_link, proxied};

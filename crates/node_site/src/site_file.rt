@@ -4,7 +4,7 @@ ghost use Rattle.std.specs.List.{find, position_or_len};
 ghost use Rattle.toml.specs.Errors.{IsMemory, IsWithin, span_start};
 ghost use Rattle.toml.specs.Parse.{parse_document};
 ghost use Rattle.toml.specs.View.{array_view, table_view};
-ghost use Rattle.node_site.specs.Held.{is_package, is_title, title_holding};
+ghost use Rattle.node_site.specs.Held.{is_on_title, is_package, is_title, title_holding};
 ghost use Rattle.node_site.specs.HoldingsFiles.{rows_of};
 ghost use Rattle.node_site.specs.Indexes.{count_in, row_at, row_in};
 ghost use Rattle.node_site.specs.Limits.{site_limit};
@@ -19,6 +19,7 @@ use crate::domains::Domains;
 use crate::holding::Holding;
 use crate::holdings_file::HoldingsFile;
 use crate::lookup::{items_at, switch_at, table_at, text_at};
+use crate::on_titles::on_title_places;
 use crate::packages::package_places;
 use crate::places::Places;
 use crate::platforms::{place_of_host, platform_places};
@@ -42,6 +43,7 @@ pub struct SiteFile {
     platforms: Places,
     packages: Places,
     titles: TitlePlaces,
+    on_titles: Places,
     domains: Domains,
     /// The holdings file that the document names, once it is read.
     listing: Option<HoldingsFile>,
@@ -59,7 +61,7 @@ impl Model for SiteFile {
     ghost view = { λ s. with_listing (unwrap_or s.listing []) (site_of (table_view s.document)) };
 
     ghost invariant = { λ s. (fault_of (table_view s.document) ≡ None)
-        × AreIndexes (table_view s.document) s.platforms s.packages s.titles s.domains };
+        × AreIndexes (table_view s.document) s.platforms s.packages s.titles s.on_titles s.domains };
 }
 
 // Returns the text at a key of a section.
@@ -165,12 +167,14 @@ impl SiteFile {
         let platforms = platform_places(alloc, items_at("platform", &document))?;
         let packages = package_places(alloc, items_at("package", &document))?;
         let titles = title_places(alloc, items_at("title", &document))?;
+        let on_titles = on_title_places(alloc, items_at("title", &document))?;
         let domains = Domains::of(alloc, except_in(&document))?;
         Ok(SiteFile {
             document,
             platforms,
             packages,
             titles,
+            on_titles,
             domains,
             listing: None,
         })
@@ -359,6 +363,17 @@ impl SiteFile {
     {
         row_in(
             self.titles.get(package_id, id),
+            items_at("title", &self.document),
+        )
+    }
+
+    /// Returns the first table that switches a title of a package on.
+    pub(crate) fn on_title_table(&self, package_id: &[u8]) -> Option<&Table>
+        ensures { option_map (λ m. title_of (table_view m.now)) result
+            ≡ find (is_on_title package_id.now) self.now.titles }
+    {
+        row_in(
+            self.on_titles.get(package_id),
             items_at("title", &self.document),
         )
     }

@@ -2,9 +2,10 @@
 ghost use Rattle.std.specs.Prelude.{◌≡◌, drop, option_copied};
 ghost use Rattle.std.specs.List.{list_all, list_any};
 ghost use Rattle.node_site.specs.Kinds.{ends_authority, has_end, has_fields, is_after_open, is_article, is_front};
-ghost use Rattle.node_site.specs.Kinds.{is_prefix, is_template};
+ghost use Rattle.node_site.specs.Kinds.{is_prefix, is_template, names_count};
 ghost use Rattle.node_site.specs.Urls.{parts_between};
 
+use crate::bytes::count_of;
 use crate::cuts::{after, before, has};
 use crate::field::Names;
 use crate::hosts::is_link;
@@ -17,6 +18,9 @@ fn is_after_open(names: Names, piece: &[u8]) -> bool
     has(b'}', piece) && names.allow(before(b'}', piece)) && !has(b'}', after(b'}', piece))
 }
 
+// The most names of a template, so that a link is made in bounded time.
+const NAMES_LIMIT: usize = 20;
+
 fn are_after_open(names: Names, text: &[u8]) -> bool
     ensures { result ≡ list_all (is_after_open names) (drop 1 (parts_between 123 text.now)) }
 {
@@ -25,10 +29,18 @@ fn are_after_open(names: Names, text: &[u8]) -> bool
         .all(|piece| is_after_open(names, piece))
 }
 
+// Returns how many braces of a template open, one for each name.
+fn names_count(text: &[u8]) -> usize
+    ensures { result ≡ names_count text.now }
+{
+    count_of(b'{', text)
+}
+
 fn has_fields(names: Names, text: &[u8]) -> bool
     ensures { result ≡ has_fields names text.now }
 {
-    !has(b'}', before(b'{', text)) && are_after_open(names, text)
+    !has(b'}', before(b'{', text))
+        && (are_after_open(names, text) && names_count(text) <= NAMES_LIMIT)
 }
 
 fn ends_authority(byte: u8) -> bool

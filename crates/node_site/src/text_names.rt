@@ -1,5 +1,5 @@
 //! The name of each text, by which a site file replaces it, in the order of the texts.
-pub(crate) static NAMES: [&'static str; 98] = [
+pub(crate) static NAMES: [&'static str; 99] = [
     "full_text",
     "abstract_only",
     "held",
@@ -72,6 +72,7 @@ pub(crate) static NAMES: [&'static str; 98] = [
     "not_shown",
     "not_shown_at_least",
     "not_shown_hint",
+    "more_in",
     "held_other",
     "no_holdings",
     "no_number",

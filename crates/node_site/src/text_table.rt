@@ -75,6 +75,7 @@ pub enum Text {
     NotShown,
     NotShownAtLeast,
     NotShownHint,
+    MoreIn,
     HeldOther,
     NoHoldings,
     NoNumber,
@@ -104,7 +105,7 @@ pub enum Text {
 }
 
 /// All texts.
-pub const TEXTS: [Text; 98] = [
+pub const TEXTS: [Text; 99] = [
     Text::FullText,
     Text::AbstractOnly,
     Text::Held,
@@ -177,6 +178,7 @@ pub const TEXTS: [Text; 98] = [
     Text::NotShown,
     Text::NotShownAtLeast,
     Text::NotShownHint,
+    Text::MoreIn,
     Text::HeldOther,
     Text::NoHoldings,
     Text::NoNumber,

@@ -33,6 +33,7 @@ pub(crate) const LEFT_OUT: &[TemplateLine] = template![
     if (LeftOut) ["<p>" {LeastText} " " {LeftOut} "." ..]
     if (Hint) [" " {Hint} ..]
     if (LeftOut) ["</p>"]
+    if (MayHaveMore) ["<p>" {text MoreIn} " <bdi>" {MayHaveMore} "</bdi>.</p>"]
 ];
 
 pub(crate) const WAYS: &[TemplateLine] = template![

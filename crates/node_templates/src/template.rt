@@ -59,7 +59,7 @@ pub enum Template {
     Cards,
     /// The card of a hit.
     Card,
-    /// The end of the list, and the number of hits that are left out, if any are.
+    /// The end of the list, the number of hits that are left out, if any are, and the packages that may have more.
     LeftOut,
     /// The beginning of the list of the library's links, if it has any, such a link, and the end of the list with a
     /// heading for the form of a new search.

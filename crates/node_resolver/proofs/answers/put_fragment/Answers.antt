@@ -13,7 +13,7 @@ returns c = on_ok_weaker c.put_hits_fragment.result
     refl c.in_ok-ask.ensures
     (shown_written (λ s a t u v. hits_fragment s c.args.query.now.text.now a t u v) c.library.result.now c.in_ok-ask.ask c.args.lookup.now (sited_in c.args.context.now) c.args.hits c.in_ok-also.also
     c.in_ok-others.others c.count.result c.args.out.now.items c.put_hits_fragment.new.out.items
-    c.library.ensures c.requires c.in_ok-also.ensures c.count.ensures c.in_ok-others.ensures
+    c.library.ensures c.requires.hits c.in_ok-also.ensures c.count.ensures c.in_ok-others.ensures
     (is ∙ ap (λ (p : List (List ℕ × List ℕ)). c.args.out.now.items ++ fragment_of_hits c.library.result.now p c.in_ok-ask.ask (tally_from c.args.hits)
     (tally_from c.in_ok-also.also) (tally_from c.in_ok-others.others)) c.pairs.ensures)))
     c.put_hits_fragment.ensures

@@ -10,5 +10,5 @@ returns c = on_ok_weaker c.put_answer_json.result
     (λ is. json_answered Json c.args.query.now.text.now c.in_ok-ask.ask c.args.lookup.now (sited_in c.args.context.now) c.args.out.now.items c.put_answer_json.new.out.items
     refl c.in_ok-ask.ensures
     (json_written c.in_ok-ask.ask c.args.lookup.now (sited_in c.args.context.now) c.args.hits.now c.in_ok-also.also c.args.out.now.items c.put_answer_json.new.out.items
-    c.requires c.in_ok-also.ensures is))
+    c.requires.hits c.in_ok-also.ensures is))
     c.put_answer_json.ensures
