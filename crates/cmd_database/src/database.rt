@@ -4,6 +4,7 @@ use feed_keep::Capacity;
 use feed_model::KeepFault;
 use feed_releases::{AnswerFault, Feed, Opening};
 use std::io::Write;
+use std::{fmt, io};
 
 /// A place that has the records of a node from one run to the next.
 pub trait Database {
@@ -29,12 +30,78 @@ pub enum DatabaseFault {
     Memory,
     /// The device failed, or another process has it open.
     Device,
-    /// It is not a database of kbfeed.
-    NotOurs,
-    /// It is a file that is not a SQLite database. Such a file is not opened.
-    NotDatabase,
-    /// It is a file that has another name, a hard link. Such a file is not opened.
+    /// The file is not the database of a node, or cannot be.
+    NotOurs(Unusable),
+}
+
+/// Why a file is not the database of a node.
+#[derive(Clone, Copy)]
+pub enum Unusable {
+    /// The file or its folder may not be opened or written, with the system's error.
+    File(io::Error),
+    /// The same of the log beside it.
+    Log(io::Error),
+    /// It or its log is not a plain file, or the log has another name.
+    NotPlain,
+    /// It has another name, a hard link.
     Linked,
+    /// SQLite takes its name for no file.
+    Name,
+    /// It is not a SQLite database. Such a file is not opened.
+    NotDatabase,
+    /// SQLite left a rollback journal beside it.
+    Journal,
+    /// Its pages do not fit together.
+    Damaged,
+    /// SQLite does not read its tables, or a row breaks their rules.
+    Unsound,
+    /// It has tables of the names of a node's that are not a node's, or of a later layout.
+    Tables,
+}
+
+// The advice for a file that does not open.
+const WRITABLE: &str = "this user has to be able to write it and its folder";
+
+// The cause of a file that is not used, with the path that the file has.
+#[derive(Drop)]
+struct Cause<'a> {
+    path: &'a str,
+    why: Unusable,
+}
+
+impl fmt::Display for Cause<'_> {
+    ghost use Rattle.std.specs.Prelude.{None};
+
+    ghost output = { λ _. None };
+
+    fn fmt<W: fmt::Write>(&self, f: &mut fmt::Formatter<W>) -> fmt::Result {
+        match self.why {
+            Unusable::File(error) => write!(f, "{error}: {WRITABLE}"),
+            Unusable::Log(error) => write!(f, "its log {}-wal: {error}: {WRITABLE}", self.path),
+            Unusable::Journal => write!(
+                f,
+                "it has the rollback journal {}-journal: open it once with sqlite3",
+                self.path
+            ),
+            why => f.write_str(words_of(why, self.path)),
+        }
+    }
+}
+
+// Returns the words for a cause without the system's error. A list is known by the ending of its name.
+fn words_of(why: Unusable, path: &str) -> &'static str {
+    match why {
+        Unusable::NotPlain => "it or its log is not a plain file with one name: use another path",
+        Unusable::Linked => "the file has another name, a hard link: remove that",
+        Unusable::Name => "SQLite takes this name for no file: put ./ before it",
+        Unusable::NotDatabase if path.ends_with(".txt") => "it is a list and not a database",
+        Unusable::Damaged => "its pages are damaged: restore a copy, or begin anew",
+        Unusable::Unsound =>
+            "a row breaks the rules of its table, or they are not kbfeed's: restore a copy, or begin anew",
+        Unusable::Tables =>
+            "its tables are not a node's, or of a later version: use another path, or that version",
+        _ => "it is not a SQLite database: use another path",
+    }
 }
 
 /// Opens the feed on what a database holds, with the room that its keeper has. A fault is reported: `NotOurs` and
@@ -134,32 +201,11 @@ fn report_database<O: Write, F: Write + Drop>(
             "it does not read or write, or another process has it open",
             FAILED,
         ),
-        DatabaseFault::NotOurs => console.faults.report_with(
-            "NotOurs",
-            path,
-            "it is no database of kbfeed, or no file can be made there",
-            REFUSED,
-        ),
-        DatabaseFault::NotDatabase => {
+        DatabaseFault::NotOurs(why) => {
             console
                 .faults
-                .report_with("NotOurs", path, cause_of_other(path), REFUSED)
+                .report_with("NotOurs", path, Cause { path, why }, REFUSED)
         }
-        DatabaseFault::Linked => console.faults.report_with(
-            "NotOurs",
-            path,
-            "the file has another name, a hard link: remove that",
-            REFUSED,
-        ),
-    }
-}
-
-// Returns why a file that is not a SQLite database is refused. A list is known by the ending of its name.
-fn cause_of_other(path: &str) -> &'static str {
-    if path.ends_with(".txt") {
-        "it is a list and not a database"
-    } else {
-        "it is no database of kbfeed, or no file can be made there"
     }
 }
 

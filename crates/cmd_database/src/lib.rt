@@ -13,4 +13,6 @@ mod status;
 mod why;
 
 pub use command::run_database_command;
-pub use database::{Database, DatabaseFault, begin_feed, close_keeper, open_feed, report_keeper};
+pub use database::{
+    Database, DatabaseFault, Unusable, begin_feed, close_keeper, open_feed, report_keeper,
+};

@@ -1,5 +1,5 @@
 //! `kbfeed status`: the releases that a node has recorded.
-use crate::database::{Database, close_keeper, open_feed};
+use crate::database::{Database, close_keeper, open_existing_feed};
 use feed_console::{Console, DONE, FAILED};
 use feed_releases::ReleaseStatus;
 use std::io;
@@ -7,17 +7,13 @@ use std::io::Write;
 
 /// Opens the database and its feed, and prints a line for each release that is recorded, ordered by name: the name,
 /// `staged`, `active` or `broken`, the size of the file, how many bytes of it are missing, and the reason of a
-/// broken one, with a tab between each two. Returns the exit status: 1 for a database that is not ours or
+/// broken one, with a tab between each two. Returns the exit status: 1 for a database that is not there, not ours or
 /// damaged, 3 for a failing device or print and for running out of memory.
 pub fn print_status<D: Database, O: Write, F: Write + Drop>(
     database: &D,
     console: &mut Console<'_, O, F>,
 ) -> u8 {
-    if !database.is_there() {
-        console.faults.note(database.name(), "it is not there");
-        return DONE;
-    }
-    let feed = match open_feed(database, console) {
+    let feed = match open_existing_feed(database, console) {
         Ok(feed) => feed,
         Err(status) => return status,
     };

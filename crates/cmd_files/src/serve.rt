@@ -22,6 +22,7 @@ const LINGERING_READS: u32 = 16;
 const LINGERING_WAIT: u64 = 100;
 
 /// Serves the releases of a folder at an address. It prints `listening` and then serves connections one after another.
+/// A line on standard error says that the folder is missing; one that is not printed changes no status.
 /// Each may take the time of the options for its request, and as long for its response. For each it prints `served
 /// STATUS` or `fault NAME` at once. Returns the exit status: 0 once all were served, 3 if the address cannot be bound,
 /// a connection cannot be accepted or a line cannot be printed, which is reported.
@@ -40,9 +41,10 @@ pub fn serve_folder<O: Write, F: Write + Drop>(
     };
     let mut folder = Folder::new(console.rt, dir);
     if !folder.is_there() {
-        console
-            .faults
-            .note(dir, "no such folder, so each name is answered by 404");
+        let _ = writeln!(
+            console.faults.out(),
+            "{dir}: no such folder, so each name is answered by 404"
+        );
     }
     let announced = print_listening(&mut console.out);
     if let Err(error) = announced {

@@ -328,6 +328,7 @@ fn bind(rt: &HostRuntime, options: NodeOptions<'_>) -> io::Result<Server> {
             step: options.limit.max(1),
             idle: options.idle.max(1),
         },
+        is_forwarded: options.log.is_forwarded,
     };
     for addr in options.addr.to_socket_addrs(rt)? {
         match Server::bind(rt, addr, settings) {

@@ -5,6 +5,7 @@ ghost use Rattle.feed_keep.specs.Cause.{IsCounted};
 
 use feed_model::KeepFault;
 use sqlite::{Alter, Connection, Error, ErrorCode};
+use std::io;
 use thiserror::Error as Fault;
 
 /// Why a database is not adopted as a keeper.
@@ -19,6 +20,28 @@ pub enum StoreFault {
     /// The file is not a database, or its tables are not those of a keeper.
     #[error("NotOurs")]
     NotOurs,
+}
+
+/// Why a database file is not opened as a keeper. To callers of `open_file` all but the first two are `NotOurs`.
+#[derive(Clone, Copy)]
+pub enum StoreFileFault {
+    /// An allocation failed.
+    Memory,
+    /// The database could not be read or written, or another process has it open.
+    Device,
+    /// The file or its log was not opened or created, with the system's error. It is `Unsupported` for one that is not
+    /// a plain file, or has another name.
+    System(io::Error),
+    /// SQLite takes this name for no file: `:memory:`, or one that begins with `file:`.
+    Name,
+    /// A rollback journal is beside the file. Only SQLite itself plays it back.
+    Journal,
+    /// The pages of the file do not fit together.
+    Damaged,
+    /// SQLite does not read the tables, or a row breaks their rules.
+    Unsound,
+    /// The tables are not those of a keeper.
+    Tables,
 }
 
 /// A connection that was not adopted as a keeper, and why.
@@ -44,15 +67,47 @@ impl From<Error> for StoreFault {
     }
 }
 
+/// The fault of a file whose database is not adopted: its tables are not those of a keeper if it is `NotOurs`.
+impl From<StoreFault> for StoreFileFault {
+    ghost use Rattle.std.specs.Prelude.{◌≡◌};
+    ghost use Rattle.feed_store.specs.Faults.{with_cause};
+
+    ghost from_gives = { λ fault given. given ≡ with_cause fault };
+
+    fn from(fault: StoreFault) -> StoreFileFault {
+        match fault {
+            StoreFault::Memory => StoreFileFault::Memory,
+            StoreFault::Device => StoreFileFault::Device,
+            StoreFault::NotOurs => StoreFileFault::Tables,
+        }
+    }
+}
+
+/// The fault without its cause.
+impl From<StoreFileFault> for StoreFault {
+    ghost use Rattle.std.specs.Prelude.{◌≡◌};
+    ghost use Rattle.feed_store.specs.Faults.{without_cause};
+
+    ghost from_gives = { λ fault given. given ≡ without_cause fault };
+
+    fn from(fault: StoreFileFault) -> StoreFault {
+        match fault {
+            StoreFileFault::Memory => StoreFault::Memory,
+            StoreFileFault::Device => StoreFault::Device,
+            _ => StoreFault::NotOurs,
+        }
+    }
+}
+
 /// Returns the fault for an error of opening a database.
-pub(crate) fn open_fault_of(error: Error) -> StoreFault
+pub(crate) fn open_fault_of(error: Error) -> StoreFileFault
     ensures { result ≡ open_fault_for error }
 {
     match error {
-        Error::SqliteFailure(
-            ErrorCode::NotADatabase | ErrorCode::DatabaseCorrupt | ErrorCode::CannotOpen,
-        ) => StoreFault::NotOurs,
-        _ => StoreFault::from(error),
+        Error::SqliteFailure(ErrorCode::DatabaseCorrupt) => StoreFileFault::Damaged,
+        Error::SqliteFailure(ErrorCode::NotADatabase | ErrorCode::CannotOpen) =>
+            StoreFileFault::Unsound,
+        _ => StoreFileFault::from(StoreFault::from(error)),
     }
 }
 

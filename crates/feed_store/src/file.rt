@@ -5,7 +5,7 @@ ghost use Rattle.sqlite_wal.specs.Files.{image_at};
 ghost use Rattle.sqlite.specs.Files.{image_of};
 ghost use Rattle.feed_store.specs.Adopted.{IsOpenedAs};
 
-use crate::fault::{StoreFault, open_fault_of};
+use crate::fault::{StoreFault, StoreFileFault, open_fault_of};
 use crate::sql_keep::SqlKeep;
 use sqlite::{Connection, Options};
 use sqlite_disk::{Disk, Files, Start, Unknown};
@@ -13,6 +13,7 @@ use sqlite_std_file::{File, FileFrom, OpenError, open};
 use sqlite_store::FileStore;
 use std::alloc::Global;
 use std::hash::{BuildHasher, RandomState};
+use std::io;
 use std::io::ErrorKind;
 
 /// The pages of a database file that are kept in memory, unless a caller asks for another number.
@@ -32,16 +33,17 @@ impl SqlKeep<FileStore<File>> {
             IsOpenedAs (image_at ⟦<Unknown as Start>⟧) keep.0 keep.1.1) }
         ensures fresh { IfOk result (λ keep. (keep.1.0 ≡ 0) × (keep.1.2 ≡ 0)) }
     {
-        SqlKeep::open_file_with_cache(rt, path, CACHE_PAGES)
+        Ok(SqlKeep::open_file_with_cache(rt, path, CACHE_PAGES)?)
     }
 
     /// Opens the keeper of a database file, as `open_file` does, and keeps this many of its pages in memory. An open
-    /// reads each page that is kept twice, and any other one up to six times.
+    /// reads each page that is kept twice, and any other one up to six times. The fault has the cause of each
+    /// `NotOurs`.
     pub fn open_file_with_cache(
         rt: &HostRuntime,
         path: &str,
         cache_pages: usize,
-    ) -> Result<SqlKeep<FileStore<File>>, StoreFault>
+    ) -> Result<SqlKeep<FileStore<File>>, StoreFileFault>
         ensures opened { IfOk result (λ keep.
             IsOpenedAs (image_at ⟦<Unknown as Start>⟧) keep.0 keep.1.1) }
         ensures fresh { IfOk result (λ keep. (keep.1.0 ≡ 0) × (keep.1.2 ≡ 0)) }
@@ -51,13 +53,14 @@ impl SqlKeep<FileStore<File>> {
 }
 
 impl<S: Start> SqlKeep<FileStore<FileFrom<S>>> {
-    /// Opens the keeper of a database file, as `open_file` does. Contracts see the old bytes of the files as `start`.
+    /// Opens the keeper of a database file, as `open_file_with_cache` does. Contracts see the old bytes of the files as
+    /// `start`.
     pub fn open_from(
         rt: &HostRuntime,
         path: &str,
         start: S,
         cache_pages: usize,
-    ) -> Result<SqlKeep<FileStore<FileFrom<S>>>, StoreFault>
+    ) -> Result<SqlKeep<FileStore<FileFrom<S>>>, StoreFileFault>
         ensures opened { IfOk result (λ keep.
             IsOpenedAs (image_at S.Start) keep.0 keep.1.1) }
         ensures fresh { IfOk result (λ keep. (keep.1.0 ≡ 0) × (keep.1.2 ≡ 0)) }
@@ -73,33 +76,38 @@ fn open_pair<S: Start>(
     rt: &HostRuntime,
     path: &str,
     start: S,
-) -> Result<Files<FileFrom<S>>, StoreFault>
+) -> Result<Files<FileFrom<S>>, StoreFileFault>
     ensures usable { IfOk result (λ files. IsTrue (file_is_usable S.Start files.log)
         × IsTrue (file_is_usable S.Start files.db)) }
     ensures fresh { IfOk result (λ files. IsFresh true files.log × IsFresh false files.db) }
 {
     if path == ":memory:" || path.starts_with("file:") {
-        return Err(StoreFault::NotOurs);
+        return Err(StoreFileFault::Name);
     }
     match open(rt, path, start) {
         Ok(files) => Ok(files),
-        Err(OpenError::OutOfMemory) => Err(StoreFault::Memory),
-        Err(OpenError::Busy) => Err(StoreFault::Device),
-        Err(OpenError::Io(error)) if error.kind() == ErrorKind::OutOfMemory => {
-            Err(StoreFault::Memory)
-        }
-        Err(_) => Err(StoreFault::NotOurs),
+        Err(OpenError::OutOfMemory) => Err(StoreFileFault::Memory),
+        Err(OpenError::Busy) => Err(StoreFileFault::Device),
+        Err(OpenError::HotJournal) => Err(StoreFileFault::Journal),
+        Err(OpenError::Io(error)) => Err(system_fault(error)),
+    }
+}
+
+fn system_fault(error: io::Error) -> StoreFileFault {
+    match error.kind() {
+        ErrorKind::OutOfMemory => StoreFileFault::Memory,
+        _ => StoreFileFault::System(error),
     }
 }
 
 // Returns the options of a database that keeps so many pages in memory.
-fn options_of(rt: &HostRuntime, cache_pages: usize) -> Result<Options, StoreFault> {
+fn options_of(rt: &HostRuntime, cache_pages: usize) -> Result<Options, StoreFileFault> {
     match RandomState::new(rt) {
         Ok(state) => Ok(Options {
             cache_pages,
             ..Options::new(state.hash_one(&0u8))
         }),
-        Err(_) => Err(StoreFault::NotOurs),
+        Err(error) => Err(system_fault(error)),
     }
 }
 
@@ -110,7 +118,7 @@ impl<D: Disk + Drop> SqlKeep<FileStore<D>> {
         alloc: Global,
         files: Files<D>,
         options: Options,
-    ) -> Result<SqlKeep<FileStore<D>>, StoreFault>
+    ) -> Result<SqlKeep<FileStore<D>>, StoreFileFault>
         requires log { IsTrue (D.Disk.is_usable files.log) }
         requires db { IsTrue (D.Disk.is_usable files.db) }
         ensures opened { IfOk result (λ keep. IsOpenedAs (image_of D.Disk files) keep.0 keep.1.1) }

@@ -9,7 +9,7 @@ mod laws;
 mod reasons;
 mod sql_keep;
 
-pub use fault::{AdoptFault, StoreFault};
+pub use fault::{AdoptFault, StoreFault, StoreFileFault};
 pub use file::CACHE_PAGES;
 pub use large_keep::LargeSqlKeep;
 pub use laws::{histories_stay, memory_stays_clean};

@@ -2,7 +2,7 @@
 ghost use Rattle.std.specs.Prelude.{◌≡◌, false, None, IfErr, IfOk, MatchResult};
 
 use crate::adopt::{is_alone, prepare};
-use crate::fault::{AdoptFault, StoreFault, keep_fault_of};
+use crate::fault::{AdoptFault, StoreFault, StoreFileFault, keep_fault_of};
 use feed_keep::{Change, Keep, Record};
 use feed_model::KeepFault;
 use feed_store_read::read_records;
@@ -105,7 +105,7 @@ impl<S: Alter + Drop> SqlKeep<S> {
     pub(crate) fn adopt_or_drop(
         alloc: Global,
         conn: Connection<S>,
-    ) -> Result<SqlKeep<S>, StoreFault>
+    ) -> Result<SqlKeep<S>, StoreFileFault>
         requires { conn.in_transaction ≡ false }
         ensures adopted { IfOk result (λ keep.
             IsAdopted (state S.Store conn) (state S.Store keep.0) keep.1.1) }
@@ -113,7 +113,7 @@ impl<S: Alter + Drop> SqlKeep<S> {
     {
         match SqlKeep::adopt(alloc, conn) {
             Ok(keep) => Ok(keep),
-            Err(fault) => Err(fault.cause),
+            Err(fault) => Err(StoreFileFault::from(fault.cause)),
         }
     }
 }

@@ -1,13 +1,14 @@
 //! The database of a node in a SQLite file.
 ghost use Rattle.std.specs.Prelude.{◌<◌};
 
-use cmd_database::{Database, DatabaseFault};
+use cmd_database::{Database, DatabaseFault, Unusable};
 use cmd_node::run_command;
 use feed_console::Console;
 use feed_options::NodeCommand;
-use feed_store::{CACHE_PAGES, LargeSqlKeep, SqlKeep, StoreFault};
+use feed_store::{CACHE_PAGES, LargeSqlKeep, SqlKeep, StoreFileFault};
 use sqlite_std_file::File;
 use sqlite_store::FileStore;
+use std::fs::OpenOptions;
 use std::io::{ErrorKind, Read, Write};
 use std::os::unix::fs::MetadataExt;
 use std::{fs, io};
@@ -44,7 +45,7 @@ impl Database for DatabaseFile<'_> {
     fn open(&self) -> Result<LargeSqlKeep<FileStore<File>>, DatabaseFault> {
         match self.is_other_file() {
             Ok(false) => {}
-            Ok(true) => return Err(DatabaseFault::NotDatabase),
+            Ok(true) => return Err(DatabaseFault::NotOurs(Unusable::NotDatabase)),
             Err(error) if error.kind() == ErrorKind::OutOfMemory => {
                 return Err(DatabaseFault::Memory);
             }
@@ -52,15 +53,14 @@ impl Database for DatabaseFile<'_> {
         }
         match SqlKeep::open_file_with_cache(self.rt, self.path, self.cache_pages()) {
             Ok(store) => Ok(LargeSqlKeep::of(store)),
-            Err(StoreFault::NotOurs) if self.has_other_name() => Err(DatabaseFault::Linked),
-            Err(fault) => Err(fault_of(fault)),
+            Err(fault) => Err(self.fault_of(fault)),
         }
     }
 
     fn close(&self, keeper: LargeSqlKeep<FileStore<File>>) -> Result<(), DatabaseFault> {
         match keeper.into_store().close() {
             Ok(()) => Ok(()),
-            Err(fault) => Err(fault_of(fault)),
+            Err(fault) => Err(self.fault_of(StoreFileFault::from(fault))),
         }
     }
 }
@@ -119,6 +119,41 @@ impl DatabaseFile<'_> {
         Ok(Some(size / page_size(front)))
     }
 
+    // Returns the fault of a database that a fault of its keeper is.
+    fn fault_of(&self, fault: StoreFileFault) -> DatabaseFault {
+        DatabaseFault::NotOurs(match fault {
+            StoreFileFault::Memory => return DatabaseFault::Memory,
+            StoreFileFault::Device => return DatabaseFault::Device,
+            StoreFileFault::System(error) => self.unopened(error),
+            StoreFileFault::Name => Unusable::Name,
+            StoreFileFault::Journal => Unusable::Journal,
+            StoreFileFault::Damaged => Unusable::Damaged,
+            StoreFileFault::Unsound => Unusable::Unsound,
+            StoreFileFault::Tables => Unusable::Tables,
+        })
+    }
+
+    // Returns what the system does not open. It is the log if the file itself opens.
+    fn unopened(&self, error: io::Error) -> Unusable {
+        if self.has_other_name() {
+            Unusable::Linked
+        } else if error.kind() == ErrorKind::Unsupported {
+            Unusable::NotPlain
+        } else if self.opens() {
+            Unusable::Log(error)
+        } else {
+            Unusable::File(error)
+        }
+    }
+
+    fn opens(&self) -> bool {
+        OpenOptions::new()
+            .read(true)
+            .write(true)
+            .open(self.rt, self.path)
+            .is_ok()
+    }
+
     // Returns whether the file has more names than one. Its log is found by its name, so a process that opens it by
     // another name would not see the commits in the log.
     fn has_other_name(&self) -> bool {
@@ -137,15 +172,6 @@ fn page_size(front: [u8; 18]) -> u64
     match u16::from_be_bytes([front[16], front[17]]) {
         1 => 65_536,
         size => (size as u64).max(MIN_PAGE),
-    }
-}
-
-// Returns the fault of a database that a fault of its keeper is.
-fn fault_of(fault: StoreFault) -> DatabaseFault {
-    match fault {
-        StoreFault::Memory => DatabaseFault::Memory,
-        StoreFault::Device => DatabaseFault::Device,
-        StoreFault::NotOurs => DatabaseFault::NotOurs,
     }
 }
 
