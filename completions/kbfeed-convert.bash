@@ -5,16 +5,17 @@ _kbfeed_convert() {
   # Bash splits --into=DIR at its =.
   if [[ $word == = ]]; then word=; elif [[ $before == = ]]; then before=${COMP_WORDS[COMP_CWORD - 2]}; fi
   case $before in
-    --into) compopt -o dirnames; return ;;
+    --into | --library) compopt -o dirnames; return ;;
     --map | --report) compopt -o default; return ;;
     --type) COMPREPLY=($(compgen -W 'serial monograph' -- "$word")); return ;;
     --encoding)
       COMPREPLY=($(compgen -W 'utf-8 utf-16 cp1252 cp949 cp932 gb18030 big5' -- "$word")); return ;;
-    --name | --package | --date | --sheet) return ;;
+    --profile) COMPREPLY=($(compgen -W 'sfx alma 360 ebsco ezb pmc doab gokb kbart' -- "$word")); return ;;
+    --name | --package | --date | --sheet | --replace) return ;;
   esac
   if [[ $word == -* ]]; then
-    COMPREPLY=($(compgen -W '-h --help --into --name --package --date --type --encoding --sheet --map --report --strict
-      -v --verbose' -- "$word"))
+    COMPREPLY=($(compgen -W '-h --help --into --name --package --date --type --encoding --sheet --map --profile
+      --replace --library --report --strict -v --verbose' -- "$word"))
   else
     compopt -o default
   fi

@@ -1,26 +1,20 @@
 """The arguments, the two passes over a list, and the exit statuses."""
 import argparse
-import codecs
-import io
 import os
 import re
-from typing import IO
 
-from . import dates, encoding, ending, form, labels, mapping, names, source, strict
+from . import ending, library, mapping, names, quick, reading, strict, unused
 from .faults import BYTES, Refused, WrongArguments
 from .files import Output, ReportOutput, standard_output
-from .record import DATES, NUMBERS, Cells, Converter, Settings
+from .record import Cells
 from .report import Report
 
 PROGRAM = "kbfeed-convert"
 DESCRIPTION = "Converts a vendor's holdings list to a KBART list that kbfeed reads."
-EPILOG = """The list is text of any usual encoding and separator, or a spreadsheet (.xlsx), also inside ZIP or gzip.
+EPILOG = """The list is text of any usual encoding and separator, a spreadsheet (.xlsx, .ods), a table of HTML (.xls)
+or JSON, also inside ZIP or gzip.
 The status is 0 if the list was written, 1 if it is refused, or with --strict if a record was dropped, 2 for wrong
 arguments, and 3 if a file cannot be read or written."""
-# The records by which the column of titles is guessed.
-SAMPLE = 50
-# The labels whose absence is worth a warning. Identifiers need none: a record without them is dropped.
-EXPECTED = ("publication_title", "title_url")
 
 
 def arguments(given: list[str] | None = None) -> argparse.Namespace:
@@ -35,62 +29,40 @@ def arguments(given: list[str] | None = None) -> argparse.Namespace:
     parser.add_argument("--encoding", metavar="NAME", default="", help="of a text, as cp1252")
     parser.add_argument("--sheet", metavar="NAME", default="", help="of a spreadsheet")
     parser.add_argument("--map", metavar="FILE", help="what is particular to a vendor, in TOML")
+    parser.add_argument("--profile", choices=list(mapping.PROFILES), default="",
+                        help="the product that exported the list; without it, its header decides")
+    parser.add_argument("--replace", metavar="PLACEHOLDER=VALUE", action="append", default=[],
+                        help="a text to replace in addresses, as [SITE_ID]=4711")
+    parser.add_argument("--library", metavar="FOLDER",
+                        help="of an export with selections: a list for each package, and the files of a site")
     parser.add_argument("--report", metavar="FILE", help="write what was done with each record, in JSON")
-    parser.add_argument("--strict", action="store_true", help="exit with 1 if a record is dropped")
+    parser.add_argument("--strict", action="store_true",
+                        help="exit with 1 if a record is dropped, or coverage may be wider than the source")
     parser.add_argument("-v", "--verbose", action="store_true", help="print all warnings, and not only ten lines")
     return parser.parse_args(given)
 
 
-def text_encoding(given: argparse.Namespace, file: IO[bytes], sheet: str) -> encoding.Encoding:
-    """Returns the encoding of a text: the given one, or the detected one."""
-    if sheet:
-        if given.encoding:
-            raise WrongArguments("--encoding: a spreadsheet has none")
-        return encoding.Encoding("utf-8")
-    if given.sheet:
-        raise WrongArguments("--sheet: the list is not a spreadsheet")
-    if not given.encoding:
-        return encoding.detect(file)
-    try:
-        "".encode(given.encoding)
-        name = codecs.lookup(given.encoding).name
-    except LookupError as error:
-        raise WrongArguments(f"--encoding: {given.encoding} is not known") from error
-    return encoding.Encoding("utf-8-sig" if name == "utf-8" else name)
-
-
 def convert(given: argparse.Namespace, name: str, out: Output, report_out: ReportOutput | None) -> Report:
     """Converts a list in two passes: the first finds the header and the order of day and month, the second writes."""
-    rules = mapping.read(given.map)
-
-    def has_header(rows: list[list[str]]) -> bool:
-        return any(labels.known(row, rules.labels) >= form.LEAST for row in rows)
-
-    file, sheet = source.open_list(given.file, given.sheet, has_header)
-    found = text_encoding(given, file, sheet)
-    file.seek(0)
-    text = io.TextIOWrapper(file, encoding=found.name, errors=found.errors, newline=None)
-    shape = form.find(text, rules.labels)
-    shape = shape._replace(is_kbart=shape.is_kbart and found.is_utf8() and not rules.is_read())
-    columns = labels.Columns(shape.header, rules.labels)
-    guessed = guessed_title(text, shape, columns)
-    order = date_order(text, shape, columns, rules.order)
-    warnings = [found.warning] if found.warning else []
-    shown = "" if sheet else f", with {shape.separator} between cells"
-    warnings += [*guessed, *name_warnings(given, name), *form_warnings(shape, shown, columns, order, rules)]
-    head = {
-        "file": os.path.basename(given.file), "name": name, "sheet": sheet, "encoding": found.name,
-        "runner_up": found.runner_up, "separator": shape.separator, "header_line": shape.line, "date_order": str(order),
-        "columns": [{"header": cell, "label": label} for cell, label in zip(columns.header, columns.names)],
-        "unused": columns.unused()}
-    report = Report(report_out.write_text if report_out else None, head, warnings)
-    settings = Settings(given.type, rules.constants, rules.replaced, str(order))
-    converter = Converter(columns, settings, shape)
-    text.seek(0)
+    opened = reading.opened(given, name)
+    report = Report(report_out.write_text if report_out else None, opened.head, opened.warnings)
+    converter = opened.converter()
+    left_over = unused.Unused(opened.columns)
+    shortcut = quick.Shortcut(converter)
     line = ("\t".join(strict.LABELS) + "\n").encode()
     out.write(line)
     left = BYTES - len(line)
-    for record in form.body(text, shape):
+    for record in opened.records():
+        if left_over.columns:
+            left_over.look(record.cells)
+        if shortcut.is_open and (found := shortcut.row(record)):
+            line = ("\t".join(found.cells) + "\n").encode()
+            left -= len(line)
+            if left < 0:
+                raise Refused(f"the list would have more than {BYTES} bytes")
+            out.write(line)
+            report.quick(record, found.changes, found.rules, found.read)
+            continue
         outcome = converter.convert(record)
         for row, _ in outcome.rows:
             line = row_line(row)
@@ -99,55 +71,8 @@ def convert(given: argparse.Namespace, name: str, out: Output, report_out: Repor
                 raise Refused(f"the list would have more than {BYTES} bytes")
             out.write(line)
         report.record(record, outcome)
-    report.end("" if report.rows else "no record is a row")
+    report.end(left_over.suspects(), "" if report.rows else "no record is a row")
     return report
-
-
-def guessed_title(text: io.TextIOWrapper, shape: form.Form, columns: labels.Columns) -> list[str]:
-    """Guesses the column of titles by its first records if no label says it, and returns a warning then."""
-    if "publication_title" in columns.places:
-        return []
-    text.seek(0)
-    header = columns.guess_title([it.cells for _, it in zip(range(SAMPLE), form.body(text, shape))])
-    return [f"no label says which column has the titles: it is guessed to be {header!r}"] if header else []
-
-
-def date_order(text: io.TextIOWrapper, shape: form.Form, columns: labels.Columns, fixed: str) -> dates.Order:
-    """Returns the order of day and month that the date columns of the whole list prove."""
-    order = dates.Order(fixed)
-    places = [at for label in (*DATES, "coverage") for at in columns.places.get(label, ())]
-    if not fixed and places:
-        text.seek(0)
-        for record in form.body(text, shape):
-            order.look(record.cells[at] for at in places if at < len(record.cells))
-    return order
-
-
-def name_warnings(given: argparse.Namespace, name: str) -> list[str]:
-    """Returns a warning if the package is not what the file's name begins with: a person should fix it."""
-    package = name.rpartition("_")[0]
-    if not name or given.package or os.path.basename(given.name or given.file).startswith(f"{package}_"):
-        return []
-    return [f"the package is {package}, made from the file's name: --package keeps it the same"]
-
-
-def form_warnings(shape: form.Form, shown: str, columns: labels.Columns, order: dates.Order,
-                  rules: mapping.Map) -> list[str]:
-    """Returns the warnings about the form of the list. `shown` says what separates its cells."""
-    warnings = []
-    if not strict.columns(shape.header):
-        warnings.append(f"not KBART: the columns are read by their labels{shown}")
-    elif shape.separator != "tab":
-        warnings.append(f"{shape.separator} in place of tab")
-    for label in columns.twice:
-        how = "the numbers of all count" if label in NUMBERS else "the first with a value counts"
-        warnings.append(f"several columns are {label}: {how}")
-    if not order.fixed and len(order.seen) > 1:
-        warnings.append("some dates have the day first, and some the month: only their year counts. A map decides it")
-    warnings += [f"no column is {label}: its cells are empty" for label in EXPECTED if label not in columns.places]
-    cells = {it.strip() for it in shape.header}
-    warnings += [f"the map names a column that the list lacks: {it}" for it in rules.labels if it not in cells]
-    return warnings
 
 
 def row_line(row: Cells) -> bytes:
@@ -160,6 +85,45 @@ def row_line(row: Cells) -> bytes:
 
 def run(given: argparse.Namespace) -> int:
     """Converts a list, writes the files, and returns the exit status."""
+    return run_list(given) if given.library is None else run_library(given)
+
+
+def run_library(given: argparse.Namespace) -> int:
+    """Makes the files of a library, and returns the exit status."""
+    if given.into is not None or given.package:
+        raise WrongArguments("--library: the packages and their folder are those of the export")
+    day = names.release(given.name or given.file, "P", given.date)[2:-4]
+    check_paths(given, "")
+    report_out = ReportOutput(given.report) if given.report else None
+    try:
+        report, lines = library.run(
+            given, day, lambda head, warnings: Report(report_out.write_text if report_out else None, head, warnings),
+            row_line)
+        if report_out:
+            report_out.finish()
+            report_out.close()
+        for line in lines:
+            print_line(line)
+        return status_of(given, report)
+    finally:
+        if report_out:
+            report_out.remove()
+
+
+def status_of(given: argparse.Namespace, report: Report) -> int:
+    """Prints the summary, and returns the exit status."""
+    for line in report.summary(given.verbose):
+        ending.say(PROGRAM, line)
+    if not report.rows:
+        raise Refused("no record is a row: such a release would hide its package")
+    if given.strict and (doubt := report.doubt()):
+        ending.say(PROGRAM, f"--strict: {doubt}")
+        return 1
+    return 1 if given.strict and report.lost() else 0
+
+
+def run_list(given: argparse.Namespace) -> int:
+    """Converts one list, and returns the exit status."""
     name = release_name(given)
     check_paths(given, name)
     out = report_out = None
@@ -174,16 +138,12 @@ def run(given: argparse.Namespace) -> int:
         if report.rows:
             if path:
                 out.place()
-                print_name(name)
+                print_line(name)
             else:
                 out.copy(standard_output(), "standard output")
         if report_out:
             report_out.close()
-        for line in report.summary(given.verbose):
-            ending.say(PROGRAM, line)
-        if not report.rows:
-            raise Refused("no record is a row: such a release would hide its package")
-        return 1 if given.strict and report.lost() else 0
+        return status_of(given, report)
     finally:
         for it in (out, report_out):
             if it:
@@ -200,10 +160,10 @@ def release_name(given: argparse.Namespace) -> str:
         return ""
 
 
-def print_name(name: str) -> None:
-    """Prints the name of the release. An error has the name of the device."""
+def print_line(line: str) -> None:
+    """Prints the name of a release. An error has the name of the device."""
     try:
-        print(name, flush=True)
+        print(line, flush=True)
     except BrokenPipeError:
         raise
     except OSError as error:

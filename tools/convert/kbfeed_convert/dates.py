@@ -11,7 +11,10 @@ from .texts import TABLES, folded, plain, remembered, word_set, words
 
 YEAR = r"(1[4-9][0-9]{2}|20[0-9]{2}|21[0-9]{2})"
 YEARS = re.compile(rf"(?<![0-9]){YEAR}(?![0-9])")
-TWO_YEARS = re.compile(rf"{YEAR}\s*[/-]\s*([0-9]{{2}})(?![0-9])")
+TWO_YEARS = re.compile(rf"{YEAR}\s*[/-]\s*([0-9]{{2}})(?![0-9]|[/-][0-9])")
+# A date of numbers inside a text.
+INSIDE = re.compile(r"(?<![0-9])(?:[0-9]{4}([-/.])[0-9]{1,2}\1[0-9]{1,2}"
+                    r"|[0-9]{1,2}([-/.])[0-9]{1,2}\2[0-9]{4})(?![0-9])")
 TIME = re.compile(r"[tT ][0-9]{1,2}:[0-9]{2}(:[0-9]{2}(\.[0-9]+)?)?( ?[aApP][mM])?(Z|[+-][0-9]{2}:?[0-9]{2})?$")
 DAY_FIRST = re.compile(rf"(?<![0-9])([0-9]{{1,2}})([/.\- ])([0-9]{{1,2}})\2{YEAR}(?![0-9])")
 # The parts of a date, in the order of the groups.
@@ -24,11 +27,12 @@ FORMS = [
 ]
 # Spaces inside a date of numbers, as in `1995. 3. 1.`.
 APART = re.compile(r"(?<=[0-9])([./-]) (?=[0-9])")
+# A month in a script that names its parts, which are no two years.
+CJK_MONTH = re.compile(rf"{YEAR}\s*[年년]\s*([0-9]{{1,2}})\s*[月월](?:\s*([0-9]{{1,2}})\s*[日일号號])?")
 CJK_PART = re.compile(r"\s*[年月년월]\s*")
 CJK_DAY = re.compile("[日일도号號]")
 OPEN = word_set("dates", "open")
 NONE = word_set("dates", "none")
-SINCE = word_set("dates", "since")
 FILLERS = word_set("dates", "fillers")
 QUARTERS = word_set("dates", "quarter")
 SEASONS = word_set("dates", "season")
@@ -41,9 +45,8 @@ RANGE = re.compile(rf"\s*(?:-+|[~〜～]|(?<![^\W\d])(?:{TO_APART})(?![^\W\d])|{
 # The rest of a date behind its year, whose hyphens do not connect two dates.
 REST = re.compile(r"-[0-9]{1,2}-[0-9]{1,2}(?![0-9])|-(?:0?[1-9]|1[0-2])(?=\s*(?:[-~〜～]|$|\s))")
 
-# The characters of the longest text of a range: it is looked at once for each comma in it.
-LONGEST = 200
 NOT_READ = "a date that does not read is open"
+UNDECIDED = "day and month are not decided: the year"
 
 
 class Order:
@@ -96,6 +99,8 @@ def read(cell: str, is_last: bool, order: str) -> Read:
         return Read("", "no date")
     if is_last and folded(now) in OPEN:
         return Read("", "an open end in words")
+    if named := CJK_MONTH.fullmatch(now.strip()):
+        return parts(int(named[1]), int(named[2]), int(named[3]) if named[3] else None)
     now = CJK_DAY.sub("", CJK_PART.sub("-", now)).strip("-[]()?.,;* ")
     if found := by_numbers(now, is_last, order) or by_names(now, is_last):
         return found
@@ -105,6 +110,9 @@ def read(cell: str, is_last: bool, order: str) -> Read:
         side = sides[is_last].strip("-[]()?.,;* ")
         found = by_numbers(side, is_last, order) or by_names(side, is_last) or by_years(side, is_last)
         return found._replace(rule=rule)
+    whole = INSIDE.search(now)
+    if whole and (found := by_numbers(whole[0], is_last, order)) and len(YEARS.findall(now)) == 1:
+        return found if found.rule == UNDECIDED else found._replace(rule="a date in a text")
     return by_years(now, is_last)
 
 
@@ -117,7 +125,7 @@ def by_numbers(now: str, is_last: bool, order: str) -> Read | None:
         elif two > 12 >= one:
             order = "mdy"
         if not order:
-            return Read(date_text(year), "day and month are not decided: the year")
+            return Read(date_text(year), UNDECIDED)
         return parts(year, two, one) if order == "dmy" else parts(year, one, two)
     for form, pattern in FORMS:
         if found := pattern.fullmatch(now):
@@ -187,49 +195,3 @@ def range_sides(now: str) -> tuple[str, str] | None:
     if not found or re.fullmatch(r"[0-9]{2}", now[found.end():].strip()):
         return None
     return now[:found.start()].strip(), now[found.end():].strip()
-
-
-def ranges(cell: str, order: str) -> list[tuple[str, str]]:
-    """Returns the ranges of a cell that holds a coverage, as `1995-2001; 2003-present`. None of them has no year."""
-    found = []
-    for part in range_texts(plain_lines(cell)):
-        sides = range_sides(part)
-        left, right = sides or (part.strip(), "")
-        first = read(left, False, order).text
-        if not first:
-            continue
-        if sides:
-            last = read(right, True, order).text or ""
-        elif (two := TWO_YEARS.fullmatch(part.strip())) and (end := second_year(int(two[1]), int(two[2]))):
-            first, last = two[1], date_text(end)
-        else:
-            is_open = SINCE & set(folded(part).split()) or part.rstrip().endswith("+")
-            last = "" if is_open else read(left, True, order).text or ""
-        found.append((first, last))
-    return found
-
-
-def plain_lines(cell: str) -> str:
-    """Returns a cell in plain characters, with its lines apart."""
-    return CJK_DAY.sub("", CJK_PART.sub("-", ";".join(map(plain, re.split(r"[\r\n]+", cell)))))
-
-
-def range_texts(text: str) -> Iterable[str]:
-    """Yields the text of each range. A comma separates two only if what is before it is a whole one."""
-    for part in text.split(";"):
-        gathered = ""
-        for piece in part.split(","):
-            if len(gathered) > LONGEST or gathered and YEARS.search(piece) and is_complete(gathered):
-                yield gathered
-                gathered = ""
-            gathered += ("," if gathered else "") + piece
-        if gathered.strip():
-            yield gathered
-
-
-def is_complete(part: str) -> bool:
-    """Returns whether a text is a year alone, or a range with both its ends."""
-    if YEARS.fullmatch(part.strip()):
-        return True
-    sides = range_sides(part)
-    return sides is not None and bool(YEARS.search(sides[1]) or folded(sides[1]) in OPEN)

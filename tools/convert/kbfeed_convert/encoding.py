@@ -6,6 +6,7 @@ import codecs
 import re
 from typing import IO, Any, Iterator, NamedTuple
 
+from .labels import label
 from .texts import TABLES
 
 # Longer marks first: that of UTF-32 begins with that of UTF-16.
@@ -18,6 +19,8 @@ CHUNK = 1 << 20
 SAMPLE = 200_000
 # The points between the two best encodings below which the guess is doubtful.
 CLOSE = 0.4
+# The lines, and the characters of each, in which labels decide between two encodings that are close.
+HEADER, LONGEST = 10, 4_096
 
 
 class Encoding(NamedTuple):
@@ -126,12 +129,20 @@ def compare(sample: bytes) -> Encoding:
         broken = text.count("\ufffd")
         points.append((score(text, name, table) - (2 + broken / 10 if broken else 0), -place, name, text))
     points.sort(reverse=True)
-    best, _, name, text = points[0]
-    second, _, runner_up, _ = next((it for it in points if it[3] != text), points[-1])
+    # The labels of the header decide between encodings that are close.
+    near = [(known(it[3]), it) for it in points if points[0][0] - it[0] < CLOSE]
+    labels, (best, _, name, text) = max(near, key=lambda it: it[0])
+    second, _, runner_up, other = next((it for it in points if it[3] != text), points[-1])
     warning = f"not UTF-8: read as {shown(name)}"
-    if best - second < CLOSE:
+    if best - second < CLOSE and labels == known(other):
         warning += f", and {shown(runner_up)} is nearly as likely: --encoding decides"
     return Encoding(name, "replace", runner_up, warning)
+
+
+def known(text: str) -> int:
+    """Returns how many labels the first lines of a text have that are not ASCII."""
+    cells = [cell for line in text.split("\n", HEADER)[:HEADER] for cell in re.split("[\t,;|]", line[:LONGEST])]
+    return sum(label(it.strip(' "')) is not None for it in cells if not it.isascii())
 
 
 def shown(name: str) -> str:
@@ -143,8 +154,9 @@ def score(text: str, name: str, table: dict[str, Any]) -> float:
     """Returns how common the characters beyond ASCII are, from -2 to 3 for each."""
     often = set(table["often"])
     leads = {it for first, last in table.get("leads", []) for it in range(first, last + 1)}
-    has_runs = bool(table.get("runs"))
-    points = [ideograph_points(it, name, often, leads) if leads else letter_points(text, at, often, has_runs)
+    has_runs, rare = bool(table.get("runs")), set(table.get("rare", ""))
+    points = [ideograph_points(it, name, often, leads) if leads
+              else letter_points(text, at, often, has_runs) - (it in rare)
               for at, it in enumerate(text) if it >= "\x80" and it != "\ufffd"]
     return sum(points) / len(points) if points else 0.0
 

@@ -2,7 +2,6 @@
 
 A quote counts only where it surrounds a cell."""
 import collections
-import itertools
 import re
 from typing import Callable, Iterator, NamedTuple, TextIO
 
@@ -142,13 +141,18 @@ def find(text: TextIO, renamed: dict[str, str]) -> Form:
     if strict.columns(header):
         return within_limit(Form("tab", first[0][0], header, True))
     counted: list[tuple[int, Form]] = []
+    backed: list[tuple[int, Form]] = []
     for name, sign in SEPARATORS.items():
+        above: list[str | None] = []
         for record in records(iter(first), sign, COLUMNS):
             cells = record.cells[:COLUMNS + 1]
+            if labels.has_numbers_below(above, cells):
+                backed.append(counted[-1])
             counted.append((labels.known(cells, renamed), Form(name, record.line, cells, False)))
             if counted[-1][0] >= LEAST:
                 break
-    good = [it for it in counted if it[0] >= LEAST]
+            above = [renamed.get(it.strip()) or labels.label(it) for it in cells]
+    good = [it for it in counted if it[0] >= LEAST] or backed
     if not good:
         raise Refused(f"no header: no line has {LEAST} known labels. The nearest are {nearest(counted, first)}")
     header_line = min(form.line for _, form in good)
@@ -157,23 +161,15 @@ def find(text: TextIO, renamed: dict[str, str]) -> Form:
 
 
 def with_second_line(form: Form, first: list[tuple[int, str]], renamed: dict[str, str]) -> Form:
-    """Returns a form whose header is joined with the line below, if that is its second line.
-
-    It is one if it makes more labels, as `From` and `To` below `Coverage`, and all its cells are parts of labels. A
-    cell of the first line is the group of the empty ones behind it."""
+    """Returns a form whose header is joined with the line below, if that is its second line."""
     found = records(iter(first), SEPARATORS[form.separator], COLUMNS)
     second = next((it for it in found if it.line > form.line), None)
     if not second or len(second.cells) > COLUMNS:
         return form
-    below, joined, group = second.cells, [], ""
-    for upper, lower in itertools.zip_longest(form.header, below, fillvalue=""):
-        group = upper.strip() or group
-        joined.append(f"{group} {lower.strip()}" if lower.strip() else upper)
-    parts = [whole for whole, lower in zip(joined, below) if lower.strip()]
-    is_more = len(parts) > 1 and labels.known(joined, renamed) > labels.known(form.header, renamed)
-    if is_more and all(labels.label(it) for it in parts) and not any(re.search("[0-9]{3}", it) for it in below):
-        return form._replace(header=joined, line=second.line)
-    return form
+    def label(cell: str) -> str | None:
+        return renamed.get(cell.strip()) or labels.label(cell)
+    joined = labels.with_second(form.header, second.cells, label)
+    return form._replace(header=joined, line=second.line) if joined else form
 
 
 def nearest(counted: list[tuple[int, Form]], first: list[tuple[int, str]]) -> str:

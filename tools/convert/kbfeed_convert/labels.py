@@ -1,27 +1,37 @@
 """The label of each column of a header, from one table.
 
 Some labels are our own: `other_identifier` (an ISSN-L, a further ISBN), `coverage` and `volumes` (ranges in one cell),
-`embargo_days`, `embargo_months` and `embargo_years` (bare numbers), and `open_access` (yes or no)."""
+`gaps` (what these lack), `embargo_days`, `embargo_months`, `embargo_years`, `recent_months` and `recent_years` (bare
+numbers), and `open_access` (yes or no)."""
 import difflib
+import itertools
 import re
+from typing import Callable, Iterable
 
 from . import strict
 from .texts import TABLES, folded, remembered, word_set, words
 
-OWN = ("other_identifier", "coverage", "volumes", "embargo_days", "embargo_months", "embargo_years", "open_access")
+OWN = ("other_identifier", "coverage", "volumes", "embargo_days", "embargo_months", "embargo_years", "recent_months",
+       "recent_years", "gaps", "open_access")
 # The characters of the longest label.
 LONGEST = 200
-# How near a misspelt label has to be to one of the standard.
-NEAR = 0.9
+# How near a misspelt label has to be to one of the standard, and the share of cells by which a label is guessed.
+NEAR = SURE = 0.9
+# The share of the cells of a column of dates that have to be dates.
+MOST = 0.5
 SYNONYMS = {key.replace(" ", ""): label for key, label in words("labels").items()}
 WORDS = {name: [folded(it) for it in many] for name, many in TABLES["words"].items()}
+ADDRESS = re.compile(r"\s*https?://", re.I)
+# The first character of the scripts without spaces, and the letters below which a word of others has to be whole.
+IDEOGRAPHS, SHORT = "\u3000", 3
 # A list with such a label has free titles alone.
 FREE = word_set("free_lists", "labels")
 
 
 def has_word(group: str, text: str, tokens: frozenset[str]) -> bool:
     """Returns whether a text has a word of a group: a whole word, or in a script without spaces anywhere."""
-    return any(word in tokens if word.isascii() else word in text for word in WORDS[group])
+    return any(word in tokens if word.isascii() or len(word) < SHORT and word < IDEOGRAPHS else word in text
+               for word in WORDS[group])
 
 
 @remembered
@@ -47,14 +57,44 @@ def label(cell: str) -> str | None:
     return near[0] if near else None
 
 
+def has_numbers_below(names: list[str | None], below: list[str]) -> bool:
+    """Returns whether the record behind a header has an ISSN or ISBN below a label of one. Then it is a header, however
+    many labels are known."""
+    return any(strict.issn(cell) or strict.isbn(cell) for name, cell in zip(names, below)
+               if name in ("print_identifier", "online_identifier"))
+
+
 def known(cells: list[str], renamed: dict[str, str]) -> int:
     """Returns how many different labels a line has. `renamed` has the headers of a map."""
     return len({it for it in (renamed.get(cell.strip()) or label(cell) for cell in cells) if it})
 
 
+def with_second(header: list[str], second: list[str], meaning: Callable[[str], str | None]) -> list[str]:
+    """Returns a header joined with the line below, or nothing if that is not its second line.
+
+    It is one if it makes more labels, as `From` and `To` below `Coverage`, and all its cells are parts of labels. A
+    cell of the first line is the group of the empty ones behind it. `meaning` returns the label of a cell."""
+    # A cell that reaches into the second line is there once.
+    below = [lower if lower != upper else ""
+             for upper, lower in itertools.zip_longest(header, second, fillvalue="")]
+    joined, group = [], ""
+    for upper, lower in itertools.zip_longest(header, below, fillvalue=""):
+        group = upper.strip() or group
+        joined.append(f"{group} {lower.strip()}" if lower.strip() else upper)
+    parts = [whole for whole, lower in zip(joined, below) if lower.strip()]
+    if len(parts) < 2 or any(re.search("[0-9]{3}", it) for it in below) or not all(map(meaning, parts)):
+        return []
+    return joined if len({*map(meaning, joined)} - {None}) > len({*map(meaning, header)} - {None}) else []
+
+
 def is_standard(cell: str) -> bool:
     """Returns whether a cell of a header is a label of the standard itself."""
     return strict.lower(cell) in strict.LABELS
+
+
+def letters(cells: Iterable[str]) -> int:
+    """Returns how many letters some cells have."""
+    return sum(it.isalpha() for cell in cells for it in cell)
 
 
 class Columns:
@@ -65,6 +105,8 @@ class Columns:
 
     def __init__(self, header: list[str], renamed: dict[str, str]):
         self.header = header
+        # The headers that a map leaves out.
+        self.left_out = {cell for cell, name in renamed.items() if not name}
         self.names = [renamed.get(cell.strip(), label(cell)) or None for cell in header]
         self.places: dict[str, list[int]] = {}
         for place, name in enumerate(self.names):
@@ -84,16 +126,86 @@ class Columns:
         """Returns the headers of the columns that have no label."""
         return [cell for cell, name in zip(self.header, self.names) if not name and cell.strip()]
 
-    def guess_title(self, records: list[list[str]]) -> str:
-        """Takes the column without a label that has the most letters for the titles, and returns its header."""
-        letters = {place: sum(it.isalpha() for cells in records for it in cells[place:place + 1] for it in it[:80])
-                   for place, name in enumerate(self.names) if not name and self.header[place].strip()}
-        place = max(letters, key=lambda it: letters[it], default=-1)
-        if place < 0 or letters[place] < 3 * len(records):
-            return ""
-        self.names[place] = "publication_title"
-        self.places["publication_title"] = [place]
+    def left_over(self) -> list[tuple[int, str]]:
+        """Returns the place and the header of each column that is not used, and that no map leaves out."""
+        return [(at, cell) for at, (cell, name) in enumerate(zip(self.header, self.names))
+                if not name and cell.strip() and cell.strip() not in self.left_out]
+
+    def give(self, place: int, name: str) -> str:
+        """Gives a column a label, and returns its header."""
+        self.names[place] = name
+        self.places[name] = [place, *self.places.get(name, [])]
         return self.header[place]
+
+    def take_away(self, name: str, records: list[list[str]], passes: Callable[[str, str], bool]) -> None:
+        """Takes a label from the columns with a label of one word, as `Year`, if some records have a value there, and
+        from those with a value that passes a test."""
+        for place in self.places.pop(name, []):
+            header = self.header[place]
+            filled = [it for cells in records for it in cells[place:place + 1] if it.strip()]
+            is_vague = not is_standard(header) and len(folded(header).split()) == 1
+            if is_vague and filled or any(passes(header, it) for it in filled):
+                self.names[place] = None
+            else:
+                self.places.setdefault(name, []).append(place)
+
+    def guess_title(self, records: list[list[str]]) -> str:
+        """Takes the column without a label that has the most letters for the titles, and returns its header. Cells that
+        repeat count once: they may be publishers."""
+        texts = {place: [it[:80] for cells in records for it in cells[place:place + 1] if not ADDRESS.match(it)]
+                 for place, name in enumerate(self.names) if not name and self.header[place].strip()}
+        place = max(texts, key=lambda it: letters(set(texts[it])), default=-1)
+        return self.give(place, "publication_title") if place >= 0 and letters(texts[place]) >= 3 * len(records) else ""
+
+    def guess(self, records: list[list[str]], name: str, passes: Callable[[str, str], bool]) -> str:
+        """Gives a label to the only column without one in which nearly all cells of some records pass a test, by the
+        header and the cell. Returns the header, or nothing if there is none, or more than one."""
+        found = []
+        for place, header in self.left_over():
+            filled = [it for cells in records for it in cells[place:place + 1] if it.strip()]
+            if filled and sum(passes(header, it) for it in filled) >= SURE * len(filled):
+                found.append(place)
+        return self.give(found[0], name) if len(found) == 1 else ""
+
+    def guess_dates(self, records: list[list[str]], passes: Callable[[str, str], bool]) -> list[int]:
+        """Returns the columns without a label in which most cells of some records pass a test, and the others have no
+        digit: they may be words that nobody knows."""
+        found = []
+        for place, header in self.left_over():
+            filled = [it for cells in records for it in cells[place:place + 1] if it.strip()]
+            passed = [passes(header, it) for it in filled]
+            others = "".join(it for it, good in zip(filled, passed) if not good)
+            if any(passed) and (sum(passed) >= MOST * len(filled) or not re.search("[0-9]", others)):
+                found.append(place)
+        return found
+
+    def guess_coverage(self, records: list[list[str]], is_statement: Callable[[str, str], bool],
+                       is_date: Callable[[str, str], bool], is_range: Callable[[str, str], bool]) -> str:
+        """Gives labels to the only column without one that has coverage, or to the only two of dates, if none of some
+        records ends before it begins. Returns their headers, or nothing.
+
+        A row without dates says that readers have everything, so a wrong guess is no wider than none."""
+        stated = [place for place in self.guess_dates(records, lambda *it: is_statement(*it) or is_date(*it))
+                  if any(is_statement(self.header[place], it) for cells in records for it in cells[place:place + 1])]
+        if len(stated) == 1:
+            return self.give(stated[0], "coverage")
+        found = [] if stated else self.guess_dates(records, is_date)
+        if len(found) != 2 or not all(is_range(*(it[at] if at < len(it) else "" for at in found)) for it in records):
+            return ""
+        first = self.give(found[0], "date_first_issue_online")
+        return f"{first}, {self.give(found[1], 'date_last_issue_online')}"
+
+    def keep_dates(self, records: list[list[str]], is_date: Callable[[str], bool]) -> None:
+        """Takes the label of a date from the columns without dates, such as `First Issue` beside `First Date`."""
+        for name in [it for it in self.twice if "date_" in it]:
+            dated = [place for place in self.places[name]
+                     if any(is_date(it) for cells in records for it in cells[place:place + 1])]
+            if dated:
+                for place in set(self.places[name]) - set(dated):
+                    self.names[place] = None
+                self.places[name] = dated
+                if len(dated) == 1:
+                    self.twice.remove(name)
 
     def cell(self, cells: list[str], name: str) -> str:
         """Returns the first value of a label in a record."""
@@ -101,6 +213,10 @@ class Columns:
             if place < len(cells) and cells[place].strip():
                 return cells[place]
         return ""
+
+    def filled(self, cells: list[str], name: str) -> list[str]:
+        """Returns the different values of a label in a record."""
+        return list(dict.fromkeys(it.strip() for it in self.cells(cells, name) if it.strip()))
 
     def cells(self, cells: list[str], name: str, skipped: int = 0) -> list[str]:
         """Returns the cells of all columns of a label, after the first `skipped` ones."""

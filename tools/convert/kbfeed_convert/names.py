@@ -11,7 +11,7 @@ from .texts import folded, words
 # A later day would freeze its package until then.
 AHEAD = datetime.timedelta(days=31)
 LONGEST = 100
-ENDINGS = re.compile(r"(\.(txt|tsv|tab|csv|xlsx|xlsm|xls|gz|zip|kbart|text|dat))+$", re.I)
+ENDINGS = re.compile(r"(\.(txt|tsv|tab|csv|xlsx|xlsm|xls|ods|html?|jsonl?|gz|zip|kbart|text|dat))+$", re.I)
 # The text that programs add to the name of a copy.
 COPY = re.compile(r"(\s*\(\d+\)|\s*[-_ ](copy|kopie|copie|copia|final|utf-?8))+$", re.I)
 YEAR = "((?:19|20)[0-9]{2})"

@@ -1,25 +1,46 @@
 """A record becomes rows, or it is dropped. Every rule is asked here, in one order, and every change is noted."""
+import datetime
 import itertools
 import operator
 from typing import NamedTuple
 
-from . import dates, form, identifiers, kinds, strict, values, volumes
+from . import coverage, dates, form, identifiers, kinds, strict, values, volumes
+from .choosing import Chooser
+from .coverage import Range
 from .identifiers import Number
 from .labels import Columns
-from .texts import folded, forget
+from .texts import folded, forget, word_set
 
 Cells = dict[str, str]
 DATES = "date_first_issue_online", "date_last_issue_online"
 VOLUMES = "num_first_vol_online", "num_last_vol_online"
+ISSUES = "num_first_issue_online", "num_last_issue_online"
 NUMBERS = "print_identifier", "online_identifier"
+PUBLISHED = "date_monograph_published_print", "date_monograph_published_online"
 EMBARGOES = ("embargo_days", "D"), ("embargo_months", "M"), ("embargo_years", "Y")
+RECENT = ("recent_months", "M"), ("recent_years", "Y")
+CITED = word_set("suspects", "cited")
 OWN_RULE = {*DATES, *VOLUMES, *NUMBERS, "publication_title", "title_url", "publication_type", "embargo_info",
             "coverage_depth", "access_type"}
 TEXTS = [it for it in strict.LABELS if it not in OWN_RULE]
 # The characters of a record whose cells no cache may keep.
 LONG = 2_000
+# The characters of the longest date that reads as it is.
+DATE = len("2001-12-31")
 # More rows of one record are not made: a cell of numbers beside a cell of ranges multiply.
 MOST_ROWS = 1_000
+
+
+# The rules by which a row may say more than its source. A list with one of them is not passed on in silence.
+EMBARGO_NOT_READ = "not read: an embargo in another form"
+REVERSED = "the end is before the beginning: both are open"
+PARTLY_READ = "only partly read: the rest is left out"
+STATEMENT_NOT_READ = "not read: no range of it"
+BESIDE = "not read: the dates count beside it"
+SEVERAL = "several columns have a date: the first counts"
+MANY_ROWS = f"only {MOST_ROWS} rows of a record are made"
+WIDENING = {EMBARGO_NOT_READ, REVERSED, PARTLY_READ, STATEMENT_NOT_READ, BESIDE, SEVERAL, MANY_ROWS, dates.NOT_READ,
+            dates.UNDECIDED}
 
 
 class Change(NamedTuple):
@@ -46,6 +67,7 @@ class Settings(NamedTuple):
     constants: Cells = {}
     replaced: Cells = {}
     order: str = ""
+    unwrapped: tuple[str, ...] = ()
 
 
 class Draft:
@@ -60,6 +82,14 @@ class Draft:
         if self.cells[label] != new:
             self.changes.append(Change(label, self.cells[label], new, rule))
             self.cells[label] = new
+
+    def note(self, label: str, cell: str, rule: str) -> None:
+        """Notes a cell that did not read, and stays as it is."""
+        self.changes.append(Change(label, cell, cell, rule))
+
+    def unread(self) -> list[Change]:
+        """Returns the cells that did not read."""
+        return [it for it in self.changes if it.old == it.new]
 
 
 class Sides(NamedTuple):
@@ -76,7 +106,9 @@ class Sides(NamedTuple):
 class Converter:
     """Converts the records of one list."""
 
-    def __init__(self, columns: Columns, settings: Settings, shape: form.Form):
+    def __init__(self, columns: Columns, settings: Settings, shape: form.Form, chooser: Chooser):
+        self.chooser = chooser
+        self.today = datetime.datetime.now(datetime.timezone.utc).date()
         self.columns, self.settings, self.is_kbart = columns, settings, shape.is_kbart
         self.sign = form.SEPARATORS[shape.separator]
         self.header = [it.strip() for it in columns.header]
@@ -87,6 +119,9 @@ class Converter:
         # The place of each label, where the one behind the last column is for labels that the list lacks.
         self.cells_of = operator.itemgetter(*(places[label][0] if label in places and label not in self.several
                                               else self.width for label in strict.LABELS))
+        # The columns with the dates of citations, beside those of full text.
+        self.cited = [at for at, header in columns.left_over() if {*folded(header).split()} & CITED
+                      and any(it in places for it in DATES) and not self.is_kbart]
         self.has_numbers_apart = bool({*NUMBERS} & {*self.several}) or "other_identifier" in places
 
     def convert(self, given: form.Record) -> Outcome:
@@ -103,7 +138,11 @@ class Converter:
             return Outcome([], "Blank", "no cell has a text", [])
         if given.cells[0].strip() == self.header[0] and [it.strip() for it in given.cells[:self.width]] == self.header:
             return Outcome([], "Header", "the header once more", [])
+        if why := self.chooser.not_held(given.cells):
+            return Outcome([], "NotHeld", why, [])
         fields = self.realigned(given.cells)
+        is_realigned = fields is not given.cells
+        fields = self.chooser.fields(fields)
         cells = self.cells(fields)
         draft = Draft(fields, dict(cells))
         if self.settings.constants:
@@ -111,7 +150,7 @@ class Converter:
                 draft.put(label, value, "a constant of the map")
             cells = dict(draft.cells)
         before = strict.row(cells)
-        if fields is not given.cells:
+        if is_realigned:
             place = self.columns.places["publication_title"][0]
             change = Change("publication_title", given.cells[place], fields[place], "separators in a title")
             draft.changes.append(change)
@@ -121,22 +160,27 @@ class Converter:
             word = draft.cells["publication_type"].strip()[:100]
             why = f"the type {word!r} is neither a serial nor a book, and the record has no number"
             return Outcome([], "OtherType", why, [])
-        ranges = [(draft.cells[DATES[0]], draft.cells[DATES[1]])]
+        ranges = [Range(draft.cells[DATES[0]], draft.cells[DATES[1]])]
         if kind == "serial":
-            ranges = self.dates(draft)
+            ranges = self.ranges(draft)
             self.volumes(draft)
+        elif not self.is_kbart:
+            ranges = [self.dates(draft)]
+        if not ranges:
+            cell = self.columns.cell(draft.fields, "coverage")
+            return Outcome([], "BadDate", f"no coverage that reads: {cell}"[:200], draft.unread())
         if isinstance(before, strict.Row) and not draft.changes and len(ranges) == 1 and pairs == [before_pair(before)]:
             # Most records of a good list.
             return Outcome([(draft.cells, before)], "", "", [])
         rows: list[tuple[Cells, strict.Row]] = []
         if len(pairs) * len(ranges) > MOST_ROWS:
-            draft.changes.append(Change("coverage", "", "", f"only {MOST_ROWS} rows of a record are made"))
-        for pair, (at, days) in itertools.islice(itertools.product(pairs, enumerate(ranges)), MOST_ROWS):
+            draft.note("coverage", "", MANY_ROWS)
+        for pair, (at, one) in itertools.islice(itertools.product(pairs, enumerate(ranges)), MOST_ROWS):
             # The volumes at the two ends of a coverage with gaps are known.
             ends = at == 0, at == len(ranges) - 1
-            row, found = self.row(draft, kind, pair, days, ends, bool(rows))
+            row, found = self.row(draft, kind, pair, one, ends, bool(rows))
             if isinstance(found, str):
-                return Outcome([], found, reason(draft.cells, kind), [it for it in draft.changes if it.old == it.new])
+                return Outcome([], found, reason(draft.cells, kind), draft.unread())
             rows.append((row, found))
         if self.is_kbart and isinstance(before, strict.Row) and not strict.keeps(before, rows[0][1]):
             # A row that the reader takes is passed on, whatever the rules above say.
@@ -187,17 +231,25 @@ class Converter:
             for label in (*TEXTS, "embargo_info", "coverage_depth", "access_type"):
                 put(label, values.clean(cells[label]), "characters that nobody sees")
         put("publication_title", values.title(cells["publication_title"]), "characters and references of a title")
-        put("title_url", values.address(cells["title_url"], self.settings.replaced), "an address")
+        address = values.address(cells["title_url"], self.settings.replaced, self.settings.unwrapped)
+        put("title_url", address, "an address")
         if cells["embargo_info"]:
             put("embargo_info", values.embargo(cells["embargo_info"]), "an embargo in words")
         for label, unit in EMBARGOES:
             if label in columns.places and not cells["embargo_info"]:
                 put("embargo_info", values.embargo(columns.cell(draft.fields, label), unit), "an embargo in words")
-        # A date that reads says nothing else.
-        if not cells["embargo_info"] and len(cells[DATES[1]]) > len("2001-12-31"):
-            put("embargo_info", values.embargo_in(cells[DATES[1]]), "an embargo in a coverage")
-        if not cells["embargo_info"] and "coverage" in columns.places:
-            put("embargo_info", values.embargo_in(columns.cell(draft.fields, "coverage")), "an embargo in a coverage")
+        for label, unit in RECENT:
+            if recent := values.embargo(columns.cell(draft.fields, label), unit):
+                if values.is_embargo(recent):
+                    self.wall(draft, recent.upper().replace("P", "R"))
+                else:
+                    draft.note("embargo_info", recent, EMBARGO_NOT_READ)
+        if cells["embargo_info"] and not values.is_embargo(cells["embargo_info"]):
+            if self.is_kbart:
+                draft.note("embargo_info", cells["embargo_info"], EMBARGO_NOT_READ)
+            put("embargo_info", cells["embargo_info"] if self.is_kbart else "", EMBARGO_NOT_READ)
+        for label in [it for it in PUBLISHED if cells[it] and not self.is_kbart]:
+            put(label, dates.read(cells[label], False, self.settings.order).text or "", "a date of publication")
         put("coverage_depth", values.depth(cells["coverage_depth"]), "the depth in words")
         put("access_type", values.access(cells["access_type"]), "the access in words")
         if not cells["access_type"] and "open_access" in columns.places:
@@ -235,21 +287,79 @@ class Converter:
                     else "not read: no number whose check character fits"
                 draft.changes.append(Change(label, cell, cell, rule))
 
-    def dates(self, draft: Draft) -> list[tuple[str, str]]:
-        """Returns the dates of each row: more than one if a coverage in one cell has gaps."""
-        cells, order = draft.cells, self.settings.order
-        if "coverage" in self.columns.places and not any(cells[it].strip() for it in DATES):
-            cell = self.columns.cell(draft.fields, "coverage")
-            if ranges := dates.ranges(cell, order):
-                shown = "; ".join(f"{first} to {last or 'the present'}" for first, last in ranges)
-                draft.changes.append(Change("coverage", cell, shown, "a range in one cell"))
-                return ranges
-            if cell.strip():
-                draft.changes.append(Change("coverage", cell, "", dates.NOT_READ))
+    def ranges(self, draft: Draft) -> list[Range]:
+        """Returns the ranges of a record without the gaps that a column of its own has."""
+        self.note_wall(draft)
+        held = self.held(draft)
+        cell = self.columns.cell(draft.fields, "gaps") if "gaps" in self.columns.places else ""
+        if self.is_kbart or not cell or folded(cell) in dates.NONE or values.YES_NO.get(folded(cell)) == "no":
+            return held
+        gaps = coverage.read(cell, self.settings.order)
+        if gaps.unread or not gaps.ranges:
+            draft.note("coverage", cell, PARTLY_READ)
+        for gap in gaps.ranges:
+            held = [part for it in held for part in coverage.without(it, gap)] if gap.has_dates() else held
+        return held
+
+    def note_wall(self, draft: Draft) -> None:
+        """Puts the embargo that a note says and nothing else, as `Latest 12 months not available`."""
+        note = draft.cells["notes"]
+        if note and not self.is_kbart and not note.isalpha():
+            said = coverage.read(note, self.settings.order)
+            if not said.unread and not any(it.has_dates() for it in said.ranges):
+                self.wall(draft, said.embargo)
+
+    def held(self, draft: Draft) -> list[Range]:
+        """Returns the range of each row: several if a coverage in one cell has gaps, none if nothing of it reads."""
+        cell = self.columns.cell(draft.fields, "coverage") if "coverage" in self.columns.places else ""
+        statement = coverage.read(cell, self.settings.order) if folded(cell) not in dates.NONE else None
+        if statement and not any(draft.cells[it].strip() for it in DATES):
+            return self.stated(draft, cell, statement)
+        given = self.dates(draft)
+        if statement and not self.is_kbart:
+            if statement.ranges and not statement.unread and coverage.is_within(statement.ranges, given):
+                return self.stated(draft, cell, statement)
+            if dates.YEARS.search(cell) or statement.embargo:
+                draft.note("coverage", cell, BESIDE)
+        begin = coverage.window(draft.cells["embargo_info"], self.today)
+        if begin and not given.first and not self.is_kbart:
+            draft.put(DATES[0], begin, "the recent issues of an embargo")
+            return [given._replace(first=begin)]
+        if not given.has_dates() and any(dates.YEARS.search(it) for at in self.cited for it in draft.fields[at:at + 1]):
+            draft.put("coverage_depth", "abstracts", "dates of citations alone")
+        return [given]
+
+    def stated(self, draft: Draft, cell: str, statement: coverage.Statement) -> list[Range]:
+        """Returns the ranges of a statement, and puts its embargo."""
+        if statement.unread:
+            draft.note("coverage", cell, PARTLY_READ if statement.ranges else STATEMENT_NOT_READ)
+        if statement.ranges:
+            draft.changes.append(Change("coverage", cell, coverage.shown(statement.ranges), "a range in one cell"))
+        self.wall(draft, statement.embargo)
+        begin = coverage.window(draft.cells["embargo_info"], self.today)
+        return [it if it.first or not begin else it._replace(first=begin) for it in statement.ranges]
+
+    def wall(self, draft: Draft, embargo: str) -> None:
+        """Puts an embargo that a coverage says, beside the one that the record has."""
+        old = draft.cells["embargo_info"]
+        if embargo and (not old or values.is_embargo(old)):
+            draft.put("embargo_info", coverage.combined(old, embargo) if old else embargo, "an embargo in a coverage")
+
+    def dates(self, draft: Draft) -> Range:
+        """Returns the range of the two columns of dates."""
         for at, label in enumerate(DATES):
-            found = dates.read(cells[label], bool(at), order)
+            cell = draft.cells[label]
+            if label in self.several and len(given := self.columns.filled(draft.fields, label)) > 1:
+                draft.note(label, " | ".join(given), SEVERAL)
+            found = dates.read(cell, bool(at), self.settings.order)
+            # A date that reads as it is says nothing else.
+            if len(cell) > DATE or found.rule == dates.NOT_READ:
+                embargo = coverage.wall(cell, bool(at))
+                self.wall(draft, embargo)
+                if embargo and found.rule == dates.NOT_READ:
+                    found = dates.Read("", "an embargo in a coverage")
             draft.put(label, found.text or "", found.rule)
-        return [(cells[DATES[0]], cells[DATES[1]])]
+        return Range(draft.cells[DATES[0]], draft.cells[DATES[1]])
 
     def volumes(self, draft: Draft) -> None:
         """Puts the volumes of a record, unless the reader would take none of them."""
@@ -262,7 +372,7 @@ class Converter:
             for label, text in zip(VOLUMES, new):
                 draft.put(label, text, "a volume with words")
 
-    def row(self, draft: Draft, kind: str, pair: tuple[str, str], days: tuple[str, str], ends: tuple[bool, bool],
+    def row(self, draft: Draft, kind: str, pair: tuple[str, str], one: Range, ends: tuple[bool, bool],
             is_further: bool) -> tuple[Cells, strict.Row | str]:
         """Returns one row of a record, and what the reader takes from it.
 
@@ -274,17 +384,18 @@ class Converter:
                 rule = "a row of its own for a further number" if is_further else "an identifier in another form"
                 draft.changes.append(Change(label, row[label], number, rule))
                 row[label] = number
-        row[DATES[0]], row[DATES[1]] = days
-        for label, is_end in zip(VOLUMES, ends):
-            if not is_end:
+            elif not number and not self.is_kbart and not identifiers.numbers(row[label]):
                 row[label] = ""
-        if is_further and days != (draft.cells[DATES[0]], draft.cells[DATES[1]]):
-            shown = " to ".join((days[0], days[1] or "the present"))
-            draft.changes.append(Change("coverage", "", shown, "a row of its own for a further range"))
+        row[DATES[0]], row[DATES[1]] = one.first, one.last
+        for labels, numbers in ((VOLUMES, one[2:4]), (ISSUES, one[4:6])):
+            for label, is_end, number in zip(labels, ends, numbers):
+                if number or not is_end:
+                    row[label] = number
+        if is_further and one[:2] != (draft.cells[DATES[0]], draft.cells[DATES[1]]):
+            draft.changes.append(Change("coverage", "", coverage.shown([one]), "a row of its own for a further range"))
         found = strict.row(row)
         if found == "Reversed":
-            rule = "the end is before the beginning: both are open"
-            draft.changes += [Change(label, day, "", rule) for label, day in zip(DATES, days)]
+            draft.changes += [Change(label, day, "", REVERSED) for label, day in zip(DATES, one[:2])]
             row[DATES[0]] = row[DATES[1]] = ""
             found = strict.row(row)
         return row, found

@@ -1,6 +1,8 @@
 """The bytes of a list, from a file or standard input, unpacked. What is not a list is refused with its name."""
 import errno
+import functools
 import gzip
+import re
 import struct
 import sys
 import tempfile
@@ -10,6 +12,10 @@ from typing import IO, Protocol
 
 from . import sheet
 from .faults import BYTES, Refused
+from .jsonlist import JsonList
+from .opendocument import CONTENT, OpenDocument
+from .webpage import WebPage
+from .workbook import Workbook
 
 SIGNS = [
     (b"%PDF", "a PDF file"), (b"\x89PNG", "an image"), (b"\xff\xd8\xff", "an image"), (b"GIF8", "an image"),
@@ -18,8 +24,14 @@ SIGNS = [
     (b"\x28\xb5\x2f\xfd", "a zstd file"), (b"{\\rtf", "an RTF text"), (b"SQLite format 3", "an SQLite database")]
 PAGES = (b"<!doctype html", b"<html", b"<head", b"<body", b"<table", b"<script", b"<meta", b"<title", b"<!--")
 # A file in a ZIP file that says what the whole is.
-PACKED = {"word/document.xml": "a Word document", "ppt/presentation.xml": "a presentation",
-          "content.xml": "an OpenDocument file (.ods): save it as .xlsx or as text"}
+PACKED = {"word/document.xml": "a Word document", "ppt/presentation.xml": "a presentation"}
+JSON = (b'{"', b"[{", b"{\n", b"{\r", b"{ ", b"[\n", b"[\r", b"[ ")
+NOT_A_LIST = "not a list: "
+# The files of a ZIP file that may be its one list, and those beside it that are none.
+LISTS = re.compile(r"\.(?:txt|tsv|tab|csv|xlsx|xlsm|xls|ods|json|jsonl|kbart|gz)$", re.I)
+NO_LIST = re.compile(r"(?:^|/)(?:readme|read_me|license|licence|liesmich|changes|changelog)[^/]*$", re.I)
+# The leader of a MARC record.
+MARC = re.compile(rb"[0-9]{5}[acdnp][a-z][a-z ]{2}[a-z ][a-z ]?22[0-9]{5}.{3}4500")
 
 
 class Readable(Protocol):
@@ -42,8 +54,9 @@ def spooled(file: Readable, what: str) -> IO[bytes]:
     return copy
 
 
-def open_list(path: str, sheet_name: str, has_header: sheet.Finder) -> tuple[IO[bytes], str]:
-    """Returns the bytes of a list's text, and the name of the sheet if it was a spreadsheet."""
+def open_list(path: str, sheet_name: str, label: sheet.Labels, least: int) -> sheet.Text:
+    """Returns a list as text, with the names of the sheets if it was a spreadsheet. `label` says what a header means,
+    and `least` how many labels a header has."""
     file = opened(path)
     for _ in range(3):
         head = file.read(512)
@@ -52,13 +65,26 @@ def open_list(path: str, sheet_name: str, has_header: sheet.Finder) -> tuple[IO[
             file = unpacked_gzip(file)
         elif head.startswith(b"PK\x03\x04"):
             inside = unpacked_zip(file)
-            if not inside:
-                return sheet.as_text(file, sheet_name, has_header)
+            if isinstance(inside, str):
+                return sheet.as_text(functools.partial(book_of, file, inside), sheet_name, label, least)
             file = inside
+        elif begins(head, PAGES):
+            return sheet.as_text(functools.partial(WebPage, file), "", label, least,
+                                 NOT_A_LIST + "a page of HTML, perhaps a form or an error")
+        elif begins(head, JSON):
+            return sheet.as_text(functools.partial(JsonList, file), "", label, least,
+                                 NOT_A_LIST + "JSON, perhaps an error of a server")
         else:
             refuse(head)
-            return file, ""
+            return sheet.Text(file, "", [])
     raise Refused("packed more than twice")
+
+
+def book_of(file: IO[bytes], part: str) -> sheet.Book:
+    """Returns a spreadsheet by the part that says of which form it is."""
+    if part == CONTENT:
+        return OpenDocument(file)
+    return Workbook(file)
 
 
 def opened(path: str) -> IO[bytes]:
@@ -82,19 +108,33 @@ def unpacked_gzip(file: IO[bytes]) -> IO[bytes]:
         raise Refused(f"gzip that cannot be unpacked: {error}") from error
 
 
-def unpacked_zip(file: IO[bytes]) -> IO[bytes] | None:
-    """Returns the one file inside a ZIP file, or None if it is a spreadsheet."""
+def begins(head: bytes, words: tuple[bytes, ...]) -> bool:
+    """Returns whether a file begins with one of some words, behind marks and spaces."""
+    return head.lstrip(b"\xef\xbb\xbf\xff\xfe \t\r\n").replace(b"\0", b"").lower().startswith(words)
+
+
+def is_hidden(name: str) -> bool:
+    """Returns whether a file is one that a Mac adds to a ZIP file."""
+    parts = name.split("/")
+    return "__MACOSX" in parts or parts[-1].startswith(".")
+
+
+def unpacked_zip(file: IO[bytes]) -> IO[bytes] | str:
+    """Returns the one list inside a ZIP file, or the part of a spreadsheet that says of which form it is."""
     try:
         with zipfile.ZipFile(file) as packed:
-            files = [it for it in packed.infolist() if not it.is_dir() and not it.filename.startswith("__MACOSX")]
+            files = [it for it in packed.infolist() if not it.is_dir() and not is_hidden(it.filename)]
             names = {it.filename for it in files}
             if sum(it.file_size for it in files) > BYTES:
                 raise Refused(f"unpacked it has more than {BYTES} bytes")
             for name, what in PACKED.items():
-                if name in names and (len(names) > 1 or name != "content.xml"):
+                if name in names:
                     raise Refused(f"not a list: {what}")
-            if "[Content_Types].xml" in names:
-                return None
+            for part in ("[Content_Types].xml", CONTENT):
+                if part in names and len(names) > 1:
+                    return part
+            if len(files) > 1:
+                files = [it for it in files if LISTS.search(it.filename) and not NO_LIST.search(it.filename)] or files
             if len(files) != 1:
                 raise Refused(f"a ZIP file with {len(files)} files: unpack it and give one")
             with packed.open(files[0]) as one:
@@ -114,10 +154,7 @@ def refuse(head: bytes) -> None:
     for sign, what in SIGNS:
         if head.startswith(sign):
             raise Refused("not a list: " + what)
-    begin = head.lstrip(b"\xef\xbb\xbf\xff\xfe \t\r\n").replace(b"\0", b"").lower()
-    if begin.startswith(PAGES):
-        raise Refused("not a list: a page of HTML, perhaps a form or an error")
-    if begin.startswith((b"<?xml", b"<rss", b"<feed")):
+    if MARC.match(head) or b"marc21" in head.lower():
+        raise Refused("not a list: MARC records. Export the holdings as a spreadsheet or as text")
+    if begins(head, (b"<?xml", b"<rss", b"<feed")):
         raise Refused("not a list: XML, perhaps an error of a server")
-    if begin.startswith((b'{"', b"[{", b"{\n", b"{\r", b"[\n", b"[\r")):
-        raise Refused("not a list: JSON, perhaps an error of a server")

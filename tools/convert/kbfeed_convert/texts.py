@@ -15,6 +15,10 @@ SPACES = {ord(it): " " for it in "\u00a0\u1680\u2000\u2001\u2002\u2003\u2004\u20
           "\u205f\u3000\t\r\n"}
 ALIKE: dict[int, str | None] = {**DASHES, **INVISIBLE, **SPACES}
 
+# A line end inside a cell that is between two numbers, as those of two ranges, or before a volume.
+LINE_END = re.compile(r"(?:(?<=[0-9-])[ \t]*[\r\n]\s*(?=[0-9])"
+                      r"|(?<=[0-9)-])[ \t]*[\r\n]\s*(?=(?:v|vol|bd|jg|t)\.? ?[0-9]))", re.I)
+
 # The cells that a cache keeps, and how to empty each cache.
 SIZE = 8_192
 CACHES: list[Callable[[], None]] = []
@@ -43,6 +47,11 @@ def plain(text: str) -> str:
     return re.sub(" {2,}", " ", text).strip() if "  " in text else text.strip()
 
 
+def with_signs(text: str) -> str:
+    """Returns a text with a semicolon for each line end between two numbers."""
+    return LINE_END.sub("; ", text) if "\n" in text or "\r" in text else text
+
+
 @remembered
 def folded(text: str) -> str:
     """Returns the words of a text in lower case, without accents and signs, and with one space between them."""
@@ -59,3 +68,8 @@ def words(table: str) -> dict[str, str]:
 def word_set(table: str, key: str) -> frozenset[str]:
     """Returns the folded words of one entry of a table."""
     return frozenset(folded(word) for word in TABLES[table][key])
+
+
+def counted(number: int, noun: str) -> str:
+    """Returns a number and a noun, as `1 row` and `2 rows`."""
+    return f"{number} {noun}{'s' if number != 1 else ''}"

@@ -1,8 +1,9 @@
 """The cells that are texts, addresses, embargoes, depth or access. A cell that reads as it is stays as it is."""
 import html
 import re
+import urllib.parse
 
-from .texts import INVISIBLE, SPACES, folded, remembered, word_set, words
+from .texts import INVISIBLE, SPACES, folded, plain, remembered, word_set, words
 
 CONTROL = {it: " " for it in [*range(32), 127]}
 # The second half of the control characters is Windows-1252 that was read as ISO 8859-1.
@@ -51,15 +52,30 @@ HOST = re.compile(r"(?:[A-Za-z0-9](?:[A-Za-z0-9-]*[A-Za-z0-9])?\.)+[A-Za-z]{2,24
 # A link in HTML, and one as a formula of a spreadsheet.
 LINKED = re.compile(r"""\s*(?:<a [^<>]*?href|=HYPERLINK\()\s*=?\s*["']([^"'<>]+)["']""", re.I)
 DOI = re.compile(r"(?:doi:\s*)?(10\.[0-9]{4,9}/\S+)", re.I)
-# `[SITE_ID]`, `{custid}`, `<your id>`, `%%ID%%` and `$SITE_ID`, which a library has to fill.
-PLACEHOLDER = re.compile(r"\[[A-Za-z_ -]+\]|\{[^{}]+\}|<[A-Za-z_ -]+>|%%[A-Za-z_]+%%|\$[A-Z_]{3,}")
+# `[SITE_ID]`, `{custid}`, `{{inst}}`, `<your id>`, `%INST%`, `%%ID%%`, `$SITE_ID` and `${site}`, which a library has to
+# fill. Two hexadecimal digits behind `%` are a byte.
+PLACEHOLDER = re.compile(r"\[[A-Za-z_ -]+\]|\$?\{\{?[^{}]+\}\}?|<[A-Za-z_ -]+>|%%[A-Za-z_]+%%"
+                         r"|%(?![0-9A-Fa-f]{2})[A-Za-z_]{2,}%|%[A-Z_]{4,}%|\$[A-Z_]{3,}")
 
 
-def address(cell: str, replaced: dict[str, str]) -> str:
-    """Returns an address with a scheme and without spaces. `replaced` has the texts that a map replaces."""
-    if not replaced and GOOD_ADDRESS.fullmatch(cell) and "&amp;" not in cell:
+def unwrapped(text: str, parameters: tuple[str, ...]) -> str:
+    """Returns the address that is in one of some parameters: behind `jkey=`, or behind the `url=` of a proxy."""
+    for name in parameters if "=" in text else ():
+        found = re.search(rf"(?:^|[?&;|\s]){re.escape(name)}\s*=\s*([^\s|]+)", text, re.I)
+        if found and re.match("https?(?:://|%3a)", found[1], re.I):
+            # All that follows `url=` is the address, unless it is percent-encoded.
+            is_encoded = found[1][:10].lower().find("%3a") >= 0
+            inside = found[1] if name.endswith("url") and not is_encoded else found[1].split("&")[0]
+            return urllib.parse.unquote(inside) if is_encoded else inside
+    return text
+
+
+def address(cell: str, replaced: dict[str, str], parameters: tuple[str, ...] = ()) -> str:
+    """Returns an address with a scheme and without spaces. `replaced` has the texts that a map replaces, and
+    `parameters` are those in which an address may be."""
+    if not replaced and not parameters and GOOD_ADDRESS.fullmatch(cell) and "&amp;" not in cell:
         return cell
-    text = cell
+    text = unwrapped(cell, parameters)
     for old, new in replaced.items():
         text = text.replace(old, new)
     if found := LINKED.match(text):
@@ -82,6 +98,10 @@ UNITS = words("units")
 NUMBERS = words("numbers")
 NO_EMBARGO = word_set("embargo", "none")
 RECENT = word_set("embargo", "recent")
+HIDDEN = word_set("embargo", "hidden")
+# A sign by which something may be lost, as in `?5Y`, and the sign of a moving wall: `+5Y` is the last five years.
+UNCLEAR = re.compile(r"[^\w\s.,:;()\[\]/'+-]")
+SIGNED = re.compile(r"([+-])\s?[0-9]")
 
 
 @remembered
@@ -95,8 +115,14 @@ def embargo(cell: str, unit: str = "") -> str:
     text = folded(cell)
     if text in NO_EMBARGO:
         return ""
+    if UNCLEAR.search(plain(cell)):
+        return cell
+    sign = SIGNED.match(plain(cell))
     if found := re.fullmatch(r"([rp])([0-9]{1,4})y ?([0-9]{1,4})m", text):
         return f"{found[1].upper()}{int(found[2]) * 12 + int(found[3])}M"
+    if any(it not in UNITS for it in re.findall(r"(?<=[0-9])[^\W\d_]+", text)):
+        # `1l months`
+        return cell
     tokens = [NUMBERS.get(it, it) for it in re.sub(r"(\d)([^\W\d])", r"\1 \2", text).split()]
     numbers = [int(it[:9]) for it in tokens if it.isascii() and it.isdigit()]
     units = {UNITS[it] for it in tokens if it in UNITS} or ({unit} if unit else set())
@@ -107,24 +133,16 @@ def embargo(cell: str, unit: str = "") -> str:
         return ""
     if one == "W":
         count, one = count * 7, "D"
-    return f"{'R' if RECENT & set(tokens) else 'P'}{count}{one}"
-
-
-# An embargo in the text of a coverage: `1995 to 1 year ago`, `1995- (12 month embargo)`, `embargo: 1 year`.
-BEHIND = "|".join(sorted(word_set("embargo", "behind"), key=len, reverse=True))
-BEFORE = "|".join(sorted(word_set("embargo", "before"), key=len, reverse=True))
-NUMBER_FIRST = re.compile(rf"\b([0-9]{{1,4}}) ?([^\W\d]+)(?: s)? (?:{BEHIND})\b")
-NUMBER_LAST = re.compile(rf"\b(?:{BEFORE})(?: \w{{1,6}}){{0,2}} ([0-9]{{1,4}}) ?([^\W\d]+)\b")
+    is_recent = sign[1] == "+" if sign else bool(RECENT & set(tokens)) and not HIDDEN & set(tokens)
+    return f"{'R' if is_recent else 'P'}{count}{one}"
 
 
 @remembered
-def embargo_in(coverage: str) -> str:
-    """Returns the embargo that the text of a coverage says, or nothing."""
-    text = folded(coverage)
-    for found in (NUMBER_FIRST.search(text), NUMBER_LAST.search(text)):
-        if found and found[2] in UNITS and int(found[1]):
-            return embargo(f"{found[1]} {found[2]}")
-    return ""
+def is_embargo(cell: str) -> bool:
+    """Returns whether the reader takes a cell for an embargo: one statement, or one of each kind."""
+    parts = cell.strip(" ").upper().split(";")
+    return (STATEMENTS.fullmatch(cell.strip(" ")) is not None and all(int(it[1:-1]) for it in parts)
+            and len({it[0] for it in parts}) == len(parts))
 
 
 DEPTH = words("depth")

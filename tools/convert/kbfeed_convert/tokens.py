@@ -1,0 +1,126 @@
+"""The tokens of a coverage statement: dates, numbers, signs, and words with what they mean (`coverage.toml`)."""
+import pathlib
+import re
+import tomllib
+import unicodedata
+from typing import Iterator, NamedTuple
+
+from . import dates
+from .texts import TABLES, folded, plain, words
+
+with open(pathlib.Path(__file__).parent / "coverage.toml", "rb") as file:
+    TABLE: dict[str, list[str]] = tomllib.load(file)
+
+MONTHS = words("months")
+UNITS = words("units")
+NUMBERS = words("numbers")
+# The scripts that put no spaces between words.
+CJK = "\u3040-\u30ff\u3400-\u9fff\uac00-\ud7af"
+# The words of the longest phrase, and the characters of the longest word of such a script.
+PHRASE, RUN = 4, 6
+# A token: a date in numbers first, then numbers, words and signs.
+PATTERN = re.compile(
+    r"(?P<ymd>\d{4}(?P<a>[-/.])\d{1,2}(?P=a)\d{1,2}(?!\d))"
+    r"|(?P<dmy>\d{1,2}(?P<b>[-/.])\d{1,2}(?P=b)\d{4}(?!\d))"
+    r"|(?P<cjk>\d{4} ?[年년](?: ?\d{1,2} ?[月월](?: ?\d{1,2} ?[日号號일])?)?)"
+    r"|(?P<compact>(?:1[4-9]|20)\d{6}(?!\d))"
+    r"|(?P<ym>\d{4}(?P<c>[-/.])\d{1,2}(?!\d|(?P=c)\d{1,2}(?!\d)))"
+    r"|(?P<my>\d{1,3}[./]\d{4}(?:/\d\d)?(?!\d)|\d\d-\d{4}(?!\d))"
+    r"|(?P<year>(?:1[4-9]|20|21)\d\d(?!\d))"
+    r"|(?P<code>[rp]\d{1,9}[dmy](?!\w))"
+    r"|(?P<quarter>q[1-4](?!\w))"
+    r"|(?P<pair>\d{1,4}/\d{1,4}(?!\d))"
+    r"|(?P<int>\d{1,9}(?!\d))"
+    rf"|(?P<run>[{CJK}]+)"
+    rf"|(?P<word>[^\W\d_{CJK}]+)"
+    r"|(?P<sign>\S)")
+# The short form of `number` in Spanish, and that of `annata` in Italian: a preposition has no full stop.
+NUMERO = re.compile(r"\bn\. ?[º°]", re.I)
+ANNATA = re.compile(r"\ba\. ?(?=[0-9]{1,3}(?![0-9]))")
+LINE_END = re.compile(r"[\r\n]+|<br ?/?>", re.I)
+# An ending in brackets, as of `year(s)`, and one with an apostrophe, as of `1995'ten`.
+ENDING = re.compile(r"\((?:s|es|e|en|n)\)")
+
+
+def meanings() -> dict[str, frozenset[str]]:
+    """Returns what each word and phrase means: some have several meanings."""
+    found: dict[str, set[str]] = {}
+    for meaning, many in [*TABLE.items(), ("open", TABLES["dates"]["open"])]:
+        for word in many:
+            found.setdefault(folded(word), set()).add(meaning)
+    for meaning, table in (("month", MONTHS), ("unit", UNITS), ("number", NUMBERS)):
+        for word in table:
+            found.setdefault(word, set()).add(meaning)
+    found.pop("", None)
+    return {word: frozenset(many) for word, many in found.items()}
+
+
+MEANINGS = meanings()
+
+
+class Token(NamedTuple):
+    """A token: its kind, its text in lower case without accents, the meanings of a word, and whether a space is before
+    it."""
+    kind: str
+    text: str
+    meanings: frozenset[str]
+    is_apart: bool
+
+
+NONE: frozenset[str] = frozenset()
+
+
+def simplified(cell: str) -> str:
+    """Returns a statement in lower case, without accents, with the signs of ASCII, and its lines apart."""
+    text = ";".join(plain(it) for it in LINE_END.split(NUMERO.sub("num ", cell)))
+    text = "".join(it for it in unicodedata.normalize("NFKD", text) if unicodedata.category(it) != "Mn")
+    text = ENDING.sub("", unicodedata.normalize("NFC", text).casefold())
+    return dates.APART.sub(r"\1", ANNATA.sub("vol ", text).replace("t/m", "tot"))
+
+
+def tokens(cell: str) -> list[Token]:
+    """Returns the tokens of a statement. The longest phrase that the table has is one token."""
+    found: list[Token] = []
+    pending: list[Token] = []
+    at = 0
+    text = simplified(cell)
+    for match in PATTERN.finditer(text):
+        kind = match.lastgroup or ""
+        token = Token(kind, match[0], NONE, match.start() > at)
+        at = match.end()
+        if kind == "word":
+            pending.append(token)
+            continue
+        if kind == "sign" and match[0] in "'’" and pending:
+            continue
+        found += phrases(pending)
+        pending.clear()
+        if kind == "run":
+            found += run_words(token)
+        else:
+            found.append(token)
+    return found + list(phrases(pending))
+
+
+def phrases(many: list[Token]) -> Iterator[Token]:
+    """Yields words, of which those that make a phrase of the table are one."""
+    at = 0
+    while at < len(many):
+        for count in range(min(PHRASE, len(many) - at), 0, -1):
+            text = " ".join(it.text for it in many[at:at + count])
+            if text in MEANINGS or count == 1:
+                yield Token("word", text, MEANINGS.get(text, NONE), many[at].is_apart)
+                at += count
+                break
+
+
+def run_words(run: Token) -> Iterator[Token]:
+    """Yields the words of a run of characters without spaces: the longest that the table has, or one character."""
+    at, text = 0, run.text
+    while at < len(text):
+        for count in range(min(RUN, len(text) - at), 0, -1):
+            word = text[at:at + count]
+            if word in MEANINGS or count == 1:
+                yield Token("word", word, MEANINGS.get(word, NONE), at == 0 and run.is_apart)
+                at += count
+                break

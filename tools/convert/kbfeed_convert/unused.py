@@ -1,0 +1,132 @@
+"""The columns that are not used although they look like dates, an embargo or a status, so that rows may have too much.
+
+A column looks so by its label or by its cells. A map that gives it no label says that it may be left out."""
+import re
+from typing import Any
+
+from . import coverage, dates, values
+from .labels import Columns
+from .texts import counted, folded, remembered, word_set
+
+KINDS = ("dates", "embargo", "status")
+SHOWN = {"dates": "dates", "embargo": "an embargo", "status": "a status"}
+LABELS = {kind: word_set("suspects", kind) for kind in KINDS}
+HARMLESS = word_set("suspects", "harmless")
+STATUS = word_set("suspects", "status_cells")
+# The share of the cells that have to look like one kind, and how many different ones the report has.
+MOST = 0.5
+CELLS = 5
+# The beginnings of a list of lists or of objects in JSON, which is not used.
+NESTED = ("[{", "[[")
+
+
+@remembered
+def cell_kind(cell: str) -> str:
+    """Returns what a cell looks like, or nothing."""
+    text = folded(cell)
+    if cell.startswith(NESTED) and dates.YEARS.search(cell):
+        return "nested"
+    if text in STATUS:
+        return "status"
+    if text in dates.OPEN:
+        return "open"
+    if dates.YEARS.search(cell) or re.search("[0-9]", cell):
+        if (found := coverage.read(cell, "")) and not found.unread:
+            return "embargo" if found.embargo and not found.ranges[0].has_dates() else "dates"
+        if dates.YEARS.search(cell) and dates.read(cell, False, "").rule != dates.NOT_READ and len(cell) < 20:
+            return "dates"
+        if values.is_embargo(values.embargo(cell)):
+            return "embargo"
+    return ""
+
+
+def is_statement(header: str, cell: str) -> bool:
+    """Returns whether a cell is a whole statement of coverage: a range, an open beginning or end, or a moving wall.
+
+    A column such as `Held` has a status by its label, but no status is a range."""
+    if label_kind(header) == "harmless":
+        return False
+    found = coverage.read(cell, "")
+    return bool(found and not found.unread and (found.embargo or any(it.first != it.last for it in found.ranges)))
+
+
+def is_date(header: str, cell: str) -> bool:
+    """Returns whether a cell is one date, or an open end in words."""
+    is_suspect = label_kind(header) not in ("harmless", "status") and cell_kind(cell) in ("dates", "open")
+    return is_suspect and not is_statement(header, cell)
+
+
+def is_embargo(header: str, cell: str) -> bool:
+    """Returns whether a cell is an embargo in words, or has a label of one."""
+    if cell.startswith(NESTED):
+        return False
+    kind = label_kind(header)
+    return kind == "embargo" or kind not in ("harmless", "status") and cell_kind(cell) == "embargo"
+
+
+def is_range(first: str, last: str) -> bool:
+    """Returns whether the years of a first and a last date may be those of a range."""
+    begins, ends = dates.YEARS.findall(first), dates.YEARS.findall(last)
+    return not begins or not ends or min(begins) <= max(ends)
+
+
+def label_kind(header: str) -> str:
+    """Returns what a column looks like by its label, or nothing; `harmless` if its dates are not those of a title."""
+    tokens = set(folded(header).split())
+    if tokens & HARMLESS:
+        return "harmless"
+    return next((kind for kind in ("embargo", "status", "dates") if tokens & LABELS[kind]), "")
+
+
+class Column:
+    """A column that is not used, with counts of what its cells look like."""
+
+    def __init__(self, place: int, header: str):
+        self.place, self.header, self.kind = place, header, label_kind(header)
+        self.filled = 0
+        self.counts = dict.fromkeys((*KINDS, "open"), 0)
+        self.cells: dict[str, None] = {}
+
+    def look(self, cell: str) -> None:
+        """Counts a cell that is not empty."""
+        self.filled += 1
+        if kind := cell_kind(cell):
+            self.counts["dates" if kind == "nested" else kind] += 1
+        if len(self.cells) < CELLS:
+            self.cells[cell[:100]] = None
+
+    def suspect(self) -> str:
+        """Returns what the column looks like, or nothing."""
+        if not self.filled or self.kind == "harmless":
+            return ""
+        if self.kind and (self.kind != "dates" or self.counts["dates"] or self.counts["embargo"]):
+            return self.kind
+        kind = max(KINDS, key=lambda it: self.counts[it])
+        # `present` is a date beside other dates.
+        count = self.counts[kind] + (self.counts["open"] if kind == "dates" and self.counts[kind] else 0)
+        return kind if count >= MOST * self.filled else ""
+
+
+class Unused:
+    """Looks at the columns of a list that are not used."""
+
+    def __init__(self, columns: Columns):
+        self.columns = [Column(place, header.strip()) for place, header in columns.left_over()]
+
+    def look(self, cells: list[str]) -> None:
+        """Counts the cells of a record."""
+        for column in self.columns:
+            if column.place < len(cells) and (cell := cells[column.place].strip()):
+                column.look(cell)
+
+    def suspects(self) -> list[dict[str, Any]]:
+        """Returns each column that looks like one that counts, with the number of its cells and some of them."""
+        return [{"column": it.header, "looks_like": kind, "filled": it.filled, "cells": list(it.cells)}
+                for it in self.columns if (kind := it.suspect())]
+
+
+def warning(suspect: dict[str, Any]) -> str:
+    """Returns a suspect in words."""
+    cells = ", ".join(map(repr, suspect["cells"][:3]))
+    return (f"the column {suspect['column']!r} looks like {SHOWN[suspect['looks_like']]} and is not used: "
+            f"{counted(suspect['filled'], 'cell')}, as {cells}")
