@@ -6,8 +6,9 @@ _kbfeed_collect() {
   if [[ $word == = ]]; then word=; elif [[ $before == = ]]; then before=${COMP_WORDS[COMP_CWORD - 2]}; fi
   case $before in
     --config) compopt -o default; return ;;
-    --only | --accept | --withdraw) return ;;
+    --only | --accept | --withdraw | --rollback | --to | --unpin) return ;;
   esac
-  COMPREPLY=($(compgen -W '-h --help --config --only --accept --withdraw --dry-run --check --json' -- "$word"))
+  COMPREPLY=($(compgen -W '-h --help --config --only --accept --withdraw --rollback --to --pin --unpin --dry-run --check
+    --json' -- "$word"))
 }
 complete -F _kbfeed_collect kbfeed-collect

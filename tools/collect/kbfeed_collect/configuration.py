@@ -19,7 +19,9 @@ FOLDER = "/var/lib/kbfeed-lists"
 with open(HERE / "interfaces.toml", "rb") as table:
     INTERFACES: dict[str, dict[str, str]] = tomllib.load(table)
 DEFAULTS = {"interface": "url", "url": "", "key_file": "", "key_header": "", "key_prefix": "", "key_query": "",
-            "map": "", "max_removed": 10, "max_changed": 50, "every_days": 1, "max_seconds": 600, "max_bytes": BYTES}
+            "map": "", "max_removed": 10, "max_changed": 50, "every_days": 1, "max_seconds": 600, "max_bytes": BYTES,
+            "max_added": 50, "max_convert_seconds": 900, "max_convert_bytes": 600 << 20, "inside": False,
+            "replace": {}, "widened": "hold"}
 # The texts of a source: what each has to be, and in words.
 TEXTS = {
     "package": ("[A-Za-z0-9._-]+", "1 to 100 letters, digits, '-', '_' and '.'"),
@@ -35,12 +37,15 @@ TEXTS = {
     "encoding": ("[A-Za-z0-9._-]+", "the name of an encoding, as cp1252"),
     "sheet": ("(?s:.+)", "the name of a sheet"),
     "map": ("(?s:.+)", "a file"),
+    "profile": ("|".join(mapping.PROFILES), f"one of {', '.join(mapping.PROFILES)}"),
+    "widened": ("hold|warn", "hold or warn"),
 }
 # The numbers of a source, each with its least and its most value.
 NUMBERS = {"max_removed": (0, 100), "max_changed": (0, 100), "every_days": (1, 366), "max_seconds": (1, 86_400),
-           "max_bytes": (1, BYTES)}
+           "max_bytes": (1, BYTES), "max_added": (0, 10_000), "max_convert_seconds": (1, 86_400),
+           "max_convert_bytes": (64 << 20, 1 << 40)}
 # The options of kbfeed-convert that a source may have.
-OPTIONS = ("type", "encoding", "sheet", "map")
+OPTIONS = ("type", "encoding", "sheet", "map", "profile")
 
 
 class Source(NamedTuple):
@@ -58,8 +63,13 @@ class Source(NamedTuple):
     max_removed: int
     max_changed: int
     every_days: int
+    max_added: int
     max_seconds: int
     max_bytes: int
+    max_convert_seconds: int
+    max_convert_bytes: int
+    inside: bool
+    widened: str
 
     def key(self) -> Key | None:
         """Reads the key, if the source has one."""
@@ -160,6 +170,12 @@ def value_fault(key: str, value: Any) -> str:
         least, most = NUMBERS[key]
         is_number = isinstance(value, int) and not isinstance(value, bool) and least <= value <= most
         return "" if is_number else f"{key}: {value!r} is not a number from {least} to {most}"
+    if key == "inside":
+        return "" if isinstance(value, bool) else "inside: it is not true or false"
+    if key == "replace":
+        is_right = isinstance(value, dict) and all(old and "=" not in old and isinstance(new, str)
+                                                   for old, new in value.items())
+        return "" if is_right else "replace: it is not a table as { \"[SITE_ID]\" = \"4711\" }"
     if key not in TEXTS:
         return f"{key}: a source has no such key"
     form, words = TEXTS[key]
@@ -187,7 +203,8 @@ def source_of(given: dict[str, Any], beside: pathlib.Path) -> Source:
     values = {key: urllib.parse.quote(str(whole[key]), safe="") for key in parameters(str(whole["path"]))}
     whole["url"] = joined(str(whole["url"]), str(whole["path"]).format_map(values))
     whole["map"] = str(beside / whole["map"]) if whole["map"] else ""
-    options = tuple(f"--{key}={whole[key]}" for key in OPTIONS if whole.get(key))
+    options = (*(f"--{key}={whole[key]}" for key in OPTIONS if whole.get(key)),
+               *(f"--replace={old}={new}" for old, new in whole["replace"].items()))
     kept = {key: whole[key] for key in Source._fields if key in whole}
     return Source(**kept, beside=beside, options=options)
 

@@ -15,6 +15,8 @@ from typing import Any, BinaryIO, Iterator, NamedTuple
 
 from kbfeed_convert.faults import Refused
 
+from .clock import seconds_ahead
+from .inside import Connection, TlsConnection, checked, is_proxied, to_addresses
 from .keys import Key, origin
 
 REDIRECTS = 10
@@ -40,6 +42,14 @@ class Validators(NamedTuple):
         return {name: value for name, value in named.items() if value}
 
 
+class Response(NamedTuple):
+    """What a server responded: the validators of its file, None if the file has not changed; the host, and how many
+    seconds its clock is ahead, if it says so."""
+    validators: Validators | None
+    host: str
+    ahead: float | None
+
+
 class Context(ssl.SSLContext):
     """Takes a connection that ends without the end of TLS for a broken one. To the library the response is whole."""
 
@@ -59,6 +69,34 @@ class EachReply(urllib.request.HTTPErrorProcessor):
     https_response = http_response
 
 
+class Request(urllib.request.Request):
+    """A request, with the addresses to connect to if they were looked up."""
+    addresses: list[str] = []
+
+
+class PlainHandler(urllib.request.HTTPHandler):
+    """Sends requests without TLS."""
+
+    def http_open(self, request: urllib.request.Request) -> Any:
+        """Sends a request."""
+        assert isinstance(request, Request)
+        return self.do_open(to_addresses(Connection, request.addresses), request)
+
+
+class TlsHandler(urllib.request.HTTPSHandler):
+    """Sends requests over TLS."""
+
+    def __init__(self, context: ssl.SSLContext):
+        """Checks certificates by a context."""
+        super().__init__(context=context)
+        self.context = context
+
+    def https_open(self, request: urllib.request.Request) -> Any:
+        """Sends a request."""
+        assert isinstance(request, Request)
+        return self.do_open(to_addresses(TlsConnection, request.addresses), request, context=self.context)
+
+
 def digest(url: str) -> str:
     """Returns a digest of an address, which may have secrets."""
     return hashlib.sha256(url.encode()).hexdigest()
@@ -70,7 +108,7 @@ def opener() -> urllib.request.OpenerDirector:
     context = Context(ssl.PROTOCOL_TLS_CLIENT)
     context.options &= ~ssl.OP_IGNORE_UNEXPECTED_EOF
     context.load_default_certs()
-    return urllib.request.build_opener(EachReply, urllib.request.HTTPSHandler(context=context))
+    return urllib.request.build_opener(EachReply, PlainHandler, TlsHandler(context))
 
 
 @contextlib.contextmanager
@@ -87,17 +125,19 @@ def limited(seconds: int) -> Iterator[None]:
         signal.signal(signal.SIGALRM, before)
 
 
-def download(url: str, key: Key | None, known: Validators, to: BinaryIO, most: int, seconds: int) -> Validators | None:
-    """Downloads a list into a file, and returns its validators, or None if it has not changed since the known ones.
+def download(url: str, key: Key | None, known: Validators, to: BinaryIO, most: int, seconds: int,
+             may_be_inside: bool) -> Response:
+    """Downloads a list into a file, if it has changed since the known validators.
 
     The list has at most `most` bytes, and all of it takes at most so many seconds. Raises `Refused` with what is wrong,
     and `OSError` if the file cannot be written."""
     with limited(seconds):
         with contextlib.ExitStack() as closing:
-            url, reply = followed(url, key, known, min(IDLE, seconds))
+            url, reply = followed(url, key, known, min(IDLE, seconds), may_be_inside)
             closing.callback(reply.close)
+            ahead = seconds_ahead(reply.headers)
             if reply.status == 304:
-                return None
+                return Response(None, host(url), ahead)
             if reply.status != 200:
                 raise Refused(f"status {reply.status} of {host(url)}"
                               + (f": {FAULTS[reply.status]}" if reply.status in FAULTS else ""))
@@ -105,23 +145,29 @@ def download(url: str, key: Key | None, known: Validators, to: BinaryIO, most: i
             if coding not in ("identity", "gzip", "x-gzip"):
                 raise Refused(f"{host(url)} sends the list in a coding that was not asked for")
             copy_body(url, reply, to, most)
-    return Validators(reply.headers.get("ETag", ""), reply.headers.get("Last-Modified", ""),
-                      digest(key.hidden(url) if key else url))
+    named = [reply.headers.get(it, "") for it in ("ETag", "Last-Modified")]
+    # A server could send the key back, and these are stored.
+    etag, modified = ["" if key and key.is_in(it) else it for it in named]
+    return Response(Validators(etag, modified, digest(key.hidden(url) if key else url)), host(url), ahead)
 
 
-def followed(url: str, key: Key | None, known: Validators, timeout: int) -> tuple[str, http.client.HTTPResponse]:
+def followed(url: str, key: Key | None, known: Validators, timeout: int,
+             may_be_inside: bool) -> tuple[str, http.client.HTTPResponse]:
     """Asks for an address and follows its redirects. Returns the last address and its response."""
-    sender, asked = opener(), key.with_query(url) if key else url
+    sender, asked, sent_by = opener(), key.with_query(url) if key else url, ""
     for _ in range(REDIRECTS + 1):
         fields = {"User-Agent": "kbfeed-collect", "Accept-Encoding": "gzip",
                   **known.fields(key.hidden(asked) if key else asked), **(key.fields(asked) if key else {})}
         with network_faults(asked, timeout):
-            request = urllib.request.Request(asked, headers=fields)
+            request = Request(asked, headers=fields)
+            scheme, name, port = origin(asked)
+            if (name, port) != origin(url)[1:] and not may_be_inside and not is_proxied(scheme, name):
+                request.addresses = checked(name, port, sent_by)
             reply: http.client.HTTPResponse = sender.open(request, timeout=timeout)
         if reply.status not in REDIRECTING:
             return asked, reply
         reply.close()
-        asked = redirected(asked, reply.headers.get("Location", ""), key)
+        sent_by, asked = host(asked), redirected(asked, reply.headers.get("Location", ""), key)
     raise Refused(f"more than {REDIRECTS} redirects")
 
 

@@ -19,6 +19,8 @@ from kbfeed_convert.names import RELEASE
 INDEX = "index"
 # Files of the program, which no web server shows.
 STATE, LOCK, WORK = ".state.json", ".lock", ".work"
+# The packages whose releases stay, and what each release was made of. A damaged state loses neither.
+PINS, SOURCES = ".pins", ".sources"
 # The releases of a package that stay, and how long any stays that the index named.
 KEPT = 3
 NAMED = datetime.timedelta(days=7)
@@ -117,10 +119,35 @@ class Folder:
             for newer, release in zip(releases[KEPT - 1:], releases[KEPT:]):
                 if today - newer.day > NAMED:
                     (self.path / release.name()).unlink()
+        kept = {it.name() for releases in self.releases().values() for it in releases}
+        for file in (self.path / SOURCES).iterdir() if (self.path / SOURCES).is_dir() else []:
+            if file.name.partition(".txt")[0] + ".txt" not in kept:
+                file.unlink()
+
+    def keep_source(self, release: Release, files: dict[str, pathlib.Path]) -> None:
+        """Keeps files that a release was made of, each under the name of the release and an ending."""
+        place = self.path / SOURCES
+        place.mkdir(mode=0o700, exist_ok=True)
+        for ending, file in files.items():
+            os.chmod(file, 0o600)
+            os.rename(file, place / f"{release.name()}.{ending}")
+
+    def pins(self) -> set[str]:
+        """Returns the packages that are pinned."""
+        try:
+            return set((self.path / PINS).read_text(encoding="utf-8").split())
+        except FileNotFoundError:
+            return set()
+
+    def write_pins(self, packages: set[str]) -> None:
+        """Writes the packages that are pinned."""
+        self.replace(self.path / PINS, "".join(f"{it}\n" for it in sorted(packages)), 0o600)
 
     def save_state(self) -> None:
         """Writes what the visits found. It has no keys."""
-        self.replace(self.path / STATE, json.dumps(self.state, indent=1, sort_keys=True) + "\n", 0o600)
+        # A line for each source: with an indent, JSON is written by Python itself, which takes ten times as long.
+        lines = [f"{json.dumps(key)}: {json.dumps(self.state[key], sort_keys=True)}" for key in sorted(self.state)]
+        self.replace(self.path / STATE, "{" + ",\n".join(lines) + "}\n", 0o600)
 
     def replace(self, place: pathlib.Path, text: str, mode: int) -> None:
         """Replaces a file by a text, atomically."""

@@ -1,26 +1,32 @@
-"""A visit to a source: its list is downloaded, converted, checked, compared, and published if it may be."""
+"""A visit to a source, in a process of its own: its list is downloaded, converted, checked and compared."""
 import dataclasses
-import datetime
+import gzip
 import json
 import os
 import pathlib
 import shutil
 import subprocess
 import sys
+import tempfile
+from typing import Any, BinaryIO, Iterator, NamedTuple
 
-from kbfeed_convert import command as converter, ending, strict
-from kbfeed_convert.faults import Refused, WrongArguments
-from kbfeed_convert.files import Output
+from kbfeed_convert import command as converter, ending
+from kbfeed_convert.faults import BYTES, Refused, WrongArguments
+from kbfeed_convert.files import Output, ReportOutput
+from kbfeed_convert.report import Report
 
 from .configuration import Source
 from .download import Validators, download
-from .folder import Folder, Release
 from .keys import Key
+from .processes import Limits
 
-# The configuration lacks the package.
-NO_SOURCE = "no source"
-# A list without rows.
-HEADER = ("\t".join(strict.LABELS) + "\n").encode()
+# A list with so many more rows than its newest release is never held for that.
+ADDED = 100
+# The bytes of a row that no reader wants.
+LONG = 16_384
+# The files that a release was made of, in the folder of its visit: as downloaded, and the report of its conversion.
+PIECE, OVERLAP = 1 << 20, 1 << 16
+DOWNLOAD, REPORT = "download", "report.json.gz"
 
 
 @dataclasses.dataclass
@@ -39,154 +45,167 @@ class Outcome:
     warnings: list[str] = dataclasses.field(default_factory=list)
 
 
+class Task(NamedTuple):
+    """What a visit needs: its source with the key, what the last one found, the newest release or an empty path, where
+    to put files, the name of the release, and whether the bounds count."""
+    source: Source
+    key: Key | None
+    known: Validators
+    newest: str
+    folder: pathlib.Path
+    name: str
+    is_accepted: bool
+
+
 @dataclasses.dataclass
-class Visits:
-    """What all visits of a run share: the folder, one for what is not whole yet, and the day. With `is_dry` nothing is
-    published and remembered."""
-    folder: Folder
-    temporary: pathlib.Path
-    today: datetime.date
-    keys: dict[str, Key | Exception | None]
-    accepted: list[str]
-    is_dry: bool
+class Found:
+    """What a visit found: `kind` is same if nothing differs, list if one is to be published, and fault otherwise. The
+    clock of the host is `ahead` of this machine's by so many seconds, if that is known."""
+    outcome: Outcome
+    kind: str = "fault"
+    validators: list[str] | None = None
+    host: str = ""
+    ahead: float | None = None
 
-    def visit(self, source: Source) -> Outcome:
-        """Visits a source. An error is its outcome, and the other sources are visited all the same."""
-        outcome, key = Outcome(source.package), self.keys[source.package]
+    @staticmethod
+    def read(given: dict[str, Any]) -> "Found":
+        """Returns what a process reported."""
+        found = Found(**given)
+        found.outcome = Outcome(**given["outcome"])
+        return found
+
+
+class KeptReport(ReportOutput):
+    """The report of a conversion, packed. It is dropped if it is longer than a list may be, or cannot be written."""
+
+    def __init__(self, path: pathlib.Path):
+        """Begins a file."""
+        self.target, self.left = path, BYTES
+        self.packed = gzip.open(path, "wt", compresslevel=1, encoding="utf-8", errors="replace")
+
+    def write_text(self, text: str) -> None:
+        """Appends a text."""
+        self.left -= len(text)
+        if self.left > 0:
+            try:
+                self.packed.write(text)
+            except OSError:
+                self.left = 0
+
+    def end(self) -> None:
+        """Writes what is left."""
         try:
-            if isinstance(key, Exception):
-                raise key
-            self.collect(source, key, outcome)
-        except Exception as error:
-            outcome.status, outcome.outcome = ending.fault(error)
-            # The next run tries again, and asks for what differs from the newest release.
-            self.folder.state.get(source.package, {}).pop("day", None)
-        finally:
-            # The files of all visits would take up more room than the lists.
-            for file in self.temporary.iterdir():
-                file.unlink()
-        if isinstance(key, Key):
-            for name in ("outcome", "found"):
-                setattr(outcome, name, key.hidden(getattr(outcome, name)))
-            outcome.warnings = [key.hidden(it) for it in outcome.warnings]
-        return outcome
-
-    def collect(self, source: Source, key: Key | None, outcome: Outcome) -> None:
-        """Downloads the list of a source, and publishes it if it differs from the newest release."""
-        newest = self.folder.newest(source.package)
-        validators = self.validators(source) if newest else Validators()
-        given = self.temporary / "download"
-        with open(given, "wb") as file:
-            got = download(source.url, key, validators, file, source.max_bytes, source.max_seconds)
-        if not got:
-            outcome.found, outcome.outcome = "not modified", "nothing new"
-            return self.remember(source, validators)
-        outcome.found = "a file"
-        release = Release(source.package, self.today)
-        whole = self.temporary / release.name()
-        convert(source, given, whole, outcome)
-        outcome.found = "a list"
-        if key and has_key(whole, key):
-            raise Refused("the key is in the list: the vendor has it in links or texts")
-        check(whole, outcome)
-        if newest and not self.differs(newest, whole, source, outcome):
-            outcome.outcome = "no row differs"
-            return self.remember(source, got)
-        if newest and newest.day == self.today:
-            raise Refused(f"{newest.name()} is of today: the change waits for tomorrow")
-        if newest and newest.day > self.today:
-            raise Refused(f"{newest.name()} is of a later day")
-        self.publish(whole, release, outcome)
-        self.remember(source, got)
-
-    def differs(self, newest: Release, whole: pathlib.Path, source: Source, outcome: Outcome) -> bool:
-        """Returns whether a list has other rows than the newest release. Refuses it if a bound is passed."""
-        bounds = ["--max-removed", str(source.max_removed), "--max-changed", str(source.max_changed)]
-        old = self.folder.path / newest.name()
-        run = program("diff", "--json", "--summary", *bounds, str(old), str(whole))
-        if not run.stdout:
-            raise Refused(f"{newest.name()} and the list cannot be compared: {said(run)}")
-        found = json.loads(run.stdout)
-        counts, rows = found["counts"], found["old"]["rows"]
-        outcome.added, outcome.removed, outcome.changed = (counts[it] for it in ("added", "removed", "changed"))
-        if run.returncode and source.package not in self.accepted:
-            raise Refused(f"{newest.name()} stays: of its {rows} rows {outcome.removed} are removed "
-                          f"(max_removed {source.max_removed} %) and {outcome.changed} changed "
-                          f"(max_changed {source.max_changed} %). --accept {source.package} publishes it once")
-        return any(counts.values())
-
-    def publish(self, whole: pathlib.Path, release: Release, outcome: Outcome) -> None:
-        """Publishes a list, and says so."""
-        if self.is_dry:
-            outcome.outcome = f"would be published as {release.name()}"
-            return
-        self.folder.publish(whole, release)
-        outcome.published, outcome.outcome = release.name(), f"published {release.name()}"
-
-    def validators(self, source: Source) -> Validators:
-        """Returns what the last visit found, if it was read with the same settings."""
-        state = self.folder.state.get(source.package, {})
-        if state.get("digest") != source.digest():
-            return Validators()
-        return Validators(*[str(state.get(it, "")) for it in Validators._fields])
-
-    def remember(self, source: Source, got: Validators) -> None:
-        """Remembers that the newest release has what the source has. A list that waits is downloaded again."""
-        if not self.is_dry:
-            self.folder.state[source.package] = {"digest": source.digest(), "day": str(self.today), **got._asdict()}
-
-    def is_due(self, source: Source) -> bool:
-        """Returns whether the last visit is long ago, failed, or was with other settings."""
-        state = self.folder.state.get(source.package, {})
-        try:
-            next_day = datetime.date.fromisoformat(str(state.get("day"))) + datetime.timedelta(days=source.every_days)
-        except ValueError:
-            return True
-        return next_day <= self.today or state.get("digest") != source.digest()
-
-    def withdraw(self, package: str) -> Outcome:
-        """Publishes a list of the header alone, by which nodes answer nothing from a package."""
-        outcome = Outcome(package, NO_SOURCE)
-        release = Release(package, self.today)
-        try:
-            newest = self.folder.newest(package)
-            if not newest:
-                raise Refused("no list of this package is published")
-            if newest.day >= self.today:
-                raise Refused(f"{newest.name()} is of today or later: withdraw it on a later day")
-            whole = self.temporary / release.name()
-            out = Output(str(whole), str(whole))
-            out.write(HEADER)
-            out.finish()
-            out.place()
-            self.publish(whole, release, outcome)
-        except Exception as error:
-            outcome.status, outcome.outcome = ending.fault(error)
-        return outcome
+            self.packed.close()
+        except OSError:
+            self.left = 0
+        if self.left <= 0:
+            self.target.unlink()
 
 
-def key_of(source: Source) -> Key | Exception | None:
-    """Returns the key of a source, or why it cannot be read: that is the outcome of the source."""
+def visit(task: Task, limits: Limits) -> dict[str, Any]:
+    """Visits a source. An error is its outcome."""
+    found = Found(Outcome(task.source.package))
+    # The converter unpacks files on the disk of the lists.
+    tempfile.tempdir = str(task.folder)
     try:
-        return source.key()
-    except WrongArguments as error:
-        return error
+        collect(task, limits, found)
+    except MemoryError:
+        limits.relax()
+        found.outcome.status = 1
+        found.outcome.outcome = f"the conversion needs more than {limits.size} bytes of memory (max_convert_bytes)"
+    except Exception as error:
+        found.outcome.status, found.outcome.outcome = ending.fault(error)
+    if task.key:
+        outcome = found.outcome
+        outcome.outcome, outcome.found = task.key.hidden(outcome.outcome), task.key.hidden(outcome.found)
+        outcome.warnings = [task.key.hidden(it) for it in outcome.warnings]
+    return dataclasses.asdict(found)
 
 
-def convert(source: Source, given: pathlib.Path, whole: pathlib.Path, outcome: Outcome) -> None:
-    """Converts a list. What was dropped is in the outcome, also if no row is left."""
+def collect(task: Task, limits: Limits, found: Found) -> None:
+    """Downloads the list of a source, and has it converted, checked and compared."""
+    source, outcome = task.source, found.outcome
+    given, whole = task.folder / DOWNLOAD, task.folder / task.name
+    with open(given, "wb") as file:
+        reply = download(source.url, task.key, task.known, file, source.max_bytes, source.max_seconds, source.inside)
+    limits.begin_conversion()
+    found.host, found.ahead = reply.host, reply.ahead
+    if not reply.validators:
+        found.kind, outcome.found, outcome.outcome = "same", "not modified", "nothing new"
+        return
+    found.validators = list(reply.validators)
+    outcome.found = "a file"
+    report = convert(source, given, whole, outcome)
+    outcome.found = "a list"
+    read_lines(whole, task.key, outcome)
+    check(whole, outcome)
+    if task.newest and not differs(task, whole, outcome):
+        found.kind, outcome.outcome = "same", "no row differs"
+        return
+    hold(task, report)
+    keep_parts(task, outcome)
+    found.kind = "list"
+
+
+def hold(task: Task, report: Report) -> None:
+    """Refuses a list whose coverage may be wider than its source, and one with addresses that a library has to fill."""
+    package = task.source.package
+    if task.is_accepted:
+        return
+    if text := report.unfilled():
+        raise Refused(f"{text}: replace in its source fills it, or --accept {package} publishes it once")
+    if task.source.widened == "hold" and (text := report.doubt()):
+        raise Refused(f"{text}. --accept {package} publishes it once, and widened = \"warn\" each time")
+
+
+def convert(source: Source, given: pathlib.Path, whole: pathlib.Path, outcome: Outcome) -> Report:
+    """Converts a list, and returns its report. What was dropped is in the outcome, also if no row is left."""
     out = Output(str(whole), whole.name)
+    report_out = KeptReport(whole.parent / REPORT)
     try:
         options = [f"--package={source.package}", *source.options]
-        report = converter.convert(converter.arguments([*options, str(given)]), whole.name, out, None)
+        report = converter.convert(converter.arguments([*options, str(given)]), whole.name, out, report_out)
         outcome.rows, outcome.dropped = report.rows, report.lost()
         outcome.warnings = [report.summary(True)[0], *report.warnings]
         if not report.rows:
             raise Refused("no record is a row: such a release would hide its package")
         out.finish()
         out.place()
+        return report
     finally:
         out.remove()
+        report_out.end()
+
+
+def keep_parts(task: Task, outcome: Outcome) -> None:
+    """Keeps the vendor's file and the report of its conversion, unless one of them has the key."""
+    given, report = task.folder / DOWNLOAD, task.folder / REPORT
+    files: list[BinaryIO | gzip.GzipFile] = [open(given, "rb"), *([gzip.open(report)] if report.exists() else [])]
+    if task.key and any(task.key.is_in(it) for file in files for it in pieces(file)):
+        outcome.warnings.append("the vendor's file has the key, and is not kept")
+        given.unlink()
+        report.unlink(missing_ok=True)
+
+
+def pieces(file: BinaryIO | gzip.GzipFile) -> Iterator[str]:
+    """Yields a file in pieces that overlap, so that a key is whole in one of them."""
+    before = b""
+    while piece := file.read(PIECE):
+        yield (before + piece).decode("latin-1")
+        before = piece[-OVERLAP:]
+
+
+def read_lines(whole: pathlib.Path, key: Key | None, outcome: Outcome) -> None:
+    """Refuses a list that has the key, which readers would get. Warns of long rows."""
+    long = first = 0
+    with open(whole, encoding="utf-8", errors="replace") as lines:
+        for number, line in enumerate(lines, 1):
+            if key and key.is_in(line):
+                raise Refused("the key is in the list: the vendor has it in links or texts")
+            if len(line) * 4 > LONG and len(line.encode()) > LONG:
+                long, first = long + 1, first or number
+    if long:
+        outcome.warnings.append(f"rows of more than {LONG} bytes: {long}, the first is row {first}")
 
 
 def check(whole: pathlib.Path, outcome: Outcome) -> None:
@@ -200,10 +219,27 @@ def check(whole: pathlib.Path, outcome: Outcome) -> None:
         raise Refused("the list has no rows: such a release would hide its package")
 
 
-def has_key(whole: pathlib.Path, key: Key) -> bool:
-    """Returns whether a line of a list has the key: readers would get it."""
-    with open(whole, encoding="utf-8", errors="replace") as lines:
-        return any(key.is_in(it) for it in lines)
+def differs(task: Task, whole: pathlib.Path, outcome: Outcome) -> bool:
+    """Returns whether a list has other rows than the newest release. Refuses it if a bound is passed."""
+    source, newest = task.source, os.path.basename(task.newest)
+    bounds = ["--max-removed", str(source.max_removed), "--max-changed", str(source.max_changed)]
+    run = program("diff", "--json", "--summary", *bounds, task.newest, str(whole))
+    if not run.stdout:
+        raise Refused(f"{newest} and the list cannot be compared: {said(run)}")
+    found = json.loads(run.stdout)
+    counts, rows = found["counts"], found["old"]["rows"]
+    outcome.added, outcome.removed, outcome.changed = (counts[it] for it in ("added", "removed", "changed"))
+    if not task.is_accepted:
+        accept = f"--accept {source.package} publishes it once"
+        if run.returncode:
+            raise Refused(f"{newest} stays: of its {rows} rows {outcome.removed} are removed "
+                          f"(max_removed {source.max_removed} %) and {outcome.changed} changed "
+                          f"(max_changed {source.max_changed} %). {accept}")
+        # After a list without rows each row is added.
+        if rows and counts["added"] > ADDED and counts["added"] * 100 > rows * source.max_added:
+            raise Refused(f"{newest} stays: beside its {rows} rows {outcome.added} are added "
+                          f"(max_added {source.max_added} %). {accept}")
+    return any(counts.values())
 
 
 def program(*words: str, folder: pathlib.Path | None = None) -> subprocess.CompletedProcess[str]:
