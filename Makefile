@@ -8,10 +8,13 @@ DESTDIR =
 ZSH_FUNCTIONS = share/zsh/site-functions
 OUT = out
 
+# The pages of the sources, which tools write and git does not keep.
+WRITTEN = $(shell sed -n 's|^/docs/|docs/|p' .gitignore)
 SOURCES = crates.txt $(shell find crates -name out -prune -o \( -name '*.rt' -o -name '*.antt' \) -print)
 DOC = share/doc/kbfeed
-PAGES = README.md CHANGELOG.md LICENSE SECURITY.md $(wildcard docs/*.md docs/*/*.md docs/*/*.svg docs/*/*.png samples/*.script \
-	samples/*.transcript samples/lists/* samples/fleet/* samples/vendor/* samples/discovery/*)
+PAGES = README.md CHANGELOG.md LICENSE SECURITY.md $(sort $(WRITTEN) $(wildcard docs/*.md docs/*/*.md docs/*/*.svg \
+	docs/*/*.png)) $(wildcard samples/*.script samples/*.transcript samples/lists/* samples/fleet/* samples/vendor/* \
+	samples/discovery/*)
 # The folders of the pages, each before the one that it is in.
 FOLDERS = samples/lists samples/fleet samples/vendor samples/discovery samples docs/using docs/formats docs/proofs \
 	docs/developing docs
@@ -39,13 +42,16 @@ DATA = man/kbfeed.1:share/man/man1/kbfeed.1 man/kbfeed-feed.1:share/man/man1/kbf
 	$(foreach page,$(PAGES),$(page):$(DOC)/$(page))
 INTO = $(DESTDIR)$(PREFIX)
 
-.PHONY: help build replay test prove mutants sessions pages check fmt lint bench install uninstall deb
+.PHONY: help build demo replay test prove mutants sessions docs pages check fmt lint bench install uninstall deb
 
 help:
 	@echo "make replay     replays the scripts of samples/ and compares the transcripts, with the proved program, or with a"
 	@echo "                small one without proof if the proved one is missing or older than a source"
+	@echo "make demo       shows a node with three libraries in a browser, without proof if the proved program is missing or"
+	@echo "                older than a source"
 	@echo "make test       compares the pages with the sources, and runs the sessions: with the proved programs that are newer"
-	@echo "                than the sources, and else with ones that it compiles without proof"
+	@echo "                than the sources, and else with ones that it compiles without proof; THOROUGH=yes has some"
+	@echo "                sessions try more, as in CI"
 	@echo "make build      proves the crates side by side, builds the program, and leaves it at $(BUILT);"
 	@echo "                DRIVERS=yes also builds the drivers that the sessions run"
 	@echo "make prove      proves every crate, builds each program by both compilers, and tries the mutants that the"
@@ -58,10 +64,12 @@ help:
 	@echo "                name its maintainer"
 	@echo
 	@echo "For daily work:"
-	@echo "make check CRATE=x       proves one crate, and only what changed since the last check"
+	@echo "make check CRATE=x       proves one crate, and only what changed since the last check; with FN=y one function, or"
+	@echo "                         one module, over what was proved of the crates below"
 	@echo "make sessions [ONLY=x]   runs the sessions of tests/, or some by name, with the programs of make test"
 	@echo "make mutants             tries all mutants: with CRATE=x those of a crate, with SINCE=REV those of the crates that"
 	@echo "                         differ from a revision"
+	@echo "make docs                writes the pages that are made of the sources, with Python alone"
 	@echo "make pages               compares the pages with the sources and the sessions"
 	@echo "make fmt                 formats the sources of every crate, as the proofs require"
 	@echo "make lint                checks widths and module docs, and runs shellcheck and Python linters if installed"
@@ -77,6 +85,9 @@ $(BUILT): $(SOURCES)
 replay:
 	@tools/replay $(REPLAY)
 
+demo:
+	@tools/demo $(PORT)
+
 test: pages sessions
 
 prove:
@@ -86,12 +97,15 @@ mutants:
 	@tools/mutants $(if $(SINCE),--since "$(SINCE)") $(CRATE)
 
 check:
-	@[ -d "crates/$(CRATE)/src" ] || { echo "make check CRATE=NAME: a crate of crates.txt" >&2; exit 2; }
-	@cd "crates/$(CRATE)" && rt check
+	@[ -d "crates/$(CRATE)/src" ] || { echo "make check CRATE=NAME [FN=FUNCTION]: a crate of crates.txt" >&2; exit 2; }
+	@tools/check "$(CRATE)" $(FN)
 
 # Sessions come after pages where both are asked for, so that the last line counts the sessions.
 sessions: $(if $(filter test,$(MAKECMDGOALS)),pages)
-	@tests/run $(ONLY)
+	@tests/run $(if $(THOROUGH),--thorough) $(ONLY)
+
+docs:
+	@for it in contracts crate_pages definitions texts; do tools/$$it || exit; done
 
 pages:
 	@tools/check_pages
@@ -105,7 +119,7 @@ lint:
 bench:
 	@bench/run --program "$(PROGRAM)" $(foreach name,$(ONLY),--only $(name))
 
-install: $(PROGRAM)
+install: $(PROGRAM) docs
 	@put() { install -d "$${3%/*}" && install -m "$$1" "$$2" "$$3" && echo "$$3"; }; \
 	put 755 "$(PROGRAM)" "$(INTO)/bin/kbfeed" || exit; \
 	for file in $(SCRIPTS); do put 755 "$${file%%:*}" "$(INTO)/$${file##*:}" || exit; done; \

@@ -8,11 +8,11 @@ ROOT = pathlib.Path(__file__).resolve().parent.parent
 # The folders of a crate that a proof reads, and the files for the gate's run of a program.
 PARTS = ["src", "specs", "proofs"]
 RUN = ["stdin", "stdout", "args", "status", "data"]
-# The program and its drivers, those first whose compilation takes longest.
-PROGRAMS = ["kbfeed", "test_store", "test_http", "test_releases", "test_lists"]
-# The most that are compiled side by side. The greatest takes as long as all drivers beside it in two lanes, so a fourth
-# lane would only take memory, and a processor from the sessions.
-LANES = 3
+# The drivers that sessions run, and all programs that they run.
+DRIVERS = ["test_store", "test_http", "test_releases", "test_lists"]
+PROGRAMS = ["kbfeed", *DRIVERS]
+# The most that are compiled side by side: kbfeed, and the drivers as one.
+LANES = 2
 # The folder of the programs that tools/compile_unproved makes.
 UNPROVED = ROOT / "out/unproved"
 

@@ -12,6 +12,8 @@ import sys
 import threading
 import time
 
+# The program that is the gate.
+PROVING = pathlib.Path(__file__).with_name("toolchain.py")
 # The seconds between two lines about what is running, and between two looks at it.
 REPORT, LOOK = 30, 0.5
 # The gate's lines about a mutant, and their meanings.
@@ -98,10 +100,11 @@ class Progress:
 
 class Gate:
     """A run of the gate over the crates of a folder, on some processors or on all. If `is_quiet`, it reports only what
-    fails."""
+    fails. With names of crates it proves these and those below them, without mutants and without runs of programs."""
 
-    def __init__(self, folder, crates, variables=None, is_quiet=False, processors=None):
+    def __init__(self, folder, crates, variables=None, is_quiet=False, processors=None, names=()):
         self.folder, self.crates, self.is_quiet, self.processors = folder, crates, is_quiet, processors
+        self.words = [sys.executable, "-B", str(PROVING), *names]
         self.variables = {**os.environ, **(variables or {})}
         self.mutants, self.failed, self.last, self.process = [], [], "", None
 
@@ -133,7 +136,7 @@ class Gate:
         if self.is_quiet:
             progress.proved = progress.report = lambda *_: None
         words = ["taskset", "-c", ",".join(map(str, self.processors))] if self.processors else []
-        self.process = subprocess.Popen([*words, "rt", "ci"], cwd=self.folder, stdin=subprocess.DEVNULL,
+        self.process = subprocess.Popen([*words, *self.words], cwd=self.folder, stdin=subprocess.DEVNULL,
                                         stdout=subprocess.PIPE, env=self.variables, stderr=subprocess.STDOUT, text=True,
                                         errors="replace", start_new_session=True)
         watcher = threading.Thread(target=progress.watch, daemon=True)
