@@ -24,6 +24,7 @@ import tempfile
 
 sys.dont_write_bytecode = True
 sys.path.insert(0, str(pathlib.Path(__file__).resolve().parent.parent.parent / "tools" / "convert"))
+from holdings import isbn_of_digits, issn_of_digits
 from kbfeed_convert import command, strict
 from kbfeed_convert.faults import Refused
 
@@ -32,15 +33,12 @@ OTHERS = ["ISSN", "Journal Title", "Coverage ends", "notes", "notes", "URL", "IS
 
 
 def issn(r):
-    digits = f"{r.randrange(10 ** 7):07}"
-    check = -sum(int(it) * weight for it, weight in zip(digits, range(8, 1, -1))) % 11
-    end = "X" if check == 10 else str(check)
-    return digits[:4] + r.choice(["-", "-", "-", ""]) + digits[4:] + r.choice([end, end.lower()])
+    front, _, back = issn_of_digits(f"{r.randrange(10 ** 7):07}").partition("-")
+    return front + r.choice(["-", "-", "-", ""]) + back[:3] + r.choice([back[3], back[3].lower()])
 
 
 def isbn(r):
-    digits = r.choice(["978", "979"]) + f"{r.randrange(10 ** 9):09}"
-    return digits + strict.check13(digits)
+    return isbn_of_digits(r.choice(["978", "979"]) + f"{r.randrange(10 ** 9):09}")
 
 
 def number(r, is_book):

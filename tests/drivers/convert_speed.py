@@ -14,6 +14,9 @@ import subprocess
 import sys
 import tempfile
 
+sys.dont_write_bytecode = True
+from holdings import issn_of_digits  # noqa: E402
+
 LABELS = ["publication_title", "print_identifier", "online_identifier", "date_first_issue_online",
           "num_first_vol_online", "num_first_issue_online", "date_last_issue_online", "num_last_vol_online",
           "num_last_issue_online", "title_url", "first_author", "title_id", "embargo_info", "coverage_depth", "notes",
@@ -24,9 +27,7 @@ WORDS = "Journal of the Harbour Society Studies in Naval History & Theory Review
 
 
 def issn(r):
-    digits = f"{r.randrange(10 ** 7):07}"
-    check = -sum(int(it) * weight for it, weight in zip(digits, range(8, 1, -1))) % 11
-    return f"{digits[:4]}-{digits[4:]}{'X' if check == 10 else check}"
+    return issn_of_digits(f"{r.randrange(10 ** 7):07}")
 
 
 def record(r):

@@ -9,7 +9,7 @@ import sys
 
 sys.dont_write_bytecode = True
 sys.path.insert(0, str(pathlib.Path(__file__).resolve().parent.parent.parent / "tools" / "convert"))
-from kbfeed_convert import dates, identifiers, kinds, labels, names, record, values, volumes
+from kbfeed_convert import coverage, dates, identifiers, kinds, labels, names, record, values, volumes
 from kbfeed_convert.faults import Refused
 from kbfeed_convert.texts import folded
 
@@ -20,8 +20,8 @@ def date(cell, is_last, order):
 
 
 def ranges(cell):
-    found = dates.ranges(cell.replace("\\n", "\n"), "")
-    return ", ".join(f"{first} to {last or '-'}" for first, last in found) or "not read"
+    found = coverage.read(cell.replace("\\n", "\n"), "").ranges
+    return ", ".join(f"{it.first} to {it.last or '-'}" for it in found) or "not read"
 
 
 def pair(cell):
@@ -47,7 +47,7 @@ RULES = {
     "volume last": lambda cell: volumes.read(cell, True),
     "volumes": lambda cell: " to ".join(it or "-" for it in volumes.both(cell)),
     "embargo": values.embargo,
-    "embargo in": values.embargo_in,
+    "embargo in": lambda cell: coverage.read(cell, "").embargo,
     "embargo days": lambda cell: values.embargo(cell, "D"),
     "embargo months": lambda cell: values.embargo(cell, "M"),
     "embargo years": lambda cell: values.embargo(cell, "Y"),
