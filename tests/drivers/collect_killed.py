@@ -63,8 +63,12 @@ class Lane:
         self.seconds = time.monotonic() - began
         if run.returncode or len(self.index()) != PACKAGES or any(str(day) not in it for it in self.index()):
             self.wrong.append(f"{day}: {run.returncode} {said}")
-        if [it.name for it in self.lists.iterdir() if it.name[0] == "." and it.name not in (".lock", ".state.json")]:
+        kept = (".lock", ".state.json", ".sources")
+        if [it.name for it in self.lists.iterdir() if it.name[0] == "." and it.name not in kept]:
             self.wrong.append(f"{day}: files that are not whole are left")
+        for file in (self.lists / ".sources").iterdir():
+            if not (self.lists / f"{file.name.partition('.')[0]}.txt").exists():
+                self.wrong.append(f"{day}: {file.name} is of no release")
 
     def kill(self, day):
         """Kills a run, with what it started, in the middle."""

@@ -10,8 +10,8 @@ sys.dont_write_bytecode = True
 TOOLS = pathlib.Path(__file__).resolve().parent.parent.parent / "tools"
 sys.path[:0] = [str(TOOLS / "collect"), str(TOOLS / "convert")]
 
-from kbfeed_collect import command  # noqa: E402
+from kbfeed_collect import clock, command  # noqa: E402
 
-day = datetime.date.fromisoformat(sys.argv.pop(1))
-command.today = lambda: day
+moment = datetime.datetime.fromisoformat(f"{sys.argv.pop(1)}T03:00+00:00")
+clock.now = lambda: moment
 sys.exit(command.main())

@@ -5,8 +5,8 @@ knowledge_bases.py FOLDER
 
 `kbfeed` is on the path. For each kind of knowledge base a node with an empty database fetches a release, while a client
 asks for its status again and again. Prints the last lines of each fetch, and complains if the node's memory, its
-readers' waits or the duration of the fetch are not bounded. FOLDER is for the files of the test. With VERBOSE set,
-prints the figures on standard error."""
+readers' waits or the duration of the fetch are not bounded. FOLDER is for the files of the test. The large list has
+500,000 rows, or a million with THOROUGH set. With VERBOSE set, prints the figures on standard error."""
 import os
 import pathlib
 import signal
@@ -24,6 +24,8 @@ NAME = "Odd_2024-01-01.txt"
 MIB = 1_048_576
 # The most seconds of a fetch and of a reader's wait, and the most bytes that a fetch that stops may take.
 LONGEST, WAIT, MEMORY = 20, 0.5, 32 * MIB
+# The rows of the large list, which has 31 or 61 MB. A bound of 16 MiB finds a whole one in memory.
+ROWS = 1_000_000 if os.environ.get("THOROUGH") else 500_000
 
 
 def message(status, *fields):
@@ -233,7 +235,7 @@ def main():
             print(f"  it took {seconds:.1f} s")
         if memory > MEMORY:
             print(f"  it took {memory / MIB:.0f} MiB")
-    large = subprocess.run([sys.executable, HERE / "many_rows.py", "1000000", "1000"], stdout=subprocess.PIPE,
+    large = subprocess.run([sys.executable, HERE / "many_rows.py", str(ROWS), "1000"], stdout=subprocess.PIPE,
                            check=True).stdout
     most = {}
     for kind in ["good", "whole"]:

@@ -6,7 +6,8 @@ vendors.py FOLDER CERTIFICATE
 Prints two free ports of 127.0.0.1, and listens at both with CERTIFICATE.pem and CERTIFICATE.key until it is ended, for
 ten minutes at most. The first is the vendor, the second another host; a third port, without TLS, is printed too. The
 files first.log, other.log and plain.log get a line for each request: its path, and the headers by which a key or a
-condition is sent. The paths:
+condition is sent. If FOLDER has a file date-first, date-other or date-plain, that host sends its text as the Date of
+each response, and otherwise none. The paths:
 
   /file/NAME         the file NAME of FOLDER, with an ETag and Last-Modified, and 304 for either of them
   /plain/NAME        the same without both
@@ -19,9 +20,12 @@ condition is sent. The paths:
   /here/N/PATH       N redirects on this host, and then PATH
   /there/PATH        a redirect to PATH on the other host, and from there to the first one: /there/back/PATH
   /down/PATH         a redirect to PATH without TLS
+  /to/HOST/PORT/PATH a redirect to PATH at PORT of HOST, without TLS if this server has none
+  /key-tag/NAME      the file with the key in its ETag and Last-Modified
   /echo/PATH         a redirect to PATH on the other host, with the query of the request
   /gzip/NAME, /chunked/NAME, /ended/NAME
                      the file packed, in chunks, or without a length
+  /aged/NAME         the file as a cache sends it that has had it for two days
   /cut, /cut-chunks, /cut-tls, /endless, /drip, /hang, /login, /login-key, /coding, /not-http, /status/N
                      what a list is not"""
 import gzip
@@ -58,6 +62,13 @@ class Vendor(http.server.BaseHTTPRequestHandler):
     def key(self):
         return (self.server.folder / "key").read_text(encoding="ascii").strip()
 
+    def send_response(self, code, message=None):
+        """Sends no Date, as the sessions are on other days, unless the folder has one for this host."""
+        self.send_response_only(code, message)
+        date = self.server.folder / f"date-{self.server.log.removesuffix('.log')}"
+        if date.exists():
+            self.send_header("Date", date.read_text(encoding="ascii").strip())
+
     def reply(self, status, body, *fields, length=None):
         self.send_response(status)
         for name, value in fields:
@@ -81,6 +92,9 @@ class Vendor(http.server.BaseHTTPRequestHandler):
         if self.headers["If-Modified-Since"] == DATE:
             return self.reply(304, b"", length=False)
         self.reply(200, self.read(name), ("Last-Modified", DATE))
+
+    def do_aged(self, name):
+        self.reply(200, self.read(name), ("Age", str(2 * 86_400)))
 
     def do_plain(self, name):
         self.reply(200, self.read(name))
@@ -116,6 +130,13 @@ class Vendor(http.server.BaseHTTPRequestHandler):
         self.redirect(f"{self.server.other}/{rest}")
 
     do_back = do_there
+
+    def do_to(self, rest):
+        name, port, path = rest.split("/", 2)
+        self.redirect(f"http{'s' if self.server.context else ''}://{name}:{port}/{path}")
+
+    def do_key_tag(self, name):
+        self.reply(200, self.read(name), ("ETag", f'"{self.key()}"'), ("Last-Modified", self.key()))
 
     def do_down(self, rest):
         self.redirect(f"{self.server.down}/{rest}")
