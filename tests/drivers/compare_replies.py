@@ -42,6 +42,7 @@ import tempfile
 import time
 
 sys.dont_write_bytecode = True
+from holdings import issn_of_digits  # noqa: E402
 from resolver_random import Request as PlainRequest, World, name_of  # noqa: E402
 
 TOKEN = "0123456789abcdef"
@@ -56,6 +57,8 @@ SOCK_DIAG, BY_FAMILY, INFO, WITH_INFO, SYN_RECV, LISTEN, NEW_SYN_RECV = 4, 20, 2
 # two looks at a node.
 PATIENCE, QUIET, LOOK = 60, 0.004, 0.000_2
 
+# The query of the requests that wait until a node is ready.
+POLL = "?until=ready"
 # The requests of each world: one setting, lists and a site file.
 WORLD = 500
 # The folders of the two nodes. The rows of the list that a node checks as it starts, how many connections it gets at
@@ -88,9 +91,8 @@ BAD_PATHS = ["/resolve/", "/resolve/None", "/resolve/A%63me", "/resolve/Acme/", 
              "#"]
 FRONTS = ["http://node.example", "HTTP://x@node.example:80", "https://[::1]", "http:/", "http://", "node.example:80",
           "ftp://node.example"]
-# 65 ISSNs, one more than a query may have. ISO 3297 defines the last character.
-MANY = [f"{'0' * 4}-{it:03}{'0123456789X'[-sum(int(digit) * (4 - at) for at, digit in enumerate(f'{it:03}')) % 11]}"
-        for it in range(1, 66)]
+# 65 ISSNs, one more than a query may have.
+MANY = [issn_of_digits(f"{it:07}") for it in range(1, 66)]
 PAIRS = ["issn=2434-561X", "rft.issn=0317-8471", "issn=2434561x", "rft.eissn=1050-124X", "isbn=9780306406157",
          "rft.isbn=9781849302043", "isbn=0-306-40615-2", "date=1996", "rft.date=2001-03", "date=1996&date=1997",
          "volume=3", "rft.volume=007", "genre=article", "rft.genre=book", "rft_id=info:doi/10.1000/1", "title=A%20b",
@@ -334,7 +336,7 @@ class Node:
     def wait_until_ready(self):
         """Waits until the lists are checked. A node that waits for a package replies 503 to readers then, too."""
         for _ in range(1_000):
-            if b" 200 OK" in self.get("/status") or b"\nkbfeed_active_release" in self.get("/metrics"):
+            if b" 200 OK" in self.get("/status" + POLL) or b"\nkbfeed_active_release" in self.get("/metrics" + POLL):
                 self.received_before = self.received
                 self.before = self.counters()
                 return
@@ -357,8 +359,9 @@ class Node:
         return [f"{name} {value}" for name, value in grown.items()]
 
     def printed(self, name):
-        """Returns the lines of the log, or of standard error, without times. A dash for no site is left out."""
-        lines = (self.folder / name).read_text(encoding="latin-1").split("\n")
+        """Returns the lines of the log, or of standard error, without times. A dash for no site is left out, and so
+        are the requests of `wait_until_ready`, whose number depends on the machine's speed."""
+        lines = [it for it in (self.folder / name).read_text(encoding="latin-1").split("\n") if POLL + " " not in it]
         line = re.compile(r"^(\S+ - - \[)\d\d/[A-Z][a-z]+/[\d:]{13}( .*) \d+(?: -|( \S+))?$")
         lines = [line.sub(r"\1TIME\2 N\3", it) for it in lines]
         return [re.sub(r"\d+\.\d{3} seconds$", "N seconds", it) for it in lines]

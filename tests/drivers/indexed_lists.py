@@ -7,18 +7,21 @@ Each list is written to the file `list` in the current folder. test_lists reads 
 sizes, and prints the places of some identifiers: of the first and the last row, of rows between them, and of none.
 Prints a line for each list, and each line of test_lists that is not the one wanted. Fails if there is one. With
 NAME and ROWS it only writes a list of so many rows, such as `ascending`, and prints the first and the last ISSN."""
+import functools
 import subprocess
 import sys
 
-from many_rows import LABELS, issn
+import many_rows
+from holdings import isbn_of_digits
 
 # A run of the index has at most so many entries.
 RUN = 65_536
+issn = functools.cache(many_rows.issn)
 
 
+@functools.cache
 def isbn(number):
-    digits = f"978{number:09}"
-    return digits + str(-sum(int(digit) * (3 if at % 2 else 1) for at, digit in enumerate(digits)) % 10)
+    return isbn_of_digits(f"978{number:09}")
 
 
 # The identifiers of a row of each list, by its place and the number of rows.
@@ -34,15 +37,20 @@ LISTS = {
 
 def write_list(identifiers):
     with open("list", "w", encoding="ascii") as out:
-        print("\t".join(LABELS), "publication_type", sep="\t", file=out)
-        for first, second in identifiers:
-            kind = "monograph" if len(first) == 13 else ""
-            print("T", first, second, "", "", "", "", "", kind, sep="\t", file=out)
+        print(*many_rows.LABELS, "publication_type", sep="\t", file=out)
+        out.writelines(f"T\t{first}\t{second}\t\t\t\t\t\t{'monograph' if len(first) == 13 else ''}\n"
+                       for first, second in identifiers)
 
 
 def places_of(wanted, identifiers):
-    found = [str(place) for place, row in enumerate(identifiers) if wanted in row]
-    return " ".join(["places", *found])
+    """Returns the line that test_lists has to print of each wanted identifier."""
+    found = {it: ["places"] for it in wanted}
+    for place, (first, second) in enumerate(identifiers):
+        if first in found:
+            found[first].append(str(place))
+        if second in found and second != first:
+            found[second].append(str(place))
+    return {it: " ".join(places) for it, places in found.items()}
 
 
 def check_list(name, rows, steps):
@@ -52,7 +60,8 @@ def check_list(name, rows, steps):
     asked += [row[1] for row in identifiers[-1:] if row[1]] + [issn(9_999_999), isbn(999_999_999)]
     lines = [f"places {step} list {' '.join(asked)}\n" for step in steps]
     printed = subprocess.run(["test_lists"], input="".join(lines), capture_output=True, text=True, check=True)
-    expected = [(step, it, places_of(it, identifiers)) for step in steps for it in asked]
+    places = places_of(asked, identifiers)
+    expected = [(step, it, places[it]) for step in steps for it in asked]
     wrong = [(step, it) for (step, it, want), got in zip(expected, printed.stdout.splitlines(), strict=True)
              if got != want]
     for step, it in wrong:

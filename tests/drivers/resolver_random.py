@@ -3,12 +3,14 @@
 resolver_random.py [--cases N] [--seed N]
 
 The model is written from docs/formats/RESOLVER.md, KBART.md and OPENURL.md beside it, and docs/using/LIBRARIES.md
-alone. It goes through all rows of all lists for each request. Each world has up to three packages with a few rows, a
-site file or none, and a day; it gets twenty requests. In some worlds a list has about as many rows of one ISSN as a
-query looks at. Compared are the status, the address of a redirect, the whole text, the hits and `also` of JSON with
-most members, the links of a page, in their order, and how many hits are left out. `test_http` gives the replies."""
+alone; the rules of lists and queries are in holdings.py. It goes through all rows of all lists for each request.
+Each world has up to three packages with a few rows, a site file or none, and a day; it gets twenty requests. In some
+worlds the lists have more rows of one ISSN than a query looks at, or as many, and some of these have long texts. The
+site file has templates of articles, and requests have values about as long as a link takes. Compared are the status,
+the address of a redirect, the whole text, the hits and `also` of JSON with most members, the links of a page and of a
+reply of SFX, in their order, how many hits are left out, and which packages may have more. `test_http` gives the
+replies."""
 import argparse
-import calendar
 import datetime
 import html.parser
 import ipaddress
@@ -18,11 +20,26 @@ import re
 import subprocess
 import sys
 import urllib.parse
+import xml.etree.ElementTree
+
+sys.dont_write_bytecode = True
+from holdings import (BOOK, EVER, Record, dated_grade_of, days_of, grade_of, lies_in, meet, months_before,  # noqa: E402
+                      open_days, query_days_of, volume_of)
 
 WORLD = 20
-# Every so many worlds one has a long list. A query looks at the first ROWS rows that have one of its identifiers. A row
-# counts as one more for each SIZE bytes of a text. A reply shows SHOWN hits at most.
-LONG, ROWS, SIZE, SHOWN = 25, 5_000, 250, 1_000
+# Every so many worlds one has long lists. A query looks at ROWS rows that have one of its identifiers, in all lists
+# together. A hit counts as one of ROWS others for each SIZE bytes of a text. A reply shows SHOWN hits at most, with
+# fewer than BYTES bytes. A value in a link has VALUE bytes at most, and a link LINK.
+LONG, ROWS, SIZE, SHOWN, BYTES, VALUE, LINK = 15, 5_000, 250, 1_000, 524_288, 1_000, 8_000
+# How many equal rows a long list has, so that one or several are below, at and above the bound and their shares.
+COUNTS = [ROWS, ROWS - 6, ROWS + 50, ROWS // 2, ROWS // 2 + 1, ROWS // 3, ROWS // 3 + 7, 900]
+# The lengths of the long titles of a list. test_http takes lists of less than 1 MiB.
+TITLES = [[SIZE - 1, SIZE, 3 * SIZE], [60_000] * 8, [430_000], [200_000, 210_000, 20], [300_000, 300_000]]
+# Addresses of articles, and values of their names that are absent, at the bound, past it and too long together.
+ARTICLES = ["https://a.example/{article}", "https://b.example/?a={article}&v={volume}&again={article}",
+            "http://c.a.example/x/{title_id}?a={article}", "https://b.example/{article}{article}{article}",
+            "https://b.example/{title}/{title_id}"]
+VALUES = ["Bees", "..", "a b&c", "a" * VALUE, "a" * (VALUE + 1), "%" * VALUE, "é" * (VALUE // 2), "%" * 900]
 LABELS = ["publication_title", "print_identifier", "online_identifier", "date_first_issue_online",
           "num_first_vol_online", "date_last_issue_online", "num_last_vol_online", "title_url", "title_id",
           "embargo_info", "coverage_depth", "access_type", "publication_type"]
@@ -36,34 +53,11 @@ ODD_HOSTS = ["A.Example", "b.example:8080", "b.example:65536", "x@a.example", "a
 FIRSTS, LASTS = ["", "", "1990", "1995", "1998-03", "1999-12-31"], ["", "", "", "2001", "2004-02", "2024", "1996"]
 VOLUMES = ["", "", "1", "5", "007", "12", "x"]
 EMBARGOES = ["", "", "P1Y", "P12M", "P30D", "R10Y", "R1Y;P1Y", "P30D;R2Y", "12 months"]
-SERIAL, BOOK = "serial", "book"
-EVER = (datetime.date.min.toordinal(), datetime.date.max.toordinal())
 
 
-def days_of(text):
-    """Returns the first and the last day of a date, or None."""
-    found = re.fullmatch(r"(\d{4})(?:-(\d\d)(?:-(\d\d))?)?", text)
-    if not found:
-        return None
-    year, month, day = int(found[1]), found[2] and int(found[2]), found[3] and int(found[3])
-    try:
-        first = datetime.date(year, month or 1, day or 1)
-        months = month or 12
-        last = datetime.date(year, months, day or calendar.monthrange(year, months)[1])
-    except (ValueError, IndexError):
-        return None
-    return first.toordinal(), last.toordinal()
-
-
-def query_days_of(text):
-    """Returns the days of a date of a query, which may lack its hyphens."""
-    if re.fullmatch(r"\d{6}|\d{8}", text):
-        text = "-".join(it for it in (text[:4], text[4:6], text[6:]) if it)
-    return days_of(text)
-
-
-def volume_of(text):
-    return int(text) if re.fullmatch(r"\d{1,9}", text) else None
+def encoded(text):
+    """Returns a text with each byte that is not a letter or a digit percent-encoded."""
+    return "".join(chr(it) if chr(it).isascii() and chr(it).isalnum() else f"%{it:02X}" for it in text.encode())
 
 
 def is_ip(kind, text):
@@ -92,46 +86,12 @@ def shown_host(url):
     return f"[{ipaddress.IPv6Address(host[1:-1]).compressed}]" if host.startswith("[") else host
 
 
-class Row:
-    """A row of a list, with what its cells mean."""
+class Row(Record):
+    """A row of a list, or a record that is skipped."""
 
     def __init__(self, package, number, cells):
+        super().__init__(cells)
         self.package, self.number, self.cells = package, number, cells
-        kind = cells["publication_type"].lower()
-        self.kind = BOOK if kind == "monograph" else SERIAL
-        known = ISBNS if self.kind == BOOK else ISSNS
-        self.identifiers = {it for it in (cells["print_identifier"], cells["online_identifier"]) if it in known}
-        first, last = cells["date_first_issue_online"], cells["date_last_issue_online"]
-        self.first = self.last = self.low = self.high = self.aside = None
-        if kind not in ("", "serial", "monograph"):
-            self.aside = "OtherType"
-        elif not self.identifiers:
-            self.aside = "NoIsbn" if self.kind == BOOK else "NoIssn"
-        elif self.kind == SERIAL:
-            if (first and not days_of(first)) or (last and not days_of(last)):
-                self.aside = "BadDate"
-            else:
-                self.first = days_of(first)[0] if first else None
-                self.last = days_of(last)[1] if last else None
-                if first and last and self.first > self.last:
-                    self.aside = "Reversed"
-            self.low, self.high = volume_of(cells["num_first_vol_online"]), volume_of(cells["num_last_vol_online"])
-            if self.low is not None and self.high is not None and self.low > self.high:
-                self.low = self.high = None
-
-    def coverage(self):
-        return (EVER[0] if self.first is None else self.first, EVER[1] if self.last is None else self.last)
-
-    def has_dates(self):
-        return self.first is not None or self.last is not None
-
-
-def meet(one, other):
-    return max(one[0], other[0]) <= min(one[1], other[1])
-
-
-def lies_in(one, other):
-    return other[0] <= one[0] and one[1] <= other[1]
 
 
 class Query:
@@ -156,69 +116,15 @@ class Query:
         dates = [it for it in (query_days_of(value) for key, value in pairs if key == "rft.date") if it]
         volumes = [it for it in (volume_of(value) for key, value in pairs if key == "rft.volume") if it is not None]
         self.days, self.volume = dates[0] if dates else None, volumes[0] if volumes else None
+        keys = {"article": "rft.atitle", "title": "rft.jtitle", "volume": "rft.volume"}
+        self.parts = {name: dict(pairs).get(key, "") for name, key in keys.items()}
         self.is_cited = any(key in ("rft.jtitle", "rft.btitle", "rft.atitle") and value.strip() for key, value in pairs)
 
 
-def grade_of(row, query):
-    """Returns the grade of a row, or None if it does not match."""
-    if not row.identifiers & query.identifiers:
-        return None
-    if row.kind == BOOK:
-        return "untested"
-    tests_date = query.days is not None and row.has_dates()
-    if tests_date and not meet(query.days, row.coverage()):
-        return None
-    tests_volume = query.volume is not None and (row.low is not None or row.high is not None)
-    if tests_volume:
-        low, high = 0 if row.low is None else row.low, 10**9 if row.high is None else row.high
-        if not low <= query.volume <= high:
-            return None
-    if not tests_date and not tests_volume:
-        return "untested"
-    return "overlap" if tests_date and not lies_in(query.days, row.coverage()) else "inside"
-
-
-def dated_grade_of(row, query):
-    """Returns the grade of a serial's row by the date, if that is covered and the volume is not; otherwise None."""
-    if row.kind == BOOK or not row.identifiers & query.identifiers or query.days is None or not row.has_dates():
-        return None
-    if grade_of(row, query) or not meet(query.days, row.coverage()):
-        return None
-    return "inside" if lies_in(query.days, row.coverage()) else "overlap"
-
-
-def months_before(day, months):
-    """Returns the first day of the month that is so many months before that of a day."""
-    at = day.year * 12 + day.month - 1 - months
-    return datetime.date(at // 12, at % 12 + 1, 1)
-
-
-def open_days(text, today):
-    """Returns the days that an embargo leaves open on a day, or None if it has another form."""
-    if not text:
-        return EVER
-    kinds, days = [], EVER
-    for part in text.split(";"):
-        found = re.fullmatch(r"([RP])(\d{1,9})([DMY])", part)
-        if not found or int(found[2]) == 0:
-            return None
-        count = int(found[2])
-        if found[3] == "D":
-            edge = today - datetime.timedelta(days=count - 1)
-        elif found[3] == "M":
-            edge = months_before(today, count - 1)
-        else:
-            edge = datetime.date(today.year - count + 1, 1, 1)
-        kinds.append(found[1])
-        part = (edge.toordinal(), EVER[1]) if found[1] == "R" else (EVER[0], edge.toordinal() - 1)
-        days = (max(days[0], part[0]), min(days[1], part[1]))
-    return days if len(set(kinds)) == len(kinds) <= 2 else None
-
-
 class Hit:
-    """A row that answers a query, with its availability and its rank."""
+    """A row that a query finds, with its availability and its rank."""
 
-    def __init__(self, row, grade, query, world):
+    def __init__(self, row, grade, query, world, is_match):
         self.row, self.grade = row, grade
         self.is_first = query.is_book_first and row.kind == BOOK
         left = open_days(row.cells["embargo_info"], world.today)
@@ -233,8 +139,21 @@ class Hit:
                 self.availability = "partly" if days[0] <= days[1] and meet(query.days, days) else "embargoed"
         self.is_open = self.availability != "embargoed" and row.cells["coverage_depth"] != "abstracts"
         self.url = row.cells["title_url"]
-        self.is_link = host_of(self.url) is not None
-        self.link = world.through_proxy(row) if self.is_link else self.url
+        self.page = world.through_proxy(row, self.url) if host_of(self.url) else self.url
+        self.article = ""
+        is_whole_text = row.cells["coverage_depth"] in ("", "fulltext")
+        if is_match and is_whole_text and self.availability in ("available", "not compared"):
+            self.article = world.article_of(row, query)
+        self.link = self.article or self.page
+        self.is_link = bool(self.article) or host_of(self.url) is not None
+
+    def size(self, world):
+        """Returns the bytes of the texts of the hit, with room for the link to its page."""
+        labels = ("publication_title", "title_id", "coverage_depth", "embargo_info", "access_type")
+        texts = [self.row.package, name_of(self.row.package), self.article, *[self.row.cells[it] for it in labels]]
+        prefix = world.prefix_for(self.row, self.url) if host_of(self.url) else ""
+        page = len(prefix) + len(self.url.encode()) * (3 if prefix.endswith("qurl=") else 1)
+        return sum(len(it.encode()) for it in texts) + page
 
     def rank(self, world):
         full = self.row.cells["coverage_depth"] == "fulltext"
@@ -245,10 +164,21 @@ class Hit:
                 not (full and self.row.cells["access_type"] == "F"), place)
 
 
-def looks_at(cells):
-    """Returns how many rows a row counts as, by its texts."""
+def text_looks(cells):
+    """Returns what the texts of a hit count as."""
     texts = ["publication_title", "title_url", "title_id", "coverage_depth", "embargo_info", "access_type"]
-    return 1 + sum(len(cells[label].encode()) // SIZE for label in texts)
+    return sum(len(cells[label].encode()) // SIZE for label in texts)
+
+
+class Found:
+    """What a search finds in a list, and whether that is all."""
+
+    def __init__(self, package, hits, is_whole):
+        self.package, self.hits, self.is_whole = package, hits, is_whole
+
+
+def hits_of(found):
+    return [hit for it in found for hit in it.hits]
 
 
 class World:
@@ -258,9 +188,10 @@ class World:
         self.dice, self.is_long = dice, is_long
         self.today = datetime.date(2024, 5, 17) + datetime.timedelta(days=dice.randrange(400))
         names = dice.sample(["Acme", "Basic_All", "Coast", "Delta"], dice.randint(1, 3))
-        long = dice.choice(names) if is_long else None
-        self.lists = {name: self.random_list(name, name == long) for name in sorted(names)}
+        long = dice.sample(names, dice.randint(1, len(names))) if is_long else []
+        self.lists = {name: self.random_list(name, name in long) for name in sorted(names)}
         self.packages, self.titles, self.proxy, self.except_hosts, self.redirects = [], [], "", [], False
+        self.platforms = {}
         self.has_site = dice.random() < 0.7
         if self.has_site:
             self.random_site(names)
@@ -269,7 +200,7 @@ class World:
         records = [self.random_record(number) for number in range(self.dice.randint(0, 12))]
         if is_long:
             at = self.dice.randint(0, len(records))
-            records[at:at] = self.equal_records(ROWS - self.dice.randint(0, 6))
+            records[at:at] = self.equal_records(self.dice.choice(COUNTS))
         return [Row(package, number, cells) for number, cells in enumerate(records, 2)]
 
     def random_record(self, number):
@@ -286,18 +217,18 @@ class World:
             pick(["", "F", "P"]), kind]))
 
     def equal_records(self, count):
-        """Returns so many records of one journal. Most of them are equal, and match every query or few dates. They have
-        few bytes, since test_http takes lists of less than 1 MiB."""
+        """Returns so many records of one journal. Most of them are equal, and match every query or few dates. A few
+        have long titles, at their front or among them."""
         journal = {"print_identifier": ISSNS[0], "online_identifier": "", "date_first_issue_online": "",
                    "date_last_issue_online": "", "publication_type": ""}
         most = dict.fromkeys(LABELS, "") | journal | self.dice.choice([
             {"title_url": "https://a.example/", "coverage_depth": "fulltext"},
             {"date_first_issue_online": "1950", "date_last_issue_online": "1951", "coverage_depth": "fulltext"}])
         others = [self.random_record("long") | journal for _ in range(2)]
-        others[0]["publication_title"] = "T" * self.dice.choice([SIZE - 1, SIZE, 3 * SIZE])
         records = self.dice.choices([most, *others], [98, 1, 1], k=count)
-        while sum(map(looks_at, records)) > count:
-            records.pop()
+        for length in self.dice.choice(TITLES):
+            titled = self.random_record("titled") | journal | {"publication_title": "T" * length}
+            records[self.dice.choice([0, self.dice.randrange(count)])] = titled
         return records
 
     def random_site(self, names):
@@ -308,7 +239,9 @@ class World:
             self.except_hosts = self.dice.sample(["a.example", "b.example"], self.dice.randint(0, 1))
         for name in names:
             if chance() < 0.5:
-                self.packages.append({"id": name, **self.random_held()})
+                article = {"article": self.dice.choice(ARTICLES)} if chance() < 0.8 else {}
+                self.packages.append({"id": name, **self.random_held(), **article})
+        self.platforms = {it: self.dice.choice(ARTICLES) for it in ("a.example", "b.example") if chance() < 0.5}
         for name in names:
             for title in dict.fromkeys(row.cells["title_id"] for row in self.lists[name]):
                 if title and chance() < 0.15:
@@ -331,21 +264,36 @@ class World:
         for kind, tables in (("package", self.packages), ("title", self.titles)):
             for table in tables:
                 lines += [f"[[{kind}]]", *[f"{key} = {json.dumps(value)}" for key, value in table.items()]]
+        for host, article in self.platforms.items():
+            lines += ["[[platform]]", f'host = "{host}"', f'article = "{article}"']
         return "\n".join(lines) + "\n"
 
     def list_text(self, package):
         records = [LABELS, *[list(it.cells.values()) for it in self.lists[package]]]
         return "".join("\t".join(it) + "\n" for it in records)
 
-    def through_proxy(self, row):
-        """Returns the link of a row, through the proxy if it needs that."""
-        url, host = row.cells["title_url"], host_of(row.cells["title_url"])
-        is_free = row.cells["access_type"] == "F"
-        if not self.proxy or is_free or any(host == it or host.endswith(f".{it}") for it in self.except_hosts):
-            return url
-        if self.proxy.endswith("qurl="):
-            url = re.sub(r"[^0-9A-Za-z]", lambda it: f"%{ord(it[0]):02X}", url)
-        return self.proxy + url
+    def prefix_for(self, row, url):
+        """Returns what precedes an address of a row: the prefix of the proxy if it needs that, or nothing."""
+        host, is_free = host_of(url), row.cells["access_type"] == "F"
+        if is_free or any(host == it or host.endswith(f".{it}") for it in self.except_hosts):
+            return ""
+        return self.proxy
+
+    def through_proxy(self, row, url):
+        """Returns the link to an address of a row, through the proxy if it needs that."""
+        prefix = self.prefix_for(row, url)
+        return prefix + (encoded(url) if prefix.endswith("qurl=") else url)
+
+    def article_of(self, row, query):
+        """Returns the link to the article of a query in a row, or an empty text."""
+        table = next((it for it in self.packages if it["id"] == row.package), {})
+        template = table.get("article") or self.platforms.get(host_of(row.cells["title_url"]))
+        values = {**query.parts, "title_id": row.cells["title_id"]}
+        values = {key: text for key, text in values.items() if len(text.encode()) <= VALUE and text not in (".", "..")}
+        if not template or not all(values.get(name) for name in re.findall(r"{([^}]*)}", template)):
+            return ""
+        link = self.through_proxy(row, re.sub(r"{([^}]*)}", lambda it: encoded(values[it[1]]), template))
+        return link if len(link) <= LINK else ""
 
     def table_of(self, row):
         for table in self.titles:
@@ -370,38 +318,64 @@ class World:
         days = self.library_days(row)
         return days is not None and meet(days, row.coverage())
 
-    def looked_at(self, query, packages):
-        """Returns the rows by package at which a query looks."""
-        found, left = {package: [] for package in packages}, ROWS
-        for package in packages:
-            for row in self.rows_with(query, package):
-                left -= looks_at(row.cells)
-                if left < 0:
-                    return found
-                found[package].append(row)
-        return found
+    def may_have(self, package):
+        """Returns whether the library may have titles of a package."""
+        table = next((it for it in self.packages if it["id"] == package), {})
+        has_title = any(it["package"] == package and it.get("held", True) for it in self.titles)
+        return table.get("held", True) or has_title
 
     def rows_with(self, query, package):
+        """Returns the rows that a query may look at."""
+        if not self.may_have(package):
+            return []
         return [it for it in self.lists[package] if not it.aside and it.identifiers & query.identifiers]
 
-    def is_whole(self, query, packages):
-        """Returns whether a query looks at all rows of some packages that have one of its identifiers."""
-        return sum(looks_at(row.cells) for package in packages for row in self.rows_with(query, package)) <= ROWS
+    def shares(self, counts):
+        """Returns at how many rows of each list a query looks, and as how many others their texts may count."""
+        share = max(ROWS // max(sum(map(bool, counts)), 1), 1)
+        if sum(counts) <= ROWS:
+            return ROWS, share
+        left = max(ROWS - sum(min(it, share) for it in counts), 0)
+        return share + left // sum(it > share for it in counts), share
 
-    def hits(self, query, packages):
-        """Returns the hits of a query by package, in the order of the files."""
-        found = {}
-        for package, rows in self.looked_at(query, packages).items():
-            graded = [(it, grade_of(it, query)) for it in rows]
-            found[package] = [Hit(row, grade, query, self) for row, grade in graded if grade and self.has(row, query)]
-        return found
+    def search(self, query, packages, grade):
+        """Returns what a query finds in each package, in the order of the file, by a function that grades a row."""
+        rows = {it: self.rows_with(query, it) for it in packages}
+        most, share = self.shares([len(it) for it in rows.values()])
+        return [self.found_in(query, grade, package, rows[package], most, share) for package in packages]
+
+    def found_in(self, query, grade, package, rows, most, left):
+        hits, is_whole = [], len(rows) <= most
+        for row in rows[:most]:
+            graded = grade(row, query)
+            if not graded or not self.has(row, query):
+                continue
+            looks = text_looks(row.cells)
+            if looks > left:
+                is_whole = False
+            else:
+                left -= looks
+                hits.append(Hit(row, graded, query, self, grade is grade_of))
+        return Found(package, hits, is_whole)
 
     def dated(self, query, packages):
-        """Returns the rows that cover the date of a query and do not have its volume, in the order of their ranks."""
-        rows = [it for rows in self.looked_at(query, packages).values() for it in rows]
-        graded = [(it, dated_grade_of(it, query)) for it in rows]
-        found = [Hit(row, grade, query, self) for row, grade in graded if grade and self.has(row, query)]
-        return sorted(found, key=lambda it: it.rank(self))
+        """Returns the rows that cover the date of a query and do not have its volume, and whether these are all."""
+        if query.days is None or query.volume is None:
+            return [], True
+        found = self.search(query, packages, dated_grade_of)
+        return self.ranked(found), all(it.is_whole for it in found)
+
+    def ranked(self, found):
+        return sorted(hits_of(found), key=lambda it: it.rank(self))
+
+    def within(self, hits):
+        """Returns the first hits, as far as a reply shows them."""
+        left = BYTES
+        for at, hit in enumerate(hits[:SHOWN]):
+            left -= hit.size(self)
+            if left <= 0:
+                return hits[:at]
+        return hits[:SHOWN]
 
 
 def name_of(package):
@@ -422,7 +396,8 @@ class Request:
         for key, values, chance in (
                 ("url_ver", ["Z39.88-2004", "Z39.88-2004", ""], 0.3), ("rft.issn", known, 0.8),
                 ("rft_val_fmt", formats, 0.2), ("rft.eissn", ISSNS, 0.2), ("rft.isbn", ISBNS, 0.4),
-                ("rft.jtitle", ["Acta"], 0.2), ("rft.date", dates, 0.7), ("rft.volume", ["3", "007", "12"], 0.3),
+                ("rft.jtitle", ["Acta", "T" * VALUE], 0.2), ("rft.date", dates, 0.7),
+                ("rft.volume", ["3", "007", "12"], 0.3), ("rft.atitle", VALUES, 0.6),
                 ("rft.genre", ["article", "Journal", "book", "bookitem", ""], 0.4)):
             if dice.random() < chance:
                 self.pairs.append((key, pick(values)))
@@ -434,7 +409,7 @@ class Request:
             self.pairs = [("q", pick(["a", "ACTA", "ä", "<B>", "delta\"", " beta ", "STRASSE", "z", " "]))]
         # The first such piece of a query has precedence over the field Accept, but for /go.
         if self.path not in ("/go", "/nothing") and dice.random() < 0.3:
-            self.format = pick(["text", "json", "html"])
+            self.format = pick(["text", "json", "html", *["sfx"] * self.path.startswith("/resolve")])
             self.pairs.append(("format", self.format))
 
     def recent_dates(self):
@@ -473,18 +448,20 @@ class Request:
         if not self.pairs and self.format == "html":
             return 200, None, None
         query = Query(self.pairs)
+        if query.fault and self.format == "sfx":
+            return 200, None, ([], [])
         if query.fault:
             status = (404 if self.path == "/go" else 200) if query.is_cited else 400
             return status, None, self.fault(f"nothing to look up: {query.fault}" if query.is_cited else query.fault)
-        found = self.world.hits(query, packages)
-        ranked = sorted((it for hits in found.values() for it in hits), key=lambda it: it.rank(self.world))
+        found = self.world.search(query, packages, grade_of)
+        ranked, is_whole = self.world.ranked(found), all(it.is_whole for it in found)
         if self.path == "/go":
             linked = [it for it in ranked if it.is_link]
             best = next((it for it in linked if it.is_open), next(iter(linked), None))
             if best:
                 return 302, best.link, None
-            return 404 if self.world.is_whole(query, packages) else 200, None, self.body(query, packages, found, ranked)
-        if self.format == "html" and self.world.redirects and self.is_sole(query, packages, ranked):
+            return 404 if is_whole else 200, None, self.body(query, packages, found, ranked)
+        if self.format == "html" and self.world.redirects and is_whole and self.is_sole(query, ranked):
             return 302, ranked[0].link, None
         return 200, None, self.body(query, packages, found, ranked)
 
@@ -503,8 +480,8 @@ class Request:
         """Returns the body of a fault, a line of text. Other representations are not compared."""
         return f"{text}\n" if self.format == "text" else None
 
-    def is_sole(self, query, packages, ranked):
-        if len(ranked) != 1 or not self.world.is_whole(query, packages):
+    def is_sole(self, query, ranked):
+        if len(ranked) != 1 or not self.world.within(ranked):
             return False
         hit = ranked[0]
         return (hit.availability == "available" and hit.grade == "inside" and hit.is_link
@@ -514,32 +491,32 @@ class Request:
     def body(self, query, packages, found, ranked):
         """Returns the text, or the hits of JSON or the links of a page and those of the rows whose date is covered."""
         if self.format == "text":
-            return self.text_body(query, packages, found)
-        dated, is_whole = self.world.dated(query, packages), self.world.is_whole(query, packages)
+            return self.text_body(found)
+        dated, is_all = self.world.dated(query, packages)
+        partial = [it.package for it in found if not it.is_whole]
+        tops = [self.world.within(hits) for hits in (ranked, dated)]
+        left = left_out(len(ranked) - len(tops[0]), not partial)
         if self.format == "json":
-            # Rows whose date is covered are looked for only if the query has a volume too.
-            is_all = is_whole or query.days is None or query.volume is None
-            return [[json_of(it) for it in ranked[:SHOWN]] + left_out(ranked, is_whole),
-                    [json_of(it) | {"why": "volume"} for it in dated[:SHOWN]] + left_out(dated, is_all)]
-        shown = [[it.link for it in hits[:SHOWN] if it.is_link] for hits in (ranked, dated)]
-        return *shown, not ranked, left_out(ranked, is_whole)
+            return [[json_of(it) for it in tops[0]] + left,
+                    [json_of(it) | {"why": "volume"} for it in tops[1]] + left_out(len(dated) - len(tops[1]), is_all),
+                    [{"package": it, "release": name_of(it)} for it in partial]]
+        shown = [[it.link for it in hits if it.is_link] for hits in tops]
+        return (shown[0], partial) if self.format == "sfx" else (*shown, not ranked, left, partial)
 
-    def text_body(self, query, packages, found):
-        lines, left = [], SHOWN
-        for at, (package, hits) in enumerate(found.items(), 1):
-            least = "" if self.world.is_whole(query, packages[:at]) else "at least "
-            lines.append(f"release {name_of(package)} hits {least}{len(hits)}")
-            for it in hits[:left]:
+    def text_body(self, found):
+        lines, shown = [], self.world.within(hits_of(found))
+        for it in found:
+            lines.append(f"release {name_of(it.package)} hits {'' if it.is_whole else 'at least '}{len(it.hits)}")
+            for hit in it.hits[:len(shown)]:
                 labels = ("title_id", "coverage_depth", "embargo_info", "access_type")
-                cells = [it.row.cells["publication_title"], it.url, *[it.row.cells[label] for label in labels]]
-                lines.append("\t".join([str(it.row.number), it.grade, *cells]))
-            left -= len(hits[:left])
+                cells = [hit.row.cells["publication_title"], hit.url, *[hit.row.cells[label] for label in labels]]
+                lines.append("\t".join([str(hit.row.number), hit.grade, *cells]))
+            shown = shown[len(it.hits):]
         return "".join(f"{it}\n" for it in lines)
 
 
-def left_out(hits, is_whole):
+def left_out(count, is_whole):
     """Returns the last item of a list in JSON, which says how many hits are left out, or none."""
-    count = max(len(hits) - SHOWN, 0)
     if not is_whole:
         return [{"more_at_least": count}]
     return [{"more": count}] if count else []
@@ -549,11 +526,11 @@ def json_of(hit):
     """Returns the members of a hit in JSON, but those with coverage in days, volumes and words."""
     cells = hit.row.cells
     return {"package": hit.row.package, "release": name_of(hit.row.package), "record": hit.row.number,
-            "grade": hit.grade, "availability": hit.availability, "title": cells["publication_title"], "url": hit.link,
+            "grade": hit.grade, "availability": hit.availability, "title": cells["publication_title"], "url": hit.page,
             "title_id": cells["title_id"], "depth": cells["coverage_depth"], "target": hit.url,
             "host": shown_host(hit.url),
             "embargo": cells["embargo_info"], "access": cells["access_type"],
-            "article": "", "note": ""}
+            "article": hit.article, "note": ""}
 
 
 class Links(html.parser.HTMLParser):
@@ -611,16 +588,23 @@ def differences(request, line):
     if request.format == "json":
         answer = json.loads(bytes_given)
         found = [[{key: it[key] for key in wanted if key in it} for it, wanted in zip(given, rows)] + given[len(rows):]
-                 for rows, given in zip(body, (answer["hits"], answer["also"]))]
+                 for rows, given in zip(body, (answer["hits"], answer["also"], answer["more_in"]))]
         return None if found == body else f"hits {found[:3]} in place of {body[:3]}"
+    if request.format == "sfx":
+        parts = xml.etree.ElementTree.fromstring(bytes_given).find("ctx_obj")
+        found = [[it.findtext("target_url") for it in parts.find("ctx_obj_targets")],
+                 [it.text for it in parts.findall("more_in/*")]]
+        return None if found == [*body] else f"targets {found} in place of {body}"
     if request.format == "html":
-        text, (hits, dated, is_none, left) = bytes_given.decode(), body
+        text, (hits, dated, is_none, left, partial) = bytes_given.decode(), body
         found, words = Links(text).found, re.findall(r"<p>Not shown: ([^.]*)\.", text)
+        named = re.findall(r"<p>More may be found in <bdi>([^<]*)</bdi>", text)
         # Without hits for the date, a page then shows those of other dates, which have no place in this model.
         wanted = hits + dated
         shown = found[:len(wanted)] if is_none else found
         counts = [str(it["more"]) if "more" in it else f"at least {it['more_at_least']}" for it in left]
-        return None if shown == wanted and words == counts else f"links {found}, {words} in place of {body}"
+        is_right = shown == wanted and words == counts and named == ([", ".join(partial)] if partial else [])
+        return None if is_right else f"links {found}, {words}, {named} in place of {body}"
     text = bytes_given.decode()
     return None if text == body else f"{text!r} in place of {body!r}"
 

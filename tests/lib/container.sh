@@ -22,7 +22,7 @@ SuccessAction=exit-force
 FailureAction=exit-force
 [Service]
 Type=oneshot
-Environment=PATH=/opt/bin:/usr/bin
+Environment=PATH=/opt/bin:/usr/bin:/usr/sbin
 StandardOutput=file:/session/said
 StandardError=file:/session/said
 ExecStart=/bin/sh /session/inside
@@ -34,7 +34,8 @@ systemd() {
   : > said
   timeout 60 systemd-nspawn --quiet --register=no --keep-unit --volatile=yes -D / --private-network --machine=kbfeed$$ \
     --bind="$PWD:/session" --bind="$PWD/state:/var/lib/kbfeed" --bind-ro="$PWD/etc:/etc/kbfeed" \
-    --bind-ro=/etc/alternatives --bind-ro="$PWD/root/opt:/opt" --bind-ro="$PWD/units:/etc/systemd/system" \
+    --bind-ro=/etc/alternatives --bind-ro=/etc/pam.d --bind-ro=/etc/security --bind-ro="$PWD/root/opt:/opt" \
+    --bind-ro="$PWD/units:/etc/systemd/system" \
     --bind-ro="$TESTS/../samples/fleet/sysusers.conf:/etc/sysusers.d/kbfeed.conf" \
     --boot systemd.unit=inside.service systemd.firstboot=no > boot 2>&1 < /dev/null || tail -n 4 boot
   cat said
