@@ -197,7 +197,7 @@ class Asker:
             self.differs(target, f"fragment: {status} {kind} {wrong}")
 
     def ask_sfx(self, target, path, pairs, hits):
-        linked = [it for it in hits if it.get("host")]
+        linked = [it for it in hits if it.get("host") or it.get("article")]
         alone = [("sfx.response_type", "multi_obj_xml"), ("svc.fulltext", "yes")]
         for more, wanted in (([("format", "sfx")], linked), (alone, [it for it in linked if is_open(it)])):
             _, kind, body = self.answer(path, [*pairs, *more])

@@ -4,17 +4,18 @@
 diff_random.py PAIRS SEED
 
 Each pair is written as two files in the current folder. The plain program reads them by the rules of
-docs/formats/KBART.md and pairs their rows by search. It has to agree with `kbfeed diff --json` on every member of the
-object, and on the status with random bounds. Prints each pair that differs, and then the number of pairs. Fails if a
-pair differs, or if fewer than one in ten of the pairs has removed, changed and added rows, rows paired by URL, and
-equal rows."""
-import calendar
+docs/formats/KBART.md (holdings.py) and pairs their rows by search. It has to agree with `kbfeed diff --json` on
+every member of the object, and on the status with random bounds. Prints each pair that differs, and then the number
+of pairs. Fails if a pair differs, or if fewer than one in ten of the pairs has removed, changed and added rows, rows
+paired by URL, and equal rows."""
 import datetime
 import json
 import random
-import re
 import subprocess
 import sys
+
+sys.dont_write_bytecode = True
+from holdings import Record  # noqa: E402
 
 OLD, NEW = "Acme_Global_All_2024-01-01.txt", "Acme_Global_All_2024-02-01.txt"
 LABELS = ["publication_title", "print_identifier", "online_identifier", "date_first_issue_online",
@@ -38,76 +39,17 @@ VALUES = {
 REASONS = ["OtherType", "NoIssn", "NoIsbn", "BadDate", "Reversed"]
 
 
-def issn_of(text):
-    text = text.strip(" ")
-    if not re.fullmatch(r"[0-9]{4}-?[0-9]{3}[0-9Xx]", text):
-        return None
-    digits = text.replace("-", "").upper()
-    total = sum((10 if digit == "X" else int(digit)) * (8 - at) for at, digit in enumerate(digits))
-    return f"{digits[:4]}-{digits[4:]}" if total % 11 == 0 else None
-
-
-def isbn_of(text):
-    digits = text.strip(" ").replace("-", "").upper()
-    if re.fullmatch(r"97[89][0-9]{10}", digits):
-        total = sum(int(digit) * (3 if at % 2 else 1) for at, digit in enumerate(digits))
-        return digits if total % 10 == 0 else None
-    if not re.fullmatch(r"[0-9]{9}[0-9X]", digits):
-        return None
-    if sum((10 if digit == "X" else int(digit)) * (10 - at) for at, digit in enumerate(digits)) % 11 != 0:
-        return None
-    front = "978" + digits[:9]
-    total = sum(int(digit) * (3 if at % 2 else 1) for at, digit in enumerate(front))
-    return front + str(-total % 10)
-
-
-def days_of(text):
-    """Returns the first and the last day of a date, or None if it is not one."""
-    found = re.fullmatch(r"([0-9]{4})(?:-([0-9]{2}))?(?:-([0-9]{2}))?", text.strip(" "))
-    if not found:
-        return None
-    year, month, day = (int(part) if part else None for part in found.groups())
-    try:
-        first = datetime.date(year, month or 1, day or 1)
-        last_month = month or 12
-        last = datetime.date(year, last_month, day or calendar.monthrange(year, last_month)[1])
-    except (ValueError, IndexError):
-        return None
-    return first.isoformat(), last.isoformat()
-
-
-def volume_of(text):
-    text = text.strip(" ")
-    return int(text) if re.fullmatch(r"[0-9]{1,9}", text) else None
+def day_of(number):
+    return None if number is None else datetime.date.fromordinal(number).isoformat()
 
 
 def read_record(fields):
     """Returns the values of a row's columns, or the reason to skip the record."""
-    kind = fields["publication_type"].strip(" ").lower()
-    if kind not in ("", "serial", "monograph"):
-        return "OtherType"
-    is_book = kind == "monograph"
-    read = isbn_of if is_book else issn_of
-    row = dict(fields, publication_type="monograph" if is_book else "serial")
-    row["print_identifier"] = read(fields["print_identifier"])
-    row["online_identifier"] = read(fields["online_identifier"])
-    if row["print_identifier"] is None and row["online_identifier"] is None:
-        return "NoIsbn" if is_book else "NoIssn"
-    coverage = ["date_first_issue_online", "date_last_issue_online", "num_first_vol_online", "num_last_vol_online"]
-    row.update(dict.fromkeys(coverage))
-    if is_book:
-        return row
-    first, last = fields[coverage[0]], fields[coverage[1]]
-    if any(text.strip(" ") and not days_of(text) for text in (first, last)):
-        return "BadDate"
-    if days_of(first) and days_of(last) and days_of(first)[0] > days_of(last)[1]:
-        return "Reversed"
-    row["date_first_issue_online"] = days_of(first)[0] if days_of(first) else None
-    row["date_last_issue_online"] = days_of(last)[1] if days_of(last) else None
-    volumes = volume_of(fields[coverage[2]]), volume_of(fields[coverage[3]])
-    if None in volumes or volumes[0] <= volumes[1]:
-        row["num_first_vol_online"], row["num_last_vol_online"] = volumes
-    return row
+    record = Record(fields)
+    return record.aside or dict(
+        fields, publication_type=record.kind, print_identifier=record.print, online_identifier=record.online,
+        date_first_issue_online=day_of(record.first), date_last_issue_online=day_of(record.last),
+        num_first_vol_online=record.low, num_last_vol_online=record.high)
 
 
 def read_list(records):
