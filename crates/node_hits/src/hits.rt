@@ -2,6 +2,7 @@
 ghost use Rattle.std.specs.Prelude.{◌≡◌, ◌-◌, IfOk, false, option_map};
 ghost use Rattle.std.specs.Bool.{OnFalse};
 ghost use Rattle.std.specs.Cow.{cow_slice_items};
+ghost use Rattle.std.specs.Rc.{rc_slice_items};
 ghost use Rattle.feed_answer.specs.HitValue.{hit_of};
 ghost use Rattle.node_site.specs.Held.{library_has};
 ghost use Rattle.node_site.specs.Hosts.{is_link};
@@ -21,10 +22,14 @@ use feed_answer::{Availability, Grade, Hit, Query, Today, availability_of};
 use feed_dates::DayRange;
 use feed_kbart::{Holdings, Kind, Row};
 use feed_names::ReleaseName;
-use node_site::{SiteFile, is_direct, left_beside, library_has, may_be_link, note_on, proxied};
+use node_site::{
+    Prefix, SiteFile, SiteLinks, again, is_direct, left_beside, library_has, may_be_link, note_on,
+    through,
+};
 use std::alloc::{AllocError, Global};
 use std::borrow::CowSlice;
 use std::marker::Model;
+use std::rc::RcSlice;
 
 /// A release among those of a library, on a day.
 #[derive(Clone, Copy)]
@@ -47,9 +52,9 @@ pub struct ReleaseHit<'a> {
     asked: Option<DayRange>,
     grade: Grade,
     availability: Availability,
-    // Whether the link to its page never goes through a proxy.
-    is_direct: bool,
-    article: Option<Vec<u8>>,
+    // The prefix of the link to its page.
+    prefix: Option<Prefix<'a>>,
+    article: Option<RcSlice<u8>>,
     place: usize,
     is_first: bool,
     // Computed once, since it is compared with those of many other hits.
@@ -58,8 +63,8 @@ pub struct ReleaseHit<'a> {
 
 impl<'a> Model for ReleaseHit<'a> {
     ghost use Rattle.std.specs.Prelude.{◌≡◌, [], option_map, unwrap_or};
+    ghost use Rattle.std.specs.Rc.{rc_slice_items};
     ghost use Rattle.node_site.specs.Notes.{note_on};
-    ghost use Rattle.node_site.specs.Proxies.{prefix_for};
     ghost use Rattle.node_hits.specs.Hits.{ReleaseHitValue, holds_days, rank_by};
 
     ghost Value = { ReleaseHitValue };
@@ -69,8 +74,8 @@ impl<'a> Model for ReleaseHit<'a> {
       hit = record { row = f.row.now; grade = f.grade };
       asked = f.asked;
       availability = f.availability;
-      prefix = prefix_for f.site.now f.row.now.url f.is_direct;
-      article = option_map (λ link. link.items) f.article;
+      prefix = f.prefix;
+      article = option_map rc_slice_items f.article;
       note = unwrap_or (note_on f.site.now f.name.now.package_name f.row.now.title_id) [];
       place = f.place;
       is_held_whole = holds_days f.site.now f.name.now f.row.now f.asked;
@@ -87,10 +92,13 @@ impl<'a> ReleaseHit<'a> {
         release: &LibraryRelease<'a>,
         site_place: usize,
         search: &mut Search<'_>,
+        links: &mut SiteLinks<'a>,
         hit: &Hit<'a>,
     ) -> Result<ReleaseHit<'a>, AllocError>
-        requires { site_place ≡ package_place release.now.site.now release.now.name.now.package_name }
+        requires place { site_place ≡ package_place release.now.site.now release.now.name.now.package_name }
+        requires of { links.old ≡ release.now.site.now }
         ensures same { search.new ≡ search.old }
+        ensures site { links.new ≡ links.old }
         ensures hit { IfOk result (λ found. found
             ≡ release_hit release.now.site.now release.now.today.now search.old release.now.name.now
             (hit_of hit.now)) }
@@ -99,7 +107,9 @@ impl<'a> ReleaseHit<'a> {
         let (first, last) = (row.first_day(), row.last_day());
         let days = search.days();
         let availability = availability_of(release.today, row.embargo(), first, last, days);
-        let article = article_of(alloc, site, search, availability, name, row)?;
+        let article = article_of(alloc, search, links, availability, name, row)?;
+        let is_direct = is_direct(site, name.package(), is_free(row));
+        let prefix = links.prefix_for(alloc, row.url(), is_direct)?;
         let kind = row.kind();
         let is_first = search.is_first(kind);
         Ok(ReleaseHit {
@@ -109,7 +119,7 @@ impl<'a> ReleaseHit<'a> {
             asked: days_asked(kind, days),
             grade: hit.grade,
             availability,
-            is_direct: is_direct(site, name.package(), is_free(row)),
+            prefix,
             article,
             place: site_place,
             is_first,
@@ -118,7 +128,7 @@ impl<'a> ReleaseHit<'a> {
     }
 
     /// Returns the same hit again.
-    pub(crate) fn again(&self, alloc: Global) -> Result<ReleaseHit<'a>, AllocError>
+    pub(crate) fn again(&self) -> Result<ReleaseHit<'a>, AllocError>
         ensures { IfOk result (λ found. found ≡ self.now) }
     {
         Ok(ReleaseHit {
@@ -128,8 +138,8 @@ impl<'a> ReleaseHit<'a> {
             asked: self.asked,
             grade: self.grade,
             availability: self.availability,
-            is_direct: self.is_direct,
-            article: link_again(alloc, &self.article)?,
+            prefix: again(&self.prefix),
+            article: shared(&self.article)?,
             place: self.place,
             is_first: self.is_first,
             rank: self.rank,
@@ -147,11 +157,10 @@ impl<'a> ReleaseHit<'a> {
     }
 
     /// Returns the link to the page of the hit: its URL, or that through the proxy.
-    #[tactic(auto, unfolding(node_site::specs::Proxies::proxied))]
     pub fn page(&self, alloc: Global) -> Result<CowSlice<'a, u8, Global>, AllocError>
         ensures { IfOk result (λ link. cow_slice_items link ≡ page_text self.now) }
     {
-        proxied(alloc, self.site, self.row.url(), self.is_direct)
+        through(alloc, &self.prefix, self.row.url())
     }
 
     /// Returns the link of the hit: to the article, or else to its page.
@@ -165,13 +174,12 @@ impl<'a> ReleaseHit<'a> {
     }
 
     /// Returns false only if the link of the hit is not safe. Does not write it.
-    #[tactic(auto, unfolding(node_site::specs::Proxies::proxied))]
     pub(crate) fn may_have_link(&self) -> bool
         ensures { OnFalse result (is_link (link_text self.now) ≡ false) }
     {
         match &self.article {
             Some(_) => true,
-            None => may_be_link(self.site, self.row.url(), self.is_direct),
+            None => may_be_link(&self.prefix, self.row.url()),
         }
     }
 
@@ -179,7 +187,7 @@ impl<'a> ReleaseHit<'a> {
     pub(crate) fn left_beside_page(&self, bytes: usize) -> usize
         ensures { result ≡ bytes - room_of self.now.prefix self.now.hit.row.url }
     {
-        left_beside(bytes, self.site, self.row.url(), self.is_direct)
+        left_beside(bytes, &self.prefix, self.row.url())
     }
 
     /// Returns the note for readers, or nothing.
@@ -254,12 +262,11 @@ impl<'a> ReleaseHit<'a> {
     }
 }
 
-fn link_again(alloc: Global, link: &Option<Vec<u8>>) -> Result<Option<Vec<u8>>, AllocError>
-    ensures { IfOk result (λ again. option_map (λ text. text.items) again
-        ≡ option_map (λ text. text.items) link.now) }
+fn shared(link: &Option<RcSlice<u8>>) -> Result<Option<RcSlice<u8>>, AllocError>
+    ensures { IfOk result (λ again. option_map rc_slice_items again ≡ option_map rc_slice_items link.now) }
 {
     match link {
-        Some(link) => Ok(Some(Vec::from_slice(alloc, link)?)),
+        Some(link) => Ok(Some(link.clone()?)),
         None => Ok(None),
     }
 }
@@ -307,18 +314,19 @@ fn leads_to_article(scope: Scope, availability: Availability, row: &Row) -> bool
 // Returns the link to the cited article in a row, if the row leads to it.
 fn article_of(
     alloc: Global,
-    site: &SiteFile,
     search: &mut Search<'_>,
+    links: &mut SiteLinks<'_>,
     availability: Availability,
     name: &ReleaseName,
     row: &Row,
-) -> Result<Option<Vec<u8>>, AllocError>
+) -> Result<Option<RcSlice<u8>>, AllocError>
     ensures same { search.new ≡ search.old }
-    ensures link { IfOk result (λ link. option_map (λ text. text.items) link
-        ≡ article_of site.now search.old availability name.now row.now) }
+    ensures site { links.new ≡ links.old }
+    ensures link { IfOk result (λ link. option_map rc_slice_items link
+        ≡ article_of links.old search.old availability name.now row.now) }
 {
     if leads_to_article(search.scope(), availability, row) {
-        search.article_link(alloc, site, name, row)
+        search.article_link(alloc, links, name, row)
     } else {
         Ok(None)
     }

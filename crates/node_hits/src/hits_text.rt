@@ -14,6 +14,7 @@ use feed_answer::{write_head, write_hit};
 use feed_bytes::put_all;
 use feed_names::ReleaseName;
 use node_response::Fragment;
+use node_site::SiteLinks;
 use std::alloc::{AllocError, Global};
 
 #[tactic(auto, unfolding(crate::specs::HitsText::cut_head_line))]
@@ -89,10 +90,13 @@ pub fn put_release<'a>(
     tally: &mut Tally<'a>,
     release: &LibraryRelease<'a>,
     search: &mut Search<'_>,
+    links: &mut SiteLinks<'a>,
     shares: Shares,
 ) -> Result<(), AllocError>
-    requires { shares.rows ≤ 10000 }
+    requires rows { shares.rows ≤ 10000 }
+    requires site { links.old ≡ release.now.site.now }
     ensures same { search.new ≡ search.old }
+    ensures kept { links.new ≡ links.old }
     ensures tally { OnOk result (tally.new
         ≡ with_release tally.old (release_found shares release.now.site.now release.now.today.now search.old
         release.now.name.now release.now.holdings.now.rows)) }
@@ -102,7 +106,7 @@ pub fn put_release<'a>(
     let counted = tally.count();
     let shown = tally.shown().len();
     let partial = tally.partial().len();
-    tally.add_release(alloc, release, search, shares)?;
+    tally.add_release(alloc, release, search, links, shares)?;
     let count = tally.count().saturating_sub(counted);
     let is_whole = tally.partial().len() == partial;
     put_head(out, release.name, count, is_whole)?;

@@ -1,5 +1,6 @@
 //! A search for the hits of a query, for the titles whose date is covered, or for those of other dates.
 ghost use Rattle.std.specs.Prelude.{◌≡◌, IfOk, option_map, true};
+ghost use Rattle.std.specs.Rc.{rc_slice_items};
 ghost use Rattle.feed_answer.specs.HitValue.{hit_of};
 ghost use Rattle.feed_answer.specs.Places.{hit_at};
 ghost use Rattle.feed_answer.specs.QueryValue.{QueryValue};
@@ -16,9 +17,10 @@ use feed_answer::{Grade, Hit, Query};
 use feed_dates::DayRange;
 use feed_kbart::{Kind, Row};
 use feed_names::ReleaseName;
-use node_site::{ArticleAddresses, SiteFile, article_link};
+use node_site::{ArticleAddresses, SiteLinks, article_link};
 use std::alloc::{AllocError, Global};
 use std::marker::Model;
+use std::rc::RcSlice;
 
 /// Which rows of the titles that a query names are searched for.
 #[derive(Clone, Copy)]
@@ -125,19 +127,20 @@ impl<'a> Search<'a> {
     pub(crate) fn article_link(
         &mut self,
         alloc: Global,
-        site: &SiteFile,
+        links: &mut SiteLinks<'_>,
         name: &ReleaseName,
         row: &Row,
-    ) -> Result<Option<Vec<u8>>, AllocError>
+    ) -> Result<Option<RcSlice<u8>>, AllocError>
         ensures same { self.new ≡ self.old }
-        ensures link { IfOk result (λ link. option_map (λ text. text.items) link
-            ≡ article_link site.now name.now.package_name row.now.url (is_free row.now) (cited_in self.old row.now)) }
+        ensures site { links.new ≡ links.old }
+        ensures link { IfOk result (λ link. option_map rc_slice_items link
+            ≡ article_link links.old name.now.package_name row.now.url (is_free row.now) (cited_in self.old row.now)) }
     {
         let cited = self.lookup.cited(row.title_id());
         let (id, url) = (name.package(), row.url());
         article_link(
             alloc,
-            site,
+            links,
             id,
             url,
             is_free(row),

@@ -114,12 +114,7 @@ impl<'a> Shown<'a> {
 
     /// Adds a hit whose texts leave this many of the bytes of a response, if there is room for it. Otherwise no later
     /// one is added either.
-    pub(crate) fn add(
-        &mut self,
-        alloc: Global,
-        found: &ReleaseHit<'a>,
-        left: u32,
-    ) -> Result<(), AllocError>
+    pub(crate) fn add(&mut self, found: &ReleaseHit<'a>, left: u32) -> Result<(), AllocError>
         requires { left ≡ text_limit - text_size found.now }
         ensures { OnOk result (self.new ≡ with_shown self.old found.now) }
     {
@@ -128,7 +123,7 @@ impl<'a> Shown<'a> {
         }
         let bytes = bytes_beside(self.bytes, left);
         if bytes > 0 {
-            self.hits.push(found.again(alloc)?)?;
+            self.hits.push(found.again()?)?;
             self.places -= 1;
             self.bytes = bytes;
         } else {

@@ -20,7 +20,7 @@ use crate::shown::{Shown, bytes_left};
 use crate::text_room::{TextRoom, text_looks};
 use crate::top::Top;
 use feed_names::ReleaseName;
-use node_site::{SearchOutcome, package_place};
+use node_site::{SearchOutcome, SiteLinks, package_place};
 use std::alloc::{AllocError, Global};
 use std::marker::Model;
 
@@ -172,7 +172,7 @@ impl<'a> Tally<'a> {
         self.count = count;
         self.links.add(alloc, &found)?;
         let left = bytes_left(&found);
-        self.shown.add(alloc, &found, left)?;
+        self.shown.add(&found, left)?;
         self.top.add(alloc, found, left)
     }
 
@@ -184,11 +184,14 @@ impl<'a> Tally<'a> {
         site_place: usize,
         place: u32,
         search: &mut Search<'_>,
+        links: &mut SiteLinks<'a>,
         room: &mut TextRoom,
     ) -> Result<(), AllocError>
         requires of { site_place ≡ package_place release.now.site.now release.now.name.now.package_name }
+        requires site { links.old ≡ release.now.site.now }
         requires asked { is_asked_at search.old.query release.now.holdings.now.rows place ≡ true }
         ensures same { search.new ≡ search.old }
+        ensures kept { links.new ≡ links.old }
         ensures hits { OnOk result ((more : List (Option ReleaseHitValue))
             → with_hits self.new (fitting room.new.left more)
             ≡ with_hits self.old (fitting room.old.left
@@ -209,7 +212,7 @@ impl<'a> Tally<'a> {
         if room.take(text_looks(hit.row)) {
             self.add_hit(
                 alloc,
-                ReleaseHit::new(alloc, release, site_place, search, &hit)?,
+                ReleaseHit::new(alloc, release, site_place, search, links, &hit)?,
             )
         } else {
             Ok(())
@@ -224,11 +227,14 @@ impl<'a> Tally<'a> {
         site_place: usize,
         places: &[u32],
         search: &mut Search<'_>,
+        links: &mut SiteLinks<'a>,
         texts: usize,
     ) -> Result<bool, AllocError>
         requires of { site_place ≡ package_place release.now.site.now release.now.name.now.package_name }
+        requires site { links.old ≡ release.now.site.now }
         requires asked { AllPass (is_asked_at search.old.query release.now.holdings.now.rows) places.now }
         ensures same { search.new ≡ search.old }
+        ensures kept { links.new ≡ links.old }
         ensures hits { OnOk result (self.new
             ≡ with_hits self.old (fitting texts (looks_at release.now.site.now release.now.today.now search.old
             release.now.name.now release.now.holdings.now.rows places.now))) }
@@ -238,7 +244,7 @@ impl<'a> Tally<'a> {
     {
         let mut room = TextRoom::new(texts);
         for place in places {
-            self.look_at(alloc, release, site_place, *place, search, &mut room)?;
+            self.look_at(alloc, release, site_place, *place, search, links, &mut room)?;
         }
         Ok(room.is_enough)
     }
@@ -262,10 +268,13 @@ impl<'a> Tally<'a> {
         alloc: Global,
         release: &LibraryRelease<'a>,
         search: &mut Search<'_>,
+        links: &mut SiteLinks<'a>,
         shares: Shares,
     ) -> Result<(), AllocError>
-        requires { shares.rows ≤ 10000 }
+        requires rows { shares.rows ≤ 10000 }
+        requires site { links.old ≡ release.now.site.now }
         ensures same { search.new ≡ search.old }
+        ensures kept { links.new ≡ links.old }
         ensures added { OnOk result (self.new
             ≡ with_release self.old (release_found shares release.now.site.now release.now.today.now search.old
             release.now.name.now release.now.holdings.now.rows)) }
@@ -275,7 +284,8 @@ impl<'a> Tally<'a> {
         let places = found.as_slice();
         let is_all = places.len() <= shares.rows;
         let looked = front(places, shares.rows);
-        let fits = self.look_at_each(alloc, release, site_place, looked, search, shares.texts)?;
+        let texts = shares.texts;
+        let fits = self.look_at_each(alloc, release, site_place, looked, search, links, texts)?;
         self.end_release(release.name, is_all && fits)
     }
 }

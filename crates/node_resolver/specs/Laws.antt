@@ -73,9 +73,9 @@ HitsAreHeld = (search : SearchValue) (actives : Sited) (found : ReleaseHitValue)
     → Contains (hits_among search actives) found)
 
 -- each release is looked at: let so many releases have rows that the query may look at. Of each, the first rows are looked at,
--- 5,000 divided by that number and one at least, whatever the others have, unless more releases than that have rows. A hit in a row that is looked at is counted, or its
--- texts count and its release is said to have more. In all releases together the rows are no more than 5,000, and if they have
--- no more, all are looked at
+-- 5,000 divided by that number and one at least, whatever the others have. A hit in a row that is looked at is counted, or its
+-- texts count and its release is said to have more. In all releases together the rows are no more than 5,000, unless more
+-- releases than that have rows. If they have no more, all are looked at
 pub record IsLookedAt (search : SearchValue) (actives : Sited) (active : ActiveValue) : Type 0 where
   pub shares : AreShares (row_counts actives.library search.query actives.actives) (shares_in search actives)
   pub found : Contains (found_among search actives) (release_in (shares_in search actives) actives.library actives.today search active)

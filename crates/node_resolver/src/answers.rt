@@ -16,6 +16,7 @@ use node_hits::{
 };
 use node_pages::{Tallies, put_hits_fragment, put_hits_page};
 use node_request::{Representation, sfx_options_in};
+use node_site::SiteLinks;
 use std::alloc::{AllocError, Global};
 
 fn add_release<'a>(
@@ -24,10 +25,13 @@ fn add_release<'a>(
     context: &Context<'a>,
     active: &ActiveRelease<'a>,
     search: &mut Search<'_>,
+    links: &mut SiteLinks<'a>,
     shares: Shares,
 ) -> Result<(), AllocError>
-    requires { shares.rows ≤ 10000 }
+    requires rows { shares.rows ≤ 10000 }
+    requires site { links.old ≡ context.now.site.library }
     ensures same { search.new ≡ search.old }
+    ensures kept { links.new ≡ links.old }
     ensures added { OnOk result (tally.new
         ≡ with_release tally.old
         (release_in shares context.now.site.library context.now.actives.today search.old active.now)) }
@@ -38,7 +42,7 @@ fn add_release<'a>(
         name: active.name(),
         holdings: active.holdings(),
     };
-    tally.add_release(alloc, &release, search, shares)
+    tally.add_release(alloc, &release, search, links, shares)
 }
 
 // Returns the tally of the hits of a search in the releases, in their order, within these shares.
@@ -53,8 +57,10 @@ fn tally_by<'a>(
         ≡ with_releases no_hits (found_by shares search.entry (sited_in context.now))) }
 {
     let mut tally = Tally::new(alloc);
+    let mut links = SiteLinks::new(context.library());
     for active in context.actives {
-        add_release(alloc, &mut tally, context, active, &mut search, shares)?;
+        let (search, links) = (&mut search, &mut links);
+        add_release(alloc, &mut tally, context, active, search, links, shares)?;
     }
     Ok(tally)
 }
@@ -143,6 +149,7 @@ fn put_texts(
 {
     let mut tally = Tally::new(alloc);
     let mut search = Search::of(alloc, lookup);
+    let mut links = SiteLinks::new(context.library());
     for active in context.actives {
         let release = LibraryRelease {
             site: context.library(),
@@ -150,7 +157,8 @@ fn put_texts(
             name: active.name(),
             holdings: active.holdings(),
         };
-        put_release(alloc, out, &mut tally, &release, &mut search, shares)?;
+        let (search, links) = (&mut search, &mut links);
+        put_release(alloc, out, &mut tally, &release, search, links, shares)?;
     }
     Ok(())
 }

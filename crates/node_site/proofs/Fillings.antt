@@ -13,7 +13,7 @@ use Rattle.node_site.specs.RequestLaws.{PartsAddNoMarks, RequestsKeepHost, marks
 use Rattle.node_site.specs.Requests.{CitedTitleValue, filled, filled_from, part_of, part_text}
 use Rattle.node_site.specs.Hosts.{host_behind, host_in, host_of, is_link}
 use Rattle.node_site.specs.Urls.{after_scheme, authority_of, before_byte, begins_with, ends_authority, has_byte, is_visible, url_limit}
-use Rattle.node_site.proofs.Through.{escape_is_plain, kept_is_plain}
+use Rattle.node_site.proofs.Proxying.{escape_is_plain, kept_is_plain}
 
 -- the front of a list, up to the first element that passes, by recursion
 abbrev pub front : (ℕ → Bool) → List ℕ → List ℕ

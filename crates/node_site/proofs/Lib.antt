@@ -1,5 +1,5 @@
 pub mod Replaceable
-pub mod Through
+pub mod Proxying
 pub mod Addresses
 pub mod Within
 pub mod Valid

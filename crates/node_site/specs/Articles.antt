@@ -2,15 +2,18 @@
 use Rattle.std.specs.Prelude.{◌≡◌, ℕ, Bool, true, false, All, List, [], ◌++◌, Option, Some, None, if◌then◌else◌, codes, option_map}
 use Rattle.std.specs.List.{find, list_any}
 use Rattle.std.specs.Option.{option_and_then, option_or}
+use Rattle.std.specs.Rc.{rc_slice_items}
 use Rattle.node_site.specs.Held.{is_package}
 use Rattle.node_site.specs.Hosts.{host_of}
 use Rattle.node_site.specs.Platforms.{platform_at}
-use Rattle.node_site.specs.Proxies.{is_direct, proxied}
+use Rattle.node_site.specs.Proxies.{is_direct, prefix_at, proxied}
 use Rattle.node_site.specs.Fields.{field_named}
 use Rattle.node_site.specs.Requests.{CitedTitleValue, filled, gives_all, if_link, names_in}
 use Rattle.node_site.specs.Site.{PackageValue, PlatformValue, SiteValue}
 use Rattle.node_site.specs.declared.article_addresses.ArticleAddresses.{ArticleAddresses}
 use Rattle.node_site.specs.declared.article_addresses.MadeAddress.{MadeAddress}
+use Rattle.node_site.specs.declared.site_links.HostPrefix.{HostPrefix}
+use Rattle.node_site.specs.declared.site_links.MadeLink.{MadeLink}
 use Rattle.node_site.specs.declared.field.Field.{Field}
 use Rattle.node_site.specs.declared.field.Field.TheVariants.{TitleId}
 
@@ -59,6 +62,14 @@ IsMade cited made =
 
 abbrev pub AreMade : CitedTitleValue → ArticleAddresses → Type 0
 AreMade cited addresses = All (IsMade cited) addresses.made.items
+
+-- the prefix of the links to a host
+abbrev pub IsPrefixOf : SiteValue → HostPrefix → Type 0
+IsPrefixOf site last = last.prefix ≡ prefix_at site last.host.items
+
+-- the link to an address as a page of a site has it, if it is safe
+abbrev pub IsLinkTo : SiteValue → MadeLink → Type 0
+IsLinkTo site made = option_map rc_slice_items made.link ≡ if_link (proxied site made.address.items made.is_direct)
 
 -- the link to the cited article in a row of a package, which goes through a proxy as the link to the row does
 unfoldable pub article_link : SiteValue → List ℕ → List ℕ → Bool → CitedTitleValue → Option (List ℕ)

@@ -42,7 +42,7 @@ abbrev pub OffIsNotHeld : Type 0
 OffIsNotHeld = (site : SiteValue) (package_id id : List ℕ) (first last : Option ℤ) (asked : Option DayRange)
     → (holding_at site package_id id).is_held ≡ false → library_has site package_id id first last asked ≡ false
 
--- nor of a package of which it may have nothing
+-- nor of a package without a title that it may have
 abbrev pub OffPackageIsNotHeld : Type 0
 OffPackageIsNotHeld = (site : SiteValue) (package_id id : List ℕ) (first last : Option ℤ) (asked : Option DayRange)
     → may_hold site package_id ≡ false → library_has site package_id id first last asked ≡ false

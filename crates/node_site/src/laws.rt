@@ -62,7 +62,7 @@ pub fn off_is_not_held()
     ensures { OffIsNotHeld }
 {}
 
-/// A library has nothing of a package of which it may have no title, so nobody has to look at the package's rows.
+/// A library has nothing of a package without a title that it may have, so nobody has to look at the package's rows.
 pub fn off_package_is_not_held()
     ensures { OffPackageIsNotHeld }
 {}

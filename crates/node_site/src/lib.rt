@@ -45,6 +45,7 @@ mod prefixes;
 mod section;
 mod site_fault;
 mod site_file;
+mod site_links;
 mod sites;
 mod template;
 mod text;
@@ -75,14 +76,16 @@ pub use laws::{
     requests_keep_host, subdomains_are_within, texts_have_names, unlisted_is_not_held,
 };
 pub use library_link::{LibraryLink, library_links};
-pub use links::{left_beside, may_be_link, proxied};
+pub use links::{left_beside, may_be_link, through};
 pub use notes::note_on;
 pub use occasion::{LinkUse, SearchOutcome};
 pub use open_prefixes::{OpenPrefix, prefixes_left_open};
 pub use packages::{name_for_readers, package_place, shown_package};
 pub use position::Position;
+pub use prefixes::{Prefix, again};
 pub use site_fault::{KeyFault, SiteFault};
 pub use site_file::{SITE_LIMIT, SiteFile};
+pub use site_links::SiteLinks;
 pub use sites::{SITES_LIMIT, Sites, SitesFault};
 pub use text_table::{TEXTS, Text};
 pub use text_words::is_name;

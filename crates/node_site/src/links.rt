@@ -1,16 +1,14 @@
-//! The links of a page: which of them go through a proxy, and how.
+//! The links of a page behind the prefix of a proxy, or without one.
 ghost use Rattle.std.specs.Prelude.{◌≡◌, ◌-◌, ◌++◌, IfOk, OnOk, false, string_bytes};
 ghost use Rattle.std.specs.Bool.{OnFalse};
-ghost use Rattle.std.specs.Option.{option_map_or};
 ghost use Rattle.std.specs.Cow.{cow_slice_items};
 ghost use Rattle.percent_encoding.specs.Percent.{percent_encode};
 ghost use Rattle.percent_encoding.specs.declared.ascii_set.TheConstants.{NON_ALPHANUMERIC};
 ghost use Rattle.node_site.specs.Hosts.{is_link};
-ghost use Rattle.node_site.specs.Proxies.{prefix_for, proxied, room_of, through, written_target};
+ghost use Rattle.node_site.specs.Proxies.{room_of, through, written_target};
 
 use crate::hosts::{URL_LIMIT, host_of};
-use crate::prefixes::{Prefix, is_encoded_at, may_encode, prefix_for};
-use crate::site_file::SiteFile;
+use crate::prefixes::{Prefix, encodes};
 use crate::urls::is_all_visible;
 use percent_encoding::{NON_ALPHANUMERIC, percent_encode};
 use std::alloc::{AllocError, Global};
@@ -51,61 +49,45 @@ fn joined(alloc: Global, prefix: &Prefix<'_>, target: &[u8]) -> Result<Vec<u8>, 
     Ok(link)
 }
 
-// Returns whether the target is percent-encoded in the link to it.
-fn is_encoded(site: &SiteFile, target: &[u8], is_direct: bool) -> bool
-    ensures { result ≡ option_map_or (λ p. p.is_encoded) (prefix_for site.now target.now is_direct) false }
-{
-    if is_direct || !may_encode(site) {
-        return false;
-    }
-    match host_of(target) {
-        Some(host) => is_encoded_at(site, host),
-        None => false,
-    }
-}
-
-/// Returns false only if the link to a target is not safe ([`is_link`](crate::is_link)). Looks at the length of the
-/// target, its bytes and its host, and does not write the link.
-#[tactic(auto, using(crate::proofs::Through::no_odd, crate::proofs::Through::no_hostless))]
-pub fn may_be_link(site: &SiteFile, target: &[u8], is_direct: bool) -> bool
-    ensures { OnFalse result (is_link (proxied site.now target.now is_direct) ≡ false) }
+/// Returns false only if the link to a target behind this prefix is not safe ([`is_link`](crate::is_link)). Looks at the
+/// length of the target, its bytes and its host, and does not write the link.
+#[tactic(auto, using(crate::proofs::Proxying::odd_is_unsafe, crate::proofs::Proxying::hostless_is_unsafe))]
+pub fn may_be_link(prefix: &Option<Prefix<'_>>, target: &[u8]) -> bool
+    ensures { OnFalse result (is_link (through prefix.now target.now) ≡ false) }
 {
     if target.len() > URL_LIMIT {
         return false;
     }
-    if !is_all_visible(target) && !is_encoded(site, target, is_direct) {
+    if !is_all_visible(target) && !encodes(prefix) {
         return false;
     }
-    host_of(target).is_some()
+    prefix.is_some() || host_of(target).is_some()
 }
 
-/// Returns the link to a target as a page has it: through the proxy of its platform or of the site, unless it is direct
-/// or the host of the target needs no proxy. Then it is the target.
+/// Returns the link to a target behind a prefix, or else the target.
 ///
 /// # Errors
 ///
 /// Running out of memory.
-#[tactic(auto, unfolding(crate::specs::Proxies::proxied))]
-pub fn proxied<'a>(
+pub fn through<'a>(
     alloc: Global,
-    site: &SiteFile,
+    prefix: &Option<Prefix<'_>>,
     target: &'a [u8],
-    is_direct: bool,
 ) -> Result<CowSlice<'a, u8, Global>, AllocError>
-    ensures { IfOk result (λ link. cow_slice_items link ≡ proxied site.now target.now is_direct) }
+    ensures { IfOk result (λ link. cow_slice_items link ≡ through prefix.now target.now) }
 {
-    match prefix_for(site, target, is_direct) {
-        Some(prefix) => Ok(CowSlice::Owned(joined(alloc, &prefix, target)?)),
+    match prefix {
+        Some(prefix) => Ok(CowSlice::Owned(joined(alloc, prefix, target)?)),
         None => Ok(CowSlice::Borrowed(target)),
     }
 }
 
-/// Returns how many of some bytes are left beside the link to a target. Counts three bytes for each byte of a target
-/// that is percent-encoded.
-pub fn left_beside(bytes: usize, site: &SiteFile, target: &[u8], is_direct: bool) -> usize
-    ensures { result ≡ bytes - room_of (prefix_for site.now target.now is_direct) target.now }
+/// Returns how many of some bytes are left beside the link to a target behind a prefix. Counts three bytes for each byte
+/// of a target that is percent-encoded.
+pub fn left_beside(bytes: usize, prefix: &Option<Prefix<'_>>, target: &[u8]) -> usize
+    ensures { result ≡ bytes - room_of prefix.now target.now }
 {
-    let Some(prefix) = prefix_for(site, target, is_direct) else {
+    let Some(prefix) = prefix else {
         return bytes.saturating_sub(target.len());
     };
     let left = bytes

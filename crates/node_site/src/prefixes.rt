@@ -1,7 +1,6 @@
 //! The prefixes of the links that go through a proxy.
-ghost use Rattle.std.specs.Prelude.{◌≡◌, List, ℕ, false};
-ghost use Rattle.std.specs.Bool.{OnFalse};
-ghost use Rattle.std.specs.Option.{option_map_or, option_or};
+ghost use Rattle.std.specs.Prelude.{◌≡◌, false};
+ghost use Rattle.std.specs.Option.{option_map_or};
 ghost use Rattle.toml.specs.View.{table_view};
 ghost use Rattle.node_site.specs.Proxies.{ends_in, is_encoded_behind, platform_prefix, prefix_at, prefix_for};
 ghost use Rattle.node_site.specs.Proxies.{prefix_of, prefix_of_platform, site_prefix};
@@ -17,7 +16,7 @@ use toml::Table;
 /// What is in front of the address in a link through a proxy and what is behind it, and whether the address is
 /// percent-encoded.
 #[derive(Drop)]
-pub(crate) struct Prefix<'a> {
+pub struct Prefix<'a> {
     pub(crate) front: &'a [u8],
     pub(crate) is_encoded: bool,
     pub(crate) rest: &'a [u8],
@@ -91,28 +90,23 @@ fn site_prefix(site: &SiteFile) -> Option<Prefix<'_>>
     }
 }
 
-// Returns the prefix of the links to a host, if the host is not excepted.
-fn plain_prefix<'a>(site: &'a SiteFile, host: &[u8]) -> Option<Prefix<'a>>
-    ensures { result ≡ option_or (platform_prefix site.now host.now) (site_prefix site.now) }
+/// Returns the prefix of the links to a host: that of its platform, or else that of the site, unless the host needs no
+/// proxy.
+pub(crate) fn prefix_at<'a>(site: &'a SiteFile, host: &[u8]) -> Option<Prefix<'a>>
+    ensures { result ≡ prefix_at site.now host.now }
 {
+    if site.is_excepted(host) {
+        return None;
+    }
     match platform_prefix(site, host) {
         Some(prefix) => Some(prefix),
         None => site_prefix(site),
     }
 }
 
-fn prefix_at<'a>(site: &'a SiteFile, host: &[u8]) -> Option<Prefix<'a>>
-    ensures { result ≡ prefix_at site.now host.now }
-{
-    if site.is_excepted(host) {
-        return None;
-    }
-    plain_prefix(site, host)
-}
-
-// Returns whether the address is percent-encoded behind a prefix, if there is one.
-fn encodes(prefix: Option<Prefix<'_>>) -> bool
-    ensures { result ≡ option_map_or (λ p. p.is_encoded) prefix.entry false }
+/// Returns whether the address is percent-encoded behind a prefix, if there is one.
+pub(crate) fn encodes(prefix: &Option<Prefix<'_>>) -> bool
+    ensures { result ≡ option_map_or (λ p. p.is_encoded) prefix.now false }
 {
     match prefix {
         Some(prefix) => prefix.is_encoded,
@@ -120,26 +114,21 @@ fn encodes(prefix: Option<Prefix<'_>>) -> bool
     }
 }
 
-/// Returns false only if the address is percent-encoded in no link: the site has no platform, and its own prefix does
-/// not encode it.
-pub(crate) fn may_encode(site: &SiteFile) -> bool
-    ensures { OnFalse result ((host : List ℕ)
-        → option_map_or (λ p. p.is_encoded) (prefix_at site.now host) false ≡ false) }
+/// Returns the same prefix again.
+pub fn again<'a>(prefix: &Option<Prefix<'a>>) -> Option<Prefix<'a>>
+    ensures { result ≡ prefix.now }
 {
-    site.platform_tables().is_some() || encodes(site_prefix(site))
+    match prefix {
+        Some(prefix) => Some(Prefix {
+            front: prefix.front,
+            is_encoded: prefix.is_encoded,
+            rest: prefix.rest,
+        }),
+        None => None,
+    }
 }
 
-/// Returns whether the address is percent-encoded in the links to a host. Looks for the host among the excepted ones
-/// last, since it may have many labels and they may be many.
-pub(crate) fn is_encoded_at(site: &SiteFile, host: &[u8]) -> bool
-    ensures { result ≡ option_map_or (λ p. p.is_encoded) (prefix_at site.now host.now) false }
-{
-    let is_encoded = encodes(plain_prefix(site, host));
-    is_encoded && !site.is_excepted(host)
-}
-
-/// Returns the prefix of the link to a target: that of its platform, or else that of the site, unless the link is
-/// direct, or the host of the target needs no proxy.
+/// Returns the prefix of the link to a target, if it has a host, and the link is not direct.
 pub(crate) fn prefix_for<'a>(
     site: &'a SiteFile,
     target: &[u8],

@@ -5,6 +5,6 @@ use Rattle.node_resolver.proofs.answers.put_texts.Given as goal
 
 abbrev pub invariant-loop-active : goal.invariant-loop-active
 invariant-loop-active l =
-    (l.search ≡ l.fn.lookup)
+    ((l.search ≡ l.fn.lookup) × (l.links ≡ l.context.site.library))
     × (l.out.items ++ texts_from l.shares l.context.site.library l.context.actives.today l.fn.lookup l.tally (drop l.active-index l.context.actives.actives)
     ≡ l.fn.out.items ++ texts_from l.shares l.context.site.library l.context.actives.today l.fn.lookup no_hits l.context.actives.actives)

@@ -5,6 +5,6 @@ use Rattle.node_resolver.proofs.answers.tally_by.Given as goal
 
 abbrev pub invariant-loop-active : goal.invariant-loop-active
 invariant-loop-active l =
-    (l.search ≡ l.fn.search)
+    ((l.search ≡ l.fn.search) × (l.links ≡ l.context.site.library))
     × (with_releases l.tally (found_by l.shares l.fn.search (sited_by l.context.site.library l.context.actives.today (drop l.active-index l.context.actives.actives)))
     ≡ with_releases no_hits (found_by l.shares l.fn.search (sited_in l.context)))

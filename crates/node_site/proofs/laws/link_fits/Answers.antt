@@ -1,4 +1,4 @@
-use Rattle.node_site.proofs.Through.{link_fits}
+use Rattle.node_site.proofs.Proxying.{link_fits}
 use Rattle.node_site.proofs.laws.link_fits.Goals as goal
 
 pub returns : goal.returns

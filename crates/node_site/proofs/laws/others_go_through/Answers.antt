@@ -1,4 +1,4 @@
-use Rattle.node_site.proofs.Through.{others_go}
+use Rattle.node_site.proofs.Proxying.{others_go}
 use Rattle.node_site.proofs.laws.others_go_through.Goals as goal
 
 pub returns : goal.returns

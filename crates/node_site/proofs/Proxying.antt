@@ -15,7 +15,7 @@ use Rattle.std.specs.List.{list_all}
 use Rattle.std.specs.Option.{option_and_then, option_map_or, option_or}
 use Rattle.node_site.specs.Hosts.{host_of, is_link}
 use Rattle.node_site.specs.Site.{SiteValue}
-use Rattle.node_site.specs.Proxies.{PrefixValue, is_excepted, platform_prefix, prefix_at, prefix_for, prefix_of, proxied, site_prefix, through, written_target}
+use Rattle.node_site.specs.Proxies.{PrefixValue, is_excepted, platform_prefix, prefix_at, prefix_of, proxied, site_prefix, through, written_target}
 use Rattle.node_site.specs.Urls.{is_visible, url_limit}
 use Rattle.node_site.specs.Laws.{IsTarget, GoesThrough, LinkFits, is_plain}
 
@@ -108,7 +108,7 @@ and_left true b e = absurd (cc)
 and_left false b e = refl
 
 -- a target that is too long has no safe link
-long_is_unsafe : (prefix : Option PrefixValue) (target : List ℕ) → All (λ b. b < 256) target → url_limit < length target
+pub long_is_unsafe : (prefix : Option PrefixValue) (target : List ℕ) → All (λ b. b < 256) target → url_limit < length target
     → is_link (through prefix target) ≡ false
 long_is_unsafe prefix target bytes long = of prefix
   where
@@ -131,7 +131,7 @@ long_is_unsafe prefix target bytes long = of prefix
         too_long (p.front ++ (text ++ p.rest)) (omega (arith, whole, behind, more, long))
 
 -- nor has one with a byte that is not visible, if it is not escaped
-odd_is_unsafe : (prefix : Option PrefixValue) (target : List ℕ) → option_map_or (λ p. p.is_encoded) prefix false ≡ false
+pub odd_is_unsafe : (prefix : Option PrefixValue) (target : List ℕ) → option_map_or (λ p. p.is_encoded) prefix false ≡ false
     → list_all is_visible target ≡ false → is_link (through prefix target) ≡ false
 odd_is_unsafe prefix target plain odd = of prefix plain
   where
@@ -157,29 +157,8 @@ odd_is_unsafe prefix target plain odd = of prefix plain
         ap (λ c. is_link (p.front ++ ((if c then percent_encode NON_ALPHANUMERIC target else target) ++ p.rest))) e
         ∙ unsafe (p.front ++ (target ++ p.rest)) (odd_behind p.front (target ++ p.rest) (odd_front target p.rest odd))
 
--- nor one without a host, which goes through no proxy
-hostless_is_unsafe : (site : SiteValue) (target : List ℕ) (is_direct : Bool) → is_some (host_of target) ≡ false
-    → is_link (through (prefix_for site target is_direct) target) ≡ false
-hostless_is_unsafe site target is_direct none =
-    ap (λ (p : Option PrefixValue). is_link (through p target)) (direct is_direct (host_of target) none)
-    ∙ and_right (nat_le (length target) url_limit) _ (and_right (list_all is_visible target) _ none)
-  where
-    direct : (b : Bool) (host : Option (List ℕ)) → is_some host ≡ false → (if b then None else option_and_then (prefix_at site) host) ≡ None
-    direct true host e = refl
-    direct false None e = refl
-    direct false (Some host) e = absurd (cc)
-
--- the same of the links that a page has
-pub no_long : (site : SiteValue) (target : List ℕ) (is_direct : Bool) → All (λ b. b < 256) target → url_limit < length target
-    → is_link (proxied site target is_direct) ≡ false
-unfolding proxied
-no_long site target is_direct bytes long = long_is_unsafe (prefix_for site target is_direct) target bytes long
-
-pub no_odd : (site : SiteValue) (target : List ℕ) (is_direct : Bool) → option_map_or (λ p. p.is_encoded) (prefix_for site target is_direct) false ≡ false
-    → list_all is_visible target ≡ false → is_link (proxied site target is_direct) ≡ false
-unfolding proxied
-no_odd site target is_direct plain odd = odd_is_unsafe (prefix_for site target is_direct) target plain odd
-
-pub no_hostless : (site : SiteValue) (target : List ℕ) (is_direct : Bool) → is_some (host_of target) ≡ false → is_link (proxied site target is_direct) ≡ false
-unfolding proxied
-no_hostless site target is_direct none = hostless_is_unsafe site target is_direct none
+-- nor one without a host that goes through no proxy
+pub hostless_is_unsafe : (prefix : Option PrefixValue) (target : List ℕ) → is_some prefix ≡ false → is_some (host_of target) ≡ false
+    → is_link (through prefix target) ≡ false
+hostless_is_unsafe None target direct none = and_right (nat_le (length target) url_limit) _ (and_right (list_all is_visible target) _ none)
+hostless_is_unsafe (Some prefix) target direct none = absurd (cc)
