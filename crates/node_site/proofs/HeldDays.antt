@@ -3,12 +3,13 @@ use Rattle.std.proofs.Common.{◌≡◌, ◌∙◌, ℕ, ℤ, ◌≤ℤ◌, int_
 use Rattle.std.specs.Prelude.{◌&&◌, ◌||◌, int_lt, is_some, not, option_map, unwrap_or}
 use Rattle.std.specs.List.{find}
 use Rattle.std.specs.Str.{bytes_eq}
+use Rattle.std.specs.Cmp.Lexicographic.{bytes_decides}
 use Rattle.std.proofs.lemmas.Int.{ints}
 use Rattle.feed_dates.specs.declared.day_range.DayRange.{DayRange}
 use Rattle.node_site.specs.Site.{HoldingValue, SiteValue, TitleValue}
 use Rattle.node_site.specs.Valid.{is_forward}
 use Rattle.node_site.specs.HoldingsFiles.{has_bytes, rows_of}
-use Rattle.node_site.specs.Held.{has_asked, has_days, holding_at, holding_beside, holding_of_title, is_on_title, is_title, library_has, listed_package, listed_title}
+use Rattle.node_site.specs.Held.{has_asked, has_days, holding_at, holding_beside, holding_of_title, is_on_listed, is_on_title, is_title, library_has, listed_package, listed_title}
 use Rattle.node_site.specs.Held.{shares_day, title_holding, unlisted}
 use Rattle.node_site.proofs.HoldingsRead.{no_rows}
 use Rattle.node_site.specs.HeldLaws.{AllIsHeld, AreDays, Begun, HeldDaysAreShown, IsHeldDay, IsWithin, Lasts, OffIsNotHeld, OffPackageIsNotHeld, UnlistedIsNotHeld}
@@ -116,20 +117,11 @@ pub off : OffIsNotHeld
 unfolding library_has
 off site package_id id first last asked is = rw is refl
 
--- ---- a package of which the library may have no title
-
--- no file says nothing
-nothing_listed : (package_id id : List ℕ) → listed_title package_id id (rows_of []) ≡ None
-nothing_listed package_id [] = refl
-nothing_listed package_id (b ∷ id) = rw no_rows refl
+-- ---- a package without a title that the library may have
 
 neither : (a b : Bool) → (a || b) ≡ false → (a ≡ false) × (b ≡ false)
 neither true b e = absurd (cc)
 neither false b e = (refl, e)
-
-no_bytes : (text : List ℕ) → has_bytes text ≡ false → text ≡ []
-no_bytes [] e = refl
-no_bytes (b ∷ rest) e = absurd (cc)
 
 -- no table switches a title on, so that of a title switches it off
 title_off : (package_id id : List ℕ) (rules : List TitleValue) (rest : HoldingValue) → is_some (find (is_on_title package_id) rules) ≡ false → rest.is_held ≡ false
@@ -147,17 +139,44 @@ title_off package_id id (rule ∷ rules) rest none off =
     go false true true is some more = is
     go false true false is some more = more some off
 
+-- no row of the holdings file switches a title on either
+listed_off : (package_id id : List ℕ) (rows : List TitleValue) (rest : HoldingValue) → has_bytes id ≡ true
+    → is_some (find (is_on_listed package_id) rows) ≡ false → rest.is_held ≡ false
+    → (unwrap_or (title_holding package_id id rows) rest).is_held ≡ false
+listed_off package_id id [] rest named none off = off
+listed_off package_id id (row ∷ rows) rest named none off =
+    go row.holding.is_held (bytes_eq row.package_id package_id) (bytes_eq row.id id) (has_bytes row.id) refl
+    (λ same. ap has_bytes ((bytes_decides row.id id).0 same) ∙ named) none (listed_off package_id id rows rest named)
+  where
+    go : (held same title is_named : Bool) → row.holding.is_held ≡ held → (title ≡ true → is_named ≡ true)
+        → is_some (cond (is_named && (held && same)) (Some row) (find (is_on_listed package_id) rows)) ≡ false
+        → (is_some (find (is_on_listed package_id) rows) ≡ false → rest.is_held ≡ false → (unwrap_or (title_holding package_id id rows) rest).is_held ≡ false)
+        → (unwrap_or (option_map holding_of_title (cond (same && title) (Some row) (find (is_title package_id id) rows))) rest).is_held ≡ false
+    go true true title true is has some more = absurd (cc)
+    go true true true false is has some more = let never : false ≡ true = has refl in absurd (cc)
+    go true true false false is has some more = more some off
+    go true false title true is has some more = more some off
+    go true false title false is has some more = more some off
+    go false true true is_named is has some more = is
+    go false true false true is has some more = more some off
+    go false true false false is has some more = more some off
+    go false false title true is has some more = more some off
+    go false false title false is has some more = more some off
+
+listed_title_off : (package_id id : List ℕ) (rows : List TitleValue) (rest : HoldingValue) → is_some (find (is_on_listed package_id) rows) ≡ false
+    → rest.is_held ≡ false → (unwrap_or (listed_title package_id id rows) rest).is_held ≡ false
+listed_title_off package_id [] rows rest none off = off
+listed_title_off package_id (b ∷ id) rows rest none off = listed_off package_id (b ∷ id) rows rest refl none off
+
 pub off_package : OffPackageIsNotHeld
 unfolding library_has
 off_package site package_id id first last asked is =
-    let parts = neither (holding_beside site package_id).is_held (is_some (find (is_on_title package_id) site.titles) || has_bytes site.listing) is in
-    let titles = neither (is_some (find (is_on_title package_id) site.titles)) (has_bytes site.listing) parts.1 in
-    let listing = no_bytes site.listing titles.1 in
-    let unlisted_is : listed_title package_id id (rows_of site.listing) ≡ None =
-    ap (λ (t : List ℕ). listed_title package_id id (rows_of t)) listing ∙ nothing_listed package_id id in
+    let rows : List TitleValue = rows_of site.listing in
+    let parts = neither (holding_beside site package_id).is_held (is_some (find (is_on_title package_id) site.titles) || is_some (find (is_on_listed package_id) rows)) is in
+    let titles = neither (is_some (find (is_on_title package_id) site.titles)) (is_some (find (is_on_listed package_id) rows)) parts.1 in
+    let beside : HoldingValue = unwrap_or (listed_title package_id id rows) (holding_beside site package_id) in
     let held : (holding_at site package_id id).is_held ≡ false =
-    ap (λ (o : Option HoldingValue). (unwrap_or (title_holding package_id id site.titles) (unwrap_or o (holding_beside site package_id))).is_held) unlisted_is
-    ∙ title_off package_id id site.titles (holding_beside site package_id) titles.0 parts.0 in
+    title_off package_id id site.titles beside titles.0 (listed_title_off package_id id rows (holding_beside site package_id) titles.1 parts.0) in
     rw held refl
 
 open_days : (first last : Option ℤ) → shares_day None None first last ≡ true
@@ -168,6 +187,10 @@ open_days (Some first) last = refl
 open_asked : (site : SiteValue) (asked : Option DayRange) → has_asked (unlisted site) asked ≡ true
 open_asked site None = refl
 open_asked site (Some days) = refl
+
+nothing_listed : (package_id id : List ℕ) → listed_title package_id id (rows_of []) ≡ None
+nothing_listed package_id [] = refl
+nothing_listed package_id (b ∷ id) = rw no_rows refl
 
 nothing_of_package : (package_id : List ℕ) → listed_package package_id (rows_of []) ≡ None
 nothing_of_package package_id = rw no_rows refl

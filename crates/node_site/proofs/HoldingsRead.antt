@@ -1,6 +1,7 @@
 -- The file or the fault that a reading returns.
 use Rattle.std.proofs.Common.{◌≡◌, ℕ, true, List, [], Some, None, inl, inr, refl, sym, ap, ◌∙◌}
 use Rattle.node_site.specs.declared.entry.Entry.{Entry}
+use Rattle.node_site.specs.declared.places.Places.{Places}
 use Rattle.node_site.specs.declared.holdings_fault.BadLine.{BadLine}
 use Rattle.node_site.specs.declared.holdings_fault.HoldingsFault.{HoldingsFault}
 use Rattle.node_site.specs.declared.holdings_fault.HoldingsFault.TheVariants.{TooLong, NotUtf8, Line, Memory}
@@ -35,8 +36,8 @@ rows_fault_is text Memory head h = (head.fits, head.utf8)
 pub indexed : (text : List ℕ) (entries : List Entry) → IsHeaded text → AreEntries text entries → IsInOrder text entries → IsPeaceful text entries → IsIndexed text entries
 indexed text entries head are up peace = record { fits = head.fits; consistent = consistent text entries are up peace; same = are; sorted = up }
 
-pub file_is : (text : List ℕ) (entries : List Entry) → IsHeaded text → IsRead text entries → IsHoldingsFile text
-file_is text entries head is =
+pub file_is : (text : List ℕ) (entries : List Entry) (on : Places) → IsHeaded text → IsRead text entries on → IsHoldingsFile text
+file_is text entries on head is =
     record { fits = head.fits; utf8 = head.utf8; is_fine = rows_decide text head.header ∙ is.fine; consistent = is.indexed.consistent }
 
 pub clash_fault : (text : List ℕ) (entries : List Entry) (fault : BadLine) → IsHeaded text → first_fault text (row_places text) ≡ None → AreEntries text entries

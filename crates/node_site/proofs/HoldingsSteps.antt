@@ -1,5 +1,5 @@
 -- The steps of the reading of a holdings file.
-use Rattle.std.proofs.Common.{◌≡◌, ℕ, suc, ◌+◌, ◌-◌, ◌*◌, ◌<◌, ◌≤◌, Bool, true, false, ◌==◌, if◌then◌else◌, List, [], ◌∷◌, ◌++◌, filter, length}
+use Rattle.std.proofs.Common.{◌≡◌, ℕ, suc, ◌+◌, ◌-◌, ◌*◌, ◌<◌, ◌≤◌, Bool, true, false, ◌==◌, if◌then◌else◌, List, [], ◌∷◌, ◌++◌, None, filter, length}
 use Rattle.std.proofs.Common.{refl, sym, ap, subst, ◌∙◌, arith, sum_by}
 use Rattle.std.specs.Global.{Vec}
 use Rattle.std.proofs.lemmas.List.{drop_all, length-map, length_push, nil_from_length}
@@ -9,14 +9,17 @@ use Rattle.node_site.specs.declared.entry.Entry.{Entry}
 use Rattle.node_site.specs.declared.merge.Merge.{Merge}
 use Rattle.node_site.specs.declared.holdings_fault.HoldingsFault.{HoldingsFault}
 use Rattle.node_site.specs.declared.holdings_fault.HoldingsFault.TheVariants.{TooLong, NotUtf8, Line, Memory}
-use Rattle.node_site.specs.HoldingsEntries.{AreInOrder, IsInOrder, IsMerge, entries_at, entry_at, left_over, merge_weight, runs_weight}
+use Rattle.node_site.specs.HoldingsEntries.{AreEntries, AreInOrder, IsInOrder, IsMerge, entries_at, entry_at, left_over, merge_weight, runs_weight}
 use Rattle.node_site.specs.HoldingsFaults.{IsHoldingsFault, first_fault}
 use Rattle.node_site.specs.HoldingsFiles.{begins_row, row_places, starts_from}
-use Rattle.node_site.specs.HoldingsIndex.{IsFirstFault, IsHeaded, IsPeacefulBelow, places_behind}
+use Rattle.node_site.specs.HoldingsIndex.{AreOnBelow, IsFirstFault, IsHeaded, IsPeacefulBelow, places_behind}
 use Rattle.node_site.specs.declared.holdings_reading.Phase.{Phase}
 use Rattle.node_site.specs.declared.holdings_reading.Phase.TheVariants as phase
 use Rattle.node_site.specs.HoldingsReadings.{AreCompared, AreMerging, AreRows, AreRuns, IsNext, IsRead, IsRunOf, steps_left}
+use Rattle.node_site.specs.Indexes.{place_at}
+use Rattle.node_site.specs.declared.places.Places.{Places}
 use Rattle.node_site.proofs.HoldingsRead.{indexed, rows_fault_is}
+use Rattle.node_site.proofs.OnListed.{all_on, none_on}
 
 -- a run has the rows of its portion
 pub run_is : (text : List ℕ) (start to : ℕ) (none rows : List Entry) (run : Vec Entry) → none ≡ []
@@ -115,28 +118,36 @@ only_one runs rest run few is =
     is ∙ ap (λ (front : List (Vec Entry)). front ++ run ∷ []) (nil_from_length rest (omega (arith, few, ap length is, length_push rest run)))
 
 -- the only run has all entries
-pub only_run : (text : List ℕ) (runs : List (Vec Entry)) (run : Vec Entry) → AreRuns text runs → runs ≡ run ∷ [] → AreCompared text run.items 0
-only_run text runs run are is = record {
+same_run : (text : List ℕ) (runs : List (Vec Entry)) (run : Vec Entry) → AreRuns text runs → runs ≡ run ∷ [] → AreEntries text run.items
+same_run text runs run are is = λ weight.
+    omega (arith, are.same weight, ap (runs_weight weight) is, sum_by-cons (λ (run : Vec Entry). sum_by weight run.items) run [])
+
+pub only_run : (text : List ℕ) (runs : List (Vec Entry)) (run : Vec Entry) → AreRuns text runs → runs ≡ run ∷ [] → (on : Places) → ((id : List ℕ) → place_at id on ≡ None)
+    → AreCompared text run.items 0 on
+only_run text runs run are is on none = record {
   within = omega arith;
   sorted = All-head (λ (run : Vec Entry). IsInOrder text run.items) run [] (subst (AreInOrder text) is are.sorted);
-  same = λ weight. omega (arith, are.same weight, ap (runs_weight weight) is, sum_by-cons (λ (run : Vec Entry). sum_by weight run.items) run []);
+  same = same_run text runs run are is;
   peaceful = λ k d high. absurd (omega (arith, high));
+  packages = none_on text run.items on none;
   fine = are.fine;
 }
 
-pub no_run : (text : List ℕ) (runs : List (Vec Entry)) (entries : List Entry) → AreRuns text runs → runs ≡ [] → entries ≡ [] → AreCompared text entries 0
-no_run text runs entries are none empty = record {
+pub no_run : (text : List ℕ) (runs : List (Vec Entry)) (entries : List Entry) → AreRuns text runs → runs ≡ [] → entries ≡ []
+    → (on : Places) → ((id : List ℕ) → place_at id on ≡ None) → AreCompared text entries 0 on
+no_run text runs entries are none empty on nothing = record {
   within = omega arith;
   sorted = λ k d low high. absurd (omega (arith, high, ap length empty));
   same = λ weight. omega (arith, are.same weight, ap (runs_weight weight) none, ap (sum_by weight) empty);
   peaceful = λ k d high. absurd (omega (arith, high));
+  packages = none_on text entries on nothing;
   fine = are.fine;
 }
 
 -- the entries of the only run are compared in fewer steps than a run counts for
 pub few_left : (text : List ℕ) (runs : List (Vec Entry)) (run : Vec Entry) → IsHeaded text → AreRuns text runs → runs ≡ run ∷ []
     → 1 + (length run.items - 0) < 33554432 * length runs + 2
-few_left text runs run head are is = omega (arith, few_rows text head, (only_run text runs run are is).same (λ e. 1), ones run.items, ap length is)
+few_left text runs run head are is = omega (arith, few_rows text head, same_run text runs run are is (λ e. 1), ones run.items, ap length is)
 
 -- the first two of some runs
 pub first_two : (runs rest : List (Vec Entry)) (left right : Vec Entry) (text : List ℕ) → AreRuns text runs → runs ≡ left ∷ right ∷ rest
@@ -195,31 +206,33 @@ run_more text merge runs run are up same = record {
   fine = are.fine;
 }
 
-pub compared_more : (text : List ℕ) (entries : List Entry) (index to : ℕ) → to ≤ length entries → AreCompared text entries index → IsPeacefulBelow text entries to
-    → AreCompared text entries to
-compared_more text entries index to within are peace =
-    record { within = within; sorted = are.sorted; same = are.same; peaceful = peace; fine = are.fine }
+pub compared_more : (text : List ℕ) (entries : List Entry) (index to : ℕ) (old new : Places) → to ≤ length entries → AreCompared text entries index old
+    → IsPeacefulBelow text entries to → AreOnBelow text entries to new → AreCompared text entries to new
+compared_more text entries index to old new within are peace on =
+    record { within = within; sorted = are.sorted; same = are.same; peaceful = peace; packages = on; fine = are.fine }
 
-pub all_compared : (text : List ℕ) (entries : List Entry) (index : ℕ) → IsHeaded text → index ≡ length entries → AreCompared text entries index → IsRead text entries
-all_compared text entries index head end are = record {
+pub all_compared : (text : List ℕ) (entries : List Entry) (index : ℕ) (on : Places) → IsHeaded text → index ≡ length entries → AreCompared text entries index on
+    → IsRead text entries on
+all_compared text entries index on head end are = record {
+  packages = all_on text entries index on end are.same are.packages;
   indexed = indexed text entries head are.same are.sorted (rw (← end) are.peaceful);
   fine = are.fine;
 }
 
 -- fewer steps are left than before
 pub next_by : (text : List ℕ) (old new : Phase) → steps_left text new < steps_left text old → IsNext text old new
-next_by text old (phase.Done entries) less = tt
+next_by text old (phase.Done entries on) less = tt
 next_by text old (phase.Rows place runs) less = less
 next_by text old (phase.Merging merge runs) less = less
-next_by text old (phase.Comparing entries index) less = less
+next_by text old (phase.Comparing entries index on) less = less
 
 -- unless the file is read, fewer steps are left
-pub less_unless_done : (text : List ℕ) (old new : Phase) → ((entries : Vec Entry) → new ≡ phase.Done entries → ⊥) → IsNext text old new
+pub less_unless_done : (text : List ℕ) (old new : Phase) → ((entries : Vec Entry) (on : Places) → new ≡ phase.Done entries on → ⊥) → IsNext text old new
     → steps_left text new < steps_left text old
-less_unless_done text old (phase.Done entries) other h = absurd (other entries refl)
+less_unless_done text old (phase.Done entries on) other h = absurd (other entries on refl)
 less_unless_done text old (phase.Rows place runs) other h = h
 less_unless_done text old (phase.Merging merge runs) other h = h
-less_unless_done text old (phase.Comparing entries index) other h = h
+less_unless_done text old (phase.Comparing entries index on) other h = h
 
 -- a portion that is read counts for more than its run
 pub less_behind : (runs place to size : ℕ) → place < to → to ≤ size → 33554432 * ((runs + 1) + 2 * (size - to) + 2) < 33554432 * (runs + 2 * (size - place) + 2)

@@ -21,5 +21,6 @@ pub mod Merging
 pub mod HoldingsOrder
 pub mod SitesKept
 pub mod HoldingsRead
+pub mod OnListed
 pub mod HoldingsSteps
 pub mod RowFields

@@ -40,8 +40,8 @@ listed_package package_id rows = title_holding package_id [] rows
 abbrev pub unlisted : SiteValue → HoldingValue
 unlisted site = record { is_held = site.holds_unlisted; first = None; last = None }
 
--- what the library has of the titles of a package of which nothing else is said: the package's table decides before its row in
--- the holdings file
+-- what the library has of the titles of a package, unless something is said of the title: the package's table decides before its
+-- row in the holdings file
 abbrev pub holding_beside : SiteValue → List ℕ → HoldingValue
 holding_beside site package_id =
     unwrap_or (package_holding package_id site.packages) (unwrap_or (listed_package package_id (rows_of site.listing)) (unlisted site))
@@ -50,11 +50,16 @@ holding_beside site package_id =
 abbrev pub is_on_title : List ℕ → TitleValue → Bool
 is_on_title package_id rule = rule.holding.is_held && bytes_eq rule.package_id package_id
 
--- the library may have titles of a package: unless the package is off, no table switches a title of it on, and there is no
--- holdings file that might
+-- the row of the holdings file says that the library has a title of this package
+abbrev pub is_on_listed : List ℕ → TitleValue → Bool
+is_on_listed package_id row = has_bytes row.id && is_on_title package_id row
+
+-- the library may have titles of a package: unless the package is off, and neither a table nor a row of the holdings file
+-- switches a title of it on
 abbrev pub may_hold : SiteValue → List ℕ → Bool
 may_hold site package_id =
-    (holding_beside site package_id).is_held || (is_some (find (is_on_title package_id) site.titles) || has_bytes site.listing)
+    (holding_beside site package_id).is_held
+    || (is_some (find (is_on_title package_id) site.titles) || is_some (find (is_on_listed package_id) (rows_of site.listing)))
 
 -- what the library has of a title of a package. The first place that says something decides, in this order: the title's table,
 -- its row in the holdings file, the package's table, its row in the file, and else the default

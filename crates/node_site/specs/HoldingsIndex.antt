@@ -1,15 +1,19 @@
 -- The index of a holdings file: an entry for each row, in the order of their keys, and the faults of the file as they are found.
-use Rattle.std.specs.Prelude.{◌≡◌, ℕ, ◌+◌, ◌<◌, ◌≤◌, max, true, false, List, ◌∷◌, length, drop, filter, if◌then◌else◌, slice_index_or, Some, IsUtf8}
-use Rattle.std.specs.List.{AllAdjacentBelow}
+use Rattle.std.specs.Prelude.{◌≡◌, ℕ, ◌+◌, ◌<◌, ◌≤◌, ◌||◌, max, Bool, true, false, List, ◌∷◌, length, drop, filter, if◌then◌else◌}
+use Rattle.std.specs.Prelude.{slice_index_or, Some, is_some, IsUtf8}
+use Rattle.std.specs.List.{AllAdjacentBelow, find, list_any}
 use Rattle.node_site.specs.declared.entry.Entry.{Entry}
 use Rattle.node_site.specs.Limits.{holdings_limit}
 use Rattle.node_site.specs.declared.fault.ValueFault.TheVariants as bad
 use Rattle.node_site.specs.declared.holdings_fault.BadLine.{BadLine}
 use Rattle.node_site.specs.declared.holdings_fault.HoldingsFault.{HoldingsFault}
 use Rattle.node_site.specs.declared.holdings_fault.HoldingsFault.TheVariants.{TooLong, NotUtf8, Line, Memory}
-use Rattle.node_site.specs.HoldingsFiles.{begins_row, has_header, starts_from}
+use Rattle.node_site.specs.Held.{is_on_listed}
+use Rattle.node_site.specs.HoldingsFiles.{begins_row, has_header, line_at, row_of, rows_of, starts_from}
 use Rattle.node_site.specs.HoldingsFaults.{IsConsistent, at_line, contradicts, first_fault}
 use Rattle.node_site.specs.HoldingsEntries.{AreEntries, IsInOrder}
+use Rattle.node_site.specs.Indexes.{place_at}
+use Rattle.node_site.specs.declared.places.Places.{Places}
 
 -- the entries of all rows in order, and no two rows contradict each other
 pub record IsIndexed (text : List ℕ) (entries : List Entry) : Type 0 where
@@ -43,6 +47,19 @@ IsPeaceful text entries = IsPeacefulBelow text entries (length entries)
 -- an entry of an index that has one at the place
 abbrev pub start_at : List Entry → ℕ → ℕ
 start_at entries place = (slice_index_or entries place (record { hash = 0; start = 0 })).start
+
+-- the entry is that of a row which says that the library has a title of this package
+abbrev pub is_on_entry : List ℕ → List ℕ → Entry → Bool
+is_on_entry text package_id entry = is_on_listed package_id (row_of (line_at text entry.start))
+
+-- the packages with such a row: those that have a place, and those of the entries that are left
+abbrev pub AreOnBelow : List ℕ → List Entry → ℕ → Places → Type 0
+AreOnBelow text entries place on =
+    (id : List ℕ) → (is_some (place_at id on) || list_any (is_on_entry text id) (drop place entries)) ≡ list_any (is_on_entry text id) entries
+
+-- a package has a place exactly if it has such a row
+abbrev pub AreOnListed : List ℕ → Places → Type 0
+AreOnListed text on = (id : List ℕ) → is_some (place_at id on) ≡ is_some (find (is_on_listed id) (rows_of text))
 
 -- a row contradicts the one before it
 pub record IsClash (text : List ℕ) (entries : List Entry) (fault : BadLine) : Type 0 where

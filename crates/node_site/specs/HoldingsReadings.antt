@@ -8,7 +8,8 @@ use Rattle.node_site.specs.declared.holdings_reading.Phase.TheVariants.{Rows, Me
 use Rattle.node_site.specs.HoldingsEntries.{AreEntries, AreInOrder, IsInOrder, IsMerge, entries_at, left_over, merge_weight, runs_weight}
 use Rattle.node_site.specs.HoldingsFaults.{first_fault}
 use Rattle.node_site.specs.HoldingsFiles.{row_places}
-use Rattle.node_site.specs.HoldingsIndex.{IsHeaded, IsIndexed, IsPeacefulBelow, places_behind}
+use Rattle.node_site.specs.HoldingsIndex.{AreOnBelow, AreOnListed, IsHeaded, IsIndexed, IsPeacefulBelow, places_behind}
+use Rattle.node_site.specs.declared.places.Places.{Places}
 
 -- the rows before a place are in sorted runs, and none of them has a fault
 pub record AreRows (text : List ℕ) (place : ℕ) (runs : List (Vec Entry)) : Type 0 where
@@ -38,38 +39,41 @@ pub record AreMerging (text : List ℕ) (merge : Merge) (runs : List (Vec Entry)
   pub same : (weight : Entry → ℕ) → merge_weight weight merge + runs_weight weight runs ≡ sum_by weight (entries_at text (row_places text))
   pub fine : first_fault text (row_places text) ≡ None
 
--- all rows are in order, and as many as the index says do not contradict each other
-pub record AreCompared (text : List ℕ) (entries : List Entry) (index : ℕ) : Type 0 where
+-- all rows are in order, as many as the index says do not contradict each other, and the packages of which these switch a
+-- title on have places
+pub record AreCompared (text : List ℕ) (entries : List Entry) (index : ℕ) (on : Places) : Type 0 where
   pub within : index ≤ length entries
   pub sorted : IsInOrder text entries
   pub same : AreEntries text entries
   pub peaceful : IsPeacefulBelow text entries index
+  pub packages : AreOnBelow text entries index on
   pub fine : first_fault text (row_places text) ≡ None
 
 -- the file is read
-pub record IsRead (text : List ℕ) (entries : List Entry) : Type 0 where
+pub record IsRead (text : List ℕ) (entries : List Entry) (on : Places) : Type 0 where
   pub indexed : IsIndexed text entries
+  pub packages : AreOnListed text on
   pub fine : first_fault text (row_places text) ≡ None
 
 abbrev pub IsPhase : List ℕ → Phase → Type 0
 IsPhase text (Rows place runs) = AreRows text place runs.items
 IsPhase text (Merging merge runs) = AreMerging text merge runs.items
-IsPhase text (Comparing entries index) = AreCompared text entries.items index
-IsPhase text (Done entries) = IsRead text entries.items
+IsPhase text (Comparing entries index on) = AreCompared text entries.items index on
+IsPhase text (Done entries on) = IsRead text entries.items on
 
 -- at most how many steps are left. A run counts for more than the entries of a file, so that a merge leaves fewer steps
 abbrev pub steps_left : List ℕ → Phase → ℕ
 steps_left text (Rows place runs) = 33554432 * (length runs.items + 2 * (length text - place) + 2)
 steps_left text (Merging merge runs) = 33554432 * (length runs.items + 1) + left_over merge + 2
-steps_left text (Comparing entries index) = 1 + (length entries.items - index)
-steps_left text (Done entries) = 0
+steps_left text (Comparing entries index on) = 1 + (length entries.items - index)
+steps_left text (Done entries on) = 0
 
 -- after a phase fewer steps are left, or the file is read
 abbrev pub IsNext : List ℕ → Phase → Phase → Type 0
-IsNext text phase (Done entries) = Unit {0}
+IsNext text phase (Done entries on) = Unit {0}
 IsNext text phase (Rows place runs) = steps_left text (Rows place runs) < steps_left text phase
 IsNext text phase (Merging merge runs) = steps_left text (Merging merge runs) < steps_left text phase
-IsNext text phase (Comparing entries index) = steps_left text (Comparing entries index) < steps_left text phase
+IsNext text phase (Comparing entries index on) = steps_left text (Comparing entries index on) < steps_left text phase
 
 -- a text with its header is in a phase
 pub record IsReading (text : List ℕ) (phase : Phase) : Type 0 where

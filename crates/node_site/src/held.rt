@@ -8,7 +8,6 @@ ghost use Rattle.node_site.specs.Site.{holding_of, package_of, title_of};
 
 use crate::checks::days_at;
 use crate::holding::Holding;
-use crate::holdings_rows::has_bytes;
 use crate::lookup::switch_at;
 use crate::site_file::SiteFile;
 use feed_dates::DayRange;
@@ -69,7 +68,7 @@ fn listed_package(site: &SiteFile, package_id: &[u8]) -> Option<Holding>
     site.listed_holding(package_id, b"")
 }
 
-// Returns what the library has of the titles of a package of which nothing else is said.
+// Returns what the library has of the titles of a package, unless something is said of the title.
 fn holding_beside(site: &SiteFile, package_id: &[u8]) -> Holding
     ensures { result ≡ holding_beside site.now package_id.now }
 {
@@ -96,12 +95,12 @@ fn holding_at(site: &SiteFile, package_id: &[u8], id: &[u8]) -> Holding
 }
 
 /// Returns whether a library may have titles of a package. If not, it has none: the package is switched off, no table
-/// switches a title of it on, and there is no holdings file that might.
+/// switches a title of it on, and no row of the holdings file does.
 pub fn may_hold(site: &SiteFile, package_id: &[u8]) -> bool
     ensures { result ≡ may_hold site.now package_id.now }
 {
     holding_beside(site, package_id).is_held
-        || (site.on_title_table(package_id).is_some() || has_bytes(site.listing()))
+        || (site.on_title_table(package_id).is_some() || site.has_on_listed(package_id))
 }
 
 /// Returns whether a library has what is asked for of a row of this package, with this `title_id` and this coverage,

@@ -11,6 +11,8 @@ use crate::holdings_fault::HoldingsFault;
 use crate::holdings_file::HoldingsFile;
 use crate::holdings_rows::{add_rows, check_text};
 use crate::merge::Merge;
+use crate::on_listed::put_entries;
+use crate::places::Places;
 use std::alloc::Global;
 use std::marker::Model;
 
@@ -30,10 +32,11 @@ pub(crate) enum Phase {
     Rows(usize, Vec<Vec<Entry>>),
     // All rows are in sorted runs, and two of them are being merged.
     Merging(Merge, Vec<Vec<Entry>>),
-    // All rows are in order, and as many as the number says do not contradict each other.
-    Comparing(Vec<Entry>, usize),
+    // All rows are in order, as many as the number says do not contradict each other, and the packages of which these
+    // switch a title on have places.
+    Comparing(Vec<Entry>, usize, Places),
     // The file is read.
-    Done(Vec<Entry>),
+    Done(Vec<Entry>, Places),
 }
 
 /// The reading of a holdings file whose text has its header.
@@ -103,8 +106,8 @@ fn merge_or_compare(
 {
     if runs.len() < 2 {
         return match runs.pop() {
-            Some(entries) => Ok(Phase::Comparing(entries, 0)),
-            None => Ok(Phase::Comparing(Vec::new(alloc), 0)),
+            Some(entries) => Ok(Phase::Comparing(entries, 0, Places::new(alloc))),
+            None => Ok(Phase::Comparing(Vec::new(alloc), 0, Places::new(alloc))),
         };
     }
     let (left, right) = take_two(&mut runs);
@@ -166,21 +169,30 @@ fn merge_some(
     }
 }
 
-// Looks for a contradiction among some more entries.
-fn compare_some(text: &[u8], entries: Vec<Entry>, index: usize) -> Result<Phase, HoldingsFault>
+// Looks for a contradiction among some more entries, and for the packages of which they switch a title on.
+fn compare_some(
+    alloc: Global,
+    text: &[u8],
+    entries: Vec<Entry>,
+    index: usize,
+    mut on: Places,
+) -> Result<Phase, HoldingsFault>
     requires headed { IsHeaded text.now }
-    requires compared { AreCompared text.now entries.items index }
+    requires compared { AreCompared text.now entries.items index on }
     ensures is { IfOk result (IsPhase text.now) }
-    ensures less { IfOk result (IsNext text.now (Phase.Comparing entries index)) }
+    ensures less { IfOk result (IsNext text.now (Phase.Comparing entries index on)) }
     ensures refused { IfErr result (IsHoldingsFault text.now) }
 {
     if index == entries.len() {
-        return Ok(Phase::Done(entries));
+        return Ok(Phase::Done(entries, on));
     }
     let to = entries.len().min(index.saturating_add(COMPARE_LEN));
-    match clash_in(text, &entries, index, to) {
-        Some(fault) => Err(HoldingsFault::Line(fault)),
-        None => Ok(Phase::Comparing(entries, to)),
+    if let Some(fault) = clash_in(text, &entries, index, to) {
+        return Err(HoldingsFault::Line(fault));
+    }
+    match put_entries(alloc, text, &entries, index, to, &mut on) {
+        Ok(()) => Ok(Phase::Comparing(entries, to, on)),
+        Err(_) => Err(HoldingsFault::Memory),
     }
 }
 
@@ -195,8 +207,8 @@ fn next_phase(alloc: Global, text: &[u8], phase: Phase) -> Result<Phase, Holding
     match phase {
         Phase::Rows(place, runs) => read_some(alloc, text, place, runs),
         Phase::Merging(merge, runs) => merge_some(alloc, text, merge, runs),
-        Phase::Comparing(entries, index) => compare_some(text, entries, index),
-        Phase::Done(entries) => Ok(Phase::Done(entries)),
+        Phase::Comparing(entries, index, on) => compare_some(alloc, text, entries, index, on),
+        Phase::Done(entries, on) => Ok(Phase::Done(entries, on)),
     }
 }
 
@@ -243,7 +255,7 @@ impl HoldingsReading {
             Err(fault) => return Err(fault),
         };
         match next {
-            Phase::Done(entries) => Ok(ReadingStep::Done(HoldingsFile { text, entries })),
+            Phase::Done(entries, on) => Ok(ReadingStep::Done(HoldingsFile { text, entries, on })),
             phase => Ok(ReadingStep::More(HoldingsReading { text, phase })),
         }
     }

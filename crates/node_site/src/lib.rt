@@ -35,6 +35,7 @@ mod lookup;
 mod merge;
 mod notes;
 mod occasion;
+mod on_listed;
 mod on_titles;
 mod open_prefixes;
 mod packages;

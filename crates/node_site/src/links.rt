@@ -49,8 +49,8 @@ fn joined(alloc: Global, prefix: &Prefix<'_>, target: &[u8]) -> Result<Vec<u8>, 
     Ok(link)
 }
 
-/// Returns false only if the link to a target behind this prefix is not safe ([`is_link`](crate::is_link)). Looks at the
-/// length of the target, its bytes and its host, and does not write the link.
+/// Returns false only if the link to a target behind this prefix is not safe ([`is_link`](crate::is_link)). Looks at
+/// the length of the target, its bytes and its host, and does not write the link.
 #[tactic(auto, using(crate::proofs::Proxying::odd_is_unsafe, crate::proofs::Proxying::hostless_is_unsafe))]
 pub fn may_be_link(prefix: &Option<Prefix<'_>>, target: &[u8]) -> bool
     ensures { OnFalse result (is_link (through prefix.now target.now) ≡ false) }
@@ -82,8 +82,8 @@ pub fn through<'a>(
     }
 }
 
-/// Returns how many of some bytes are left beside the link to a target behind a prefix. Counts three bytes for each byte
-/// of a target that is percent-encoded.
+/// Returns how many of some bytes are left beside the link to a target behind a prefix. Counts three bytes for each
+/// byte of a target that is percent-encoded.
 pub fn left_beside(bytes: usize, prefix: &Option<Prefix<'_>>, target: &[u8]) -> usize
     ensures { result ≡ bytes - room_of prefix.now target.now }
 {

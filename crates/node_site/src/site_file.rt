@@ -1,10 +1,10 @@
 //! The site file, and how it is read.
-ghost use Rattle.std.specs.Prelude.{◌≡◌, ◌≤◌, IfErr, IfOk, Some, length, option_copied, option_map, take};
+ghost use Rattle.std.specs.Prelude.{◌≡◌, ◌≤◌, IfErr, IfOk, Some, is_some, length, option_copied, option_map, take};
 ghost use Rattle.std.specs.List.{find, position_or_len};
 ghost use Rattle.toml.specs.Errors.{IsMemory, IsWithin, span_start};
 ghost use Rattle.toml.specs.Parse.{parse_document};
 ghost use Rattle.toml.specs.View.{array_view, table_view};
-ghost use Rattle.node_site.specs.Held.{is_on_title, is_package, is_title, title_holding};
+ghost use Rattle.node_site.specs.Held.{is_on_listed, is_on_title, is_package, is_title, title_holding};
 ghost use Rattle.node_site.specs.HoldingsFiles.{rows_of};
 ghost use Rattle.node_site.specs.Indexes.{count_in, row_at, row_in};
 ghost use Rattle.node_site.specs.Limits.{site_limit};
@@ -395,6 +395,16 @@ impl SiteFile {
         match &self.listing {
             Some(listing) => listing.holding(package_id, id),
             None => None,
+        }
+    }
+
+    /// Returns whether a row of the holdings file says that the library has a title of a package.
+    pub(crate) fn has_on_listed(&self, package_id: &[u8]) -> bool
+        ensures { result ≡ is_some (find (is_on_listed package_id.now) (rows_of self.now.listing)) }
+    {
+        match &self.listing {
+            Some(listing) => listing.has_on(package_id),
+            None => false,
         }
     }
 

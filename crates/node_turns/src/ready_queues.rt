@@ -127,8 +127,8 @@ impl ReadyQueues {
     }
 
     /// Takes the one that the turn serves next. Those that were idle go first, one of each address in turn. Once the
-    /// time of the turn is over, it still serves one of each kind, if it has served none. What the turn may serve of the
-    /// other kind stays as it is.
+    /// time of the turn is over, it still serves one of each kind, if it has served none. What the turn may serve of
+    /// the other kind stays as it is.
     pub fn next(&mut self, rest: &mut TurnRest, is_over: bool) -> Option<usize>
         ensures taken { IsTaken result self.old self.new }
         ensures was { IfSome result (λ key. IsReady self.old key) }

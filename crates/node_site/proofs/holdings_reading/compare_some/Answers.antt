@@ -9,7 +9,7 @@ use Rattle.node_site.proofs.holdings_reading.compare_some.Goals as goal
 
 pub returns-then-index-len-clause-is : goal.returns-then-index-len-clause-is
 returns-then-index-len-clause-is c =
-    all_compared c.args.text.now c.args.entries.items c.args.index c.requires.headed (omega arith) c.requires.compared
+    all_compared c.args.text.now c.args.entries.items c.args.index c.args.on c.requires.headed (omega arith) c.requires.compared
 
 pub clash_in-requires-clause-hashed : goal.clash_in-requires-clause-hashed
 clash_in-requires-clause-hashed c =

@@ -11,7 +11,7 @@ returns-then-len-lt2-clause-less c =
       | in-Some w ↦
           let is = only_one runs c.pop.new.self.items w.in-Some.entries (omega arith) w.in-Some.ensures.items in
           rw w.result-is (few_left text runs w.in-Some.entries c.requires.headed c.requires.runs is)
-      | in-None w ↦ rw w.result-is (omega (arith, ap length w.new.ensures.items))
+      | in-None w ↦ rw w.result-is (omega (arith, ap length w.new-in-None.ensures.items))
     ]
 
 pub returns-in-Ok-clause-is : goal.returns-in-Ok-clause-is

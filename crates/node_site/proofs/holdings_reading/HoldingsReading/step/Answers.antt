@@ -10,6 +10,6 @@ pub returns-in-Done-clause-step : goal.returns-in-Done-clause-step
 returns-in-Done-clause-step c =
     let text = c.self.inside.text.items in
     let same : text ≡ c.args.self.text = ap (λ (r : ReadingValue). r.text) c.self.view_is in
-    let at_end : IsPhase text (Done c.in-Done.entries) =
-    subst (λ (t : List ℕ). IsPhase t (Done c.in-Done.entries)) c.deref.ensures.value (subst (IsPhase c.deref.result.now) c.in-Done.is c.in-Ok.ensures.is) in
-    (same, subst IsHoldingsFile same (file_is text c.in-Done.entries.items c.self.invariant.headed at_end))
+    let at_end : IsPhase text (Done c.in-Done.entries c.in-Done.on) =
+    subst (λ (t : List ℕ). IsPhase t (Done c.in-Done.entries c.in-Done.on)) c.deref.ensures.value (subst (IsPhase c.deref.result.now) c.in-Done.is c.in-Ok.ensures.is) in
+    (same, subst IsHoldingsFile same (file_is text c.in-Done.entries.items c.in-Done.on c.self.invariant.headed at_end))
