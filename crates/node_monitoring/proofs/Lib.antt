@@ -1,5 +1,5 @@
-pub mod Steps
-pub mod LabelsRead
+pub mod MetricsRead
+pub mod SeriesNamed
 pub mod Buckets
 pub mod EscapedTexts
 pub mod LineParts

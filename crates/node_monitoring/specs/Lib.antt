@@ -1,9 +1,9 @@
 pub mod Counts
 pub mod Histograms
 pub mod SiteNames
-pub mod Labels
-pub mod MetricsFragments
 pub mod MetricsTexts
+pub mod Families
+pub mod Series
 pub mod Laws
 pub mod LogEscapes
 pub mod LogTimes

@@ -3,7 +3,8 @@ use Rattle.std.specs.Prelude.{◌≡◌, ◌⊎◌, ◌||◌, ◌&&◌, not, ℕ
 use Rattle.httparse.specs.Grammar.{RequestHead}
 use Rattle.feed_http_heads.specs.Fields.{has_any, values_named}
 use Rattle.feed_http_heads.specs.Requests.{lacks_host, is_get, is_head}
-use Rattle.node_monitoring.specs.MetricsTexts.{MetricsValue, metrics_text}
+use Rattle.node_monitoring.specs.Families.{metrics_text}
+use Rattle.node_monitoring.specs.MetricsTexts.{MetricsValue}
 use Rattle.node_monitoring.specs.declared.metrics_text.Gauges.{Gauges}
 use Rattle.node_request.specs.Routes.{route_of}
 use Rattle.node_request.specs.declared.route.Route.{Route}

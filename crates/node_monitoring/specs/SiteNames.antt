@@ -1,10 +1,7 @@
 -- The sites of a node by their places, with the names of their files.
-use Rattle.std.specs.Prelude.{ℕ, nat_lt, if◌then◌else◌, List, [], ◌∷◌, length, slice_get, unwrap_or, Option, Some, None}
+use Rattle.std.specs.Prelude.{ℕ, nat_lt, if◌then◌else◌, List, [], ◌∷◌, length, Option, Some, None}
+use Rattle.feed_metrics.specs.Rows.{name_at}
 use Rattle.node_monitoring.specs.Counts.{Added}
-
--- the name of the site at a place, or nothing
-abbrev pub name_at : List (List ℕ) → ℕ → List ℕ
-name_at names k = unwrap_or (slice_get names k) []
 
 -- the name of a site, or nothing
 abbrev pub site_name : List (List ℕ) → Option ℕ → List ℕ

@@ -1,7 +1,8 @@
 //! A law of the lines of the log, stated as the contract of a function with an empty body.
 ghost use Rattle.node_monitoring.specs.ShownLines.{LinesArePlain};
 ghost use Rattle.node_monitoring.specs.LogLaws.{EscapedIsVisible, EscapedReadsBack, LineSplits};
-ghost use Rattle.node_monitoring.specs.Laws.{CountersNeverFall, HistogramIsCumulative, LabelReadsBack};
+ghost use Rattle.node_monitoring.specs.Laws.{CountersNeverFall, HistogramIsCumulative, MetricsReadBack};
+ghost use Rattle.node_monitoring.specs.Series.{CountersAreNamed, FamiliesAreApart, GaugesAreNamed, RequestsAreNamed};
 
 /// In a log without queries each request line is a dash, or a method that RFC 9110 names, a path of a node and a
 /// version, whatever bytes a client sent. A dash is in place of another method or path.
@@ -35,7 +36,28 @@ pub fn histogram_is_cumulative()
     ensures { HistogramIsCumulative }
 {}
 
-/// A reader of the format reads the value of a label back, whatever it is, and no end of a line is in it.
-pub fn label_reads_back()
-    ensures { LabelReadsBack }
+/// A reader of the exposition format reads from the metrics the help and the type of each family and then its samples,
+/// each with its name, its labels and its value, and nothing else.
+pub fn metrics_read_back()
+    ensures { MetricsReadBack }
+{}
+
+/// Each counter has exactly one sample of the name and the labels by which operators know it, with its value.
+pub fn counters_are_named()
+    ensures { CountersAreNamed }
+{}
+
+/// So have the requests of each target with a status of each class.
+pub fn requests_are_named()
+    ensures { RequestsAreNamed }
+{}
+
+/// So have the open connections and the bytes held.
+pub fn gauges_are_named()
+    ensures { GaugesAreNamed }
+{}
+
+/// Each family is there once. The names of counters end in `_total`, and those of no other family do.
+pub fn families_are_apart()
+    ensures { FamiliesAreApart }
 {}

@@ -16,8 +16,9 @@ mod log_fragment;
 mod log_line;
 mod log_time;
 mod metrics;
-mod metrics_fragment;
+mod metrics_table;
 mod metrics_text;
+mod metrics_values;
 mod report;
 mod report_response;
 mod report_text;
@@ -32,8 +33,9 @@ pub use counter::Counter;
 pub use exchange::{put_exchange, record_exchange};
 pub use histogram::BOUNDS;
 pub use laws::{
-    counters_never_fall, escaped_is_visible, escaped_reads_back, histogram_is_cumulative,
-    label_reads_back, line_splits, lines_are_plain,
+    counters_are_named, counters_never_fall, escaped_is_visible, escaped_reads_back,
+    families_are_apart, gauges_are_named, histogram_is_cumulative, line_splits, lines_are_plain,
+    metrics_read_back, requests_are_named,
 };
 pub use line_log::{DroppedLines, LineLog};
 pub use log_entry::{LogEntry, put_line};

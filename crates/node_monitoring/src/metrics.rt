@@ -1,15 +1,16 @@
 //! The counters of a node, and the times that its requests took.
 ghost use Rattle.std.specs.Prelude.{◌≡◌, ◌<◌, ℕ, IfOk, OnErr, OnOk, List, [], ◌∷◌, ◌++◌};
 ghost use Rattle.std.specs.Prelude.{length, slice_index};
+ghost use Rattle.feed_metrics.specs.Rows.{name_at};
 ghost use Rattle.node_monitoring.specs.Counts.{Added, HasCounted, place_of, request_place};
 ghost use Rattle.node_monitoring.specs.Histograms.{HasObserved};
 ghost use Rattle.node_monitoring.specs.MetricsTexts.{KeepsSites};
-ghost use Rattle.node_monitoring.specs.SiteNames.{name_at, site_added, site_name};
+ghost use Rattle.node_monitoring.specs.SiteNames.{site_added, site_name};
 
-use crate::counter::Counter;
+use crate::counter::{COUNTER_COUNT, Counter};
 use crate::counters::Counters;
 use crate::histogram::Histogram;
-use crate::request_kind::{StatusClass, Target};
+use crate::request_kind::{REQUEST_COUNT, StatusClass, Target, request_place};
 use std::alloc::{AllocError, Global};
 use std::marker::Model;
 
@@ -50,6 +51,8 @@ pub struct Metrics {
 impl Model for Metrics {
     ghost use Rattle.std.specs.Prelude.{◌≡◌, length};
     ghost use Rattle.node_monitoring.specs.MetricsTexts.{MetricsValue};
+    ghost use Rattle.node_monitoring.specs.declared.counter.TheConstants.{COUNTER_COUNT};
+    ghost use Rattle.node_monitoring.specs.declared.request_kind.TheConstants.{REQUEST_COUNT};
 
     ghost Value = { MetricsValue };
 
@@ -61,16 +64,8 @@ impl Model for Metrics {
       times = m.times;
     } };
 
-    ghost invariant = { λ m. (length m.counters ≡ 19) × (length m.requests ≡ 36)
+    ghost invariant = { λ m. (length m.counters ≡ COUNTER_COUNT) × (length m.requests ≡ REQUEST_COUNT)
         × (length m.sites ≡ length m.site_names.items) };
-}
-
-// Returns the place of the counter of a target and a class.
-fn request_place(target: Target, class: StatusClass) -> usize
-    ensures value { result ≡ request_place target class }
-    ensures below { result < 36 }
-{
-    target.place() * 4 + class.place()
 }
 
 impl Metrics {
@@ -82,8 +77,8 @@ impl Metrics {
         ensures times { IfOk result (λ m. HasObserved m.times []) }
     {
         Ok(Metrics {
-            counters: Counters::new(alloc, 19)?,
-            requests: Counters::new(alloc, 36)?,
+            counters: Counters::new(alloc, COUNTER_COUNT)?,
+            requests: Counters::new(alloc, REQUEST_COUNT)?,
             site_names: Vec::new(alloc),
             sites: Counters::new(alloc, 0)?,
             times: Histogram::new(alloc)?,
@@ -180,11 +175,5 @@ impl Metrics {
         ensures { result ≡ slice_index self.now.counters (place_of counter) }
     {
         self.counters.get(counter.place())
-    }
-
-    pub(crate) fn requests(&self, target: Target, class: StatusClass) -> u64
-        ensures { result ≡ slice_index self.now.requests (request_place target class) }
-    {
-        self.requests.get(request_place(target, class))
     }
 }

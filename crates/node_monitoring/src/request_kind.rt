@@ -1,7 +1,7 @@
 //! The labels of a request: its target and the class of its response's status.
 ghost use Rattle.std.specs.Prelude.{◌≡◌, ◌<◌};
-ghost use Rattle.node_monitoring.specs.Counts.{class_of, class_place, target_place};
-ghost use Rattle.node_monitoring.specs.MetricsTexts.{class_name, target_name};
+ghost use Rattle.node_monitoring.specs.Counts.{class_of, request_place};
+ghost use Rattle.node_monitoring.specs.declared.request_kind.TheConstants.{REQUEST_COUNT};
 
 /// The resource or the report that the target of a request names.
 #[derive(Clone, Copy, Debug, PartialEq, Eq)]
@@ -26,59 +26,18 @@ pub enum StatusClass {
     ServerError,
 }
 
-pub(crate) const TARGETS: [Target; 9] = [
-    Target::Home,
-    Target::Status,
-    Target::Resolve,
-    Target::Go,
-    Target::Titles,
-    Target::Feed,
-    Target::Metrics,
-    Target::Health,
-    Target::Other,
+/// The number of classes, and of the counters of targets and classes.
+pub(crate) const CLASS_COUNT: usize = StatusClass::ServerError as usize + 1;
+
+pub(crate) const REQUEST_COUNT: usize = (Target::Other as usize + 1) * CLASS_COUNT;
+
+/// The label of each target, in their order.
+pub(crate) const TARGETS: [&str; 9] = [
+    "home", "status", "resolve", "go", "titles", "feed", "metrics", "health", "other",
 ];
 
-pub(crate) const CLASSES: [StatusClass; 4] = [
-    StatusClass::Successful,
-    StatusClass::Redirection,
-    StatusClass::ClientError,
-    StatusClass::ServerError,
-];
-
-impl Target {
-    pub(crate) fn place(self) -> usize
-        ensures value { result ≡ target_place self }
-        ensures below { result < 9 }
-    {
-        match self {
-            Target::Home => 0,
-            Target::Status => 1,
-            Target::Resolve => 2,
-            Target::Go => 3,
-            Target::Titles => 4,
-            Target::Feed => 5,
-            Target::Metrics => 6,
-            Target::Health => 7,
-            Target::Other => 8,
-        }
-    }
-
-    pub(crate) fn name(self) -> &'static [u8]
-        ensures { result.now ≡ target_name self }
-    {
-        match self {
-            Target::Home => b"home",
-            Target::Status => b"status",
-            Target::Resolve => b"resolve",
-            Target::Go => b"go",
-            Target::Titles => b"titles",
-            Target::Feed => b"feed",
-            Target::Metrics => b"metrics",
-            Target::Health => b"health",
-            Target::Other => b"other",
-        }
-    }
-}
+/// The label of each class, in their order.
+pub(crate) const CLASSES: [&str; 4] = ["2xx", "3xx", "4xx", "5xx"];
 
 impl StatusClass {
     /// Returns the class of a status.
@@ -95,27 +54,12 @@ impl StatusClass {
             StatusClass::ServerError
         }
     }
+}
 
-    pub(crate) fn place(self) -> usize
-        ensures value { result ≡ class_place self }
-        ensures below { result < 4 }
-    {
-        match self {
-            StatusClass::Successful => 0,
-            StatusClass::Redirection => 1,
-            StatusClass::ClientError => 2,
-            StatusClass::ServerError => 3,
-        }
-    }
-
-    pub(crate) fn name(self) -> &'static [u8]
-        ensures { result.now ≡ class_name self }
-    {
-        match self {
-            StatusClass::Successful => b"2xx",
-            StatusClass::Redirection => b"3xx",
-            StatusClass::ClientError => b"4xx",
-            StatusClass::ServerError => b"5xx",
-        }
-    }
+/// Returns the place of the counter of a target and a class.
+pub(crate) fn request_place(target: Target, class: StatusClass) -> usize
+    ensures value { result ≡ request_place target class }
+    ensures below { result < REQUEST_COUNT }
+{
+    target as usize * CLASS_COUNT + class as usize
 }
