@@ -42,7 +42,7 @@ DATA = man/kbfeed.1:share/man/man1/kbfeed.1 man/kbfeed-feed.1:share/man/man1/kbf
 	$(foreach page,$(PAGES),$(page):$(DOC)/$(page))
 INTO = $(DESTDIR)$(PREFIX)
 
-.PHONY: help build demo replay test prove mutants sessions docs site pages check fmt lint bench install uninstall deb
+.PHONY: help build demo replay test prove mutants sessions docs site pictures pages check fmt lint bench install uninstall deb
 
 help:
 	@echo "make replay     replays the scripts of samples/ and compares the transcripts, with the proved program, or with a"
@@ -72,6 +72,7 @@ help:
 	@echo "make docs                writes the pages that are made of the sources, with Python alone"
 	@echo "make site                writes the pages and manual pages as a site of files that can be searched, into out/site or"
 	@echo "                         SITE=FOLDER; it needs Sphinx with its parser of Markdown, and mandoc"
+	@echo "make pictures            takes the pictures of pages anew, with Chromium"
 	@echo "make pages               compares the pages with the sources and the sessions"
 	@echo "make fmt                 formats the sources of every crate, as the proofs require"
 	@echo "make lint                checks widths and module docs, and runs shellcheck and Python linters if installed"
@@ -111,6 +112,9 @@ docs:
 
 site: docs
 	@tools/site/build $(SITE)
+
+pictures:
+	@tools/pictures/take
 
 pages:
 	@tools/check_pages
