@@ -50,12 +50,14 @@ def count_of(mutants):
         (f" ({', '.join(others)})" if others else "")
 
 
-def running(folder):
-    """Returns the crates below a folder that a process of the toolchain is working on."""
+def running(folder, gate):
+    """Returns the crates below a folder that a process of the toolchain is working on. With names of crates the gate
+    works on a copy, whose path has the gate's number."""
     found = set()
     for place in pathlib.Path("/proc").glob("[0-9]*"):
         try:
-            if pathlib.Path(os.readlink(place / "cwd")).parent == folder / "crates":
+            top = pathlib.Path(os.readlink(place / "cwd")).parent
+            if top == folder / "crates" or (top.name == "crates" and f"/rt-copy-{gate}-" in str(top)):
                 found.update(re.findall(rb"--crate-name\0(\w+)", (place / "cmdline").read_bytes()))
         except OSError:
             continue
@@ -67,6 +69,8 @@ class Progress:
 
     def __init__(self, crates, folder):
         self.folder, self.left, self.began, self.since = folder, list(crates), time.monotonic(), {}
+        # The number of the gate's process, once it has begun.
+        self.gate = None
         sources = {it: (folder / "crates" / it / "src").rglob("*.rt") for it in crates}
         self.weight = {it: sum(len(file.read_bytes()) for file in files) for it, files in sources.items()}
         self.ended = threading.Event()
@@ -76,7 +80,7 @@ class Progress:
         reported = time.monotonic()
         while not self.ended.wait(LOOK):
             now = time.monotonic()
-            at_work = running(self.folder)
+            at_work = running(self.folder, self.gate)
             for crate in at_work:
                 self.since.setdefault(crate, now)
             if now - reported >= REPORT:
@@ -139,6 +143,7 @@ class Gate:
         self.process = subprocess.Popen([*words, *self.words], cwd=self.folder, stdin=subprocess.DEVNULL,
                                         stdout=subprocess.PIPE, env=self.variables, stderr=subprocess.STDOUT, text=True,
                                         errors="replace", start_new_session=True)
+        progress.gate = self.process.pid
         watcher = threading.Thread(target=progress.watch, daemon=True)
         watcher.start()
         try:
