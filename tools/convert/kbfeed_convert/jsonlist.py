@@ -6,9 +6,11 @@ import json
 import re
 from typing import IO, Any, Iterator
 
+from . import strict
 from .dates import YEARS
 from .faults import COLUMNS, LINE, Refused
-from .labels import label
+from .labels import IDENTIFIERS, label
+from .texts import folded, word_set, words
 
 CHUNK = 1 << 16
 DECODER = json.JSONDecoder()
@@ -19,6 +21,11 @@ DEEPEST = 5
 # The ranges that one record may have.
 MOST_RANGES = 1_000
 DATES = ("date_first_issue_online", "date_last_issue_online")
+UNITS = words("units")
+# The words in the key of a list of ranges that is the library's own.
+OWN = word_set("own", "words")
+# The first date of a record whose list of ranges is empty.
+EMPTY = "a list without ranges"
 # The characters of a list that is not used that a cell has.
 SHORT = 500
 # What follows the key of a list that is not used, as no label says what is inside.
@@ -32,8 +39,12 @@ class JsonList:
     def __init__(self, file: IO[bytes]):
         self.file = file
         self.keys: dict[str, None] = {}
+        # The key of a first date by the list of ranges that it is in.
+        self.first: dict[str, str] = {}
         for record in self.records():
             for key in record:
+                if label(key) == DATES[0]:
+                    self.first.setdefault(key.rpartition(".")[0], key)
                 self.keys[key] = None
                 if len(self.keys) > COLUMNS:
                     raise Refused(f"the header has more than {COLUMNS} columns")
@@ -42,6 +53,10 @@ class JsonList:
         """Yields the keys, and then the values of each record."""
         yield list(self.keys)
         for record in self.records():
+            # A list of ranges that is empty does not say that there is all.
+            for name, key in self.first.items():
+                if record.get(name) == "" and not any(record.get(it) for it in self.first.values()):
+                    record[key] = EMPTY
             yield [record.get(key, "") for key in self.keys]
 
     def records(self) -> Iterator[dict[str, str]]:
@@ -104,33 +119,93 @@ def is_lines(text: str) -> bool:
 
 
 def several(value: dict[str, Any]) -> Iterator[dict[str, str]]:
-    """Yields an object flat: once for each object in its first list of ranges, or once if it has none."""
-    ranges: list[dict[str, str]] = []
-    record = dict(flat(value, "", 0, ranges))
-    for one in ranges or [{}]:
-        yield {**record, **one}
+    """Yields an object flat: once for each range of the list that counts, or once if it has none."""
+    found = Flat(value, "", 0)
+    yield from found.branches() or [found.texts]
 
 
-def flat(value: dict[str, Any], before: str, depth: int, ranges: list[dict[str, str]]) -> Iterator[tuple[str, str]]:
-    """Yields the texts of an object by their keys, `outer.inner` for one inside another. Adds its ranges to a list.
+class Flat:
+    """An object as texts by their keys, `outer.inner` for one inside another, and its lists of ranges.
 
-    A list of lists or of other objects is one text with a key that is no label, so that the report has it."""
-    for key, it in value.items():
-        name = f"{before}{key}"
-        if isinstance(it, dict) and depth < DEEPEST:
-            yield from flat(it, f"{name}.", depth + 1, ranges)
-        elif isinstance(it, dict) or isinstance(it, list) and any(isinstance(one, (dict, list)) for one in it):
-            many = it if isinstance(it, list) else [it]
-            if not ranges and (found := ranges_of(many, name)):
-                ranges += found
-                continue
-            if texts := joined(many):
-                yield name, texts
-            yield name + NESTED, nested(many)
-        elif isinstance(it, list):
-            yield name, joined(it)
+    A list of lists or of other objects is one text with a key that is no label, so that the report has it. A list of
+    numbers that say what they are, as `{"type": "ISSN", "subtype": "Print", "id": ..}`, has a key for each of these."""
+
+    def __init__(self, value: dict[str, Any], before: str, depth: int):
+        self.texts: dict[str, str] = {}
+        self.ranges: list[tuple[str, list[Any], list[dict[str, str]]]] = []
+        self.add(value, before, depth)
+
+    def add(self, value: dict[str, Any], before: str, depth: int) -> None:
+        """Adds the values of an object."""
+        for key, it in value.items():
+            name = f"{before}{key}"
+            if isinstance(it, dict) and (length := length_of(it)) is not None:
+                self.texts[name] = length
+            elif isinstance(it, dict) and depth < DEEPEST:
+                self.add(it, f"{name}.", depth + 1)
+            elif isinstance(it, dict) or isinstance(it, list) and any(isinstance(one, (dict, list)) for one in it):
+                self.add_list(it if isinstance(it, list) else [it], name, depth)
+            else:
+                self.texts[name] = joined(it) if isinstance(it, list) else shown(it)
+
+    def add_list(self, many: list[Any], name: str, depth: int) -> None:
+        """Adds a list of objects or of lists."""
+        is_short = depth + 1 < DEEPEST and len(many) <= MOST_RANGES and all(isinstance(it, dict) for it in many)
+        objects = [(it, Flat(it, f"{name}.", depth + 1)) for it in many] if is_short else []
+        if numbers := numbers_of([it for _, it in objects], name):
+            self.texts.update(numbers)
+        elif found := ranges_of(objects):
+            self.ranges.append((name, many, found))
         else:
-            yield name, shown(it)
+            self.leave(many, name)
+
+    def leave(self, many: list[Any], name: str) -> None:
+        """Adds a list that is not used as one text."""
+        if texts := joined(many):
+            self.texts[name] = texts
+        self.texts[name + NESTED] = nested(many)
+
+    def branches(self) -> list[dict[str, str]]:
+        """Returns the texts once for each range. Of several lists the library's own one counts, or else the first."""
+        own = [it for it in self.ranges if OWN & {*folded(it[0].rpartition(".")[2]).split()}]
+        for chosen in (own or self.ranges)[:1]:
+            for name, many, _ in [] if own else self.ranges[1:]:
+                self.leave(many, name)
+            return [{**self.texts, **one} for one in chosen[2]]
+        return []
+
+
+def numbers_of(many: list[Flat], name: str) -> dict[str, str]:
+    """Returns the numbers of a list of objects by what their other texts say they are, or nothing if it has another
+    object, as one with a title. Objects without an ISSN or ISBN are other numbers of the title."""
+    found: dict[str, list[str]] = {}
+    for one in many:
+        labels = {label(key[len(name) + 1:]) for key in one.texts}
+        texts = list(one.texts.values())
+        given = [it for it in texts if strict.issn(it) or strict.isbn(it)]
+        if len(given) > 1 or one.ranges or labels & {*DATES} or any(key.endswith(NESTED) for key in one.texts):
+            return {}
+        if given:
+            said = " ".join(it for it in texts if it not in given and any(map(str.isalpha, it)))
+            if label(said) not in IDENTIFIERS and "publication_title" in labels:
+                return {}
+            kind = said if label(said) in IDENTIFIERS else "ISSN" if strict.issn(given[0]) else "ISBN"
+            found.setdefault(f"{name} {kind}", []).append(given[0])
+    return {key: "; ".join(dict.fromkeys(texts)) for key, texts in found.items()}
+
+
+def length_of(value: dict[str, Any]) -> str | None:
+    """Returns an object that is a number and a unit of time as a text, as `12 Months`, or None if it is something else.
+
+    It is an empty text if the number is 0 or absent."""
+    if len(value) != 2:
+        return None
+    numbers = [it for it in value.values() if isinstance(it, int) and not isinstance(it, bool)]
+    units = [it for it in value.values() if isinstance(it, str) and folded(it) in UNITS]
+    if numbers and units:
+        return f"{numbers[0]} {units[0]}" if numbers[0] else ""
+    is_empty = all(it in (None, "", 0) and it is not False for it in value.values())
+    return "" if is_empty and any("embargo" in folded(it).split() for it in value) else None
 
 
 def nested(many: list[Any]) -> str:
@@ -144,16 +219,22 @@ def nested(many: list[Any]) -> str:
     return f"{begin} {year[0]}" if year else begin
 
 
-def ranges_of(many: list[Any], name: str) -> list[dict[str, str]]:
-    """Returns the objects of a list flat, or nothing if one of them has no label of a date, or a list inside."""
-    found = []
-    for one in many[:MOST_RANGES + 1]:
-        inside: list[dict[str, str]] = []
-        texts = dict(flat(one, f"{name}.", 1, inside)) if isinstance(one, dict) else {}
-        if inside or not any(label(key) in DATES for key in texts):
+def ranges_of(many: list[tuple[dict[str, Any], Flat]]) -> list[dict[str, str]]:
+    """Returns the objects of a list flat, each once for each range inside, or nothing if none has a label of a date.
+
+    An object without a date is one of them only if others have lists of ranges inside."""
+    found: list[dict[str, str]] = []
+    has_inside = False
+    undated = 0
+    for one, inside in many:
+        branches = inside.branches()
+        # A list of one object with lists is as good as that object: these may be empty here, and ranges elsewhere.
+        has_inside = has_inside or bool(branches) or len(many) == 1 and any(it == [] for it in one.values())
+        undated += not branches and not any(label(key) in DATES for key in inside.texts)
+        found += branches or [inside.texts]
+        if len(found) > MOST_RANGES:
             return []
-        found.append(texts)
-    return found if len(found) <= MOST_RANGES else []
+    return found if has_inside or not undated else []
 
 
 def joined(many: list[Any]) -> str:

@@ -13,6 +13,7 @@ from .texts import TABLES, folded, remembered, word_set, words
 
 OWN = ("other_identifier", "coverage", "volumes", "embargo_days", "embargo_months", "embargo_years", "recent_months",
        "recent_years", "gaps", "open_access")
+IDENTIFIERS = ("print_identifier", "online_identifier", "other_identifier")
 # The characters of the longest label.
 LONGEST = 200
 # How near a misspelt label has to be to one of the standard, and the share of cells by which a label is guessed.

@@ -4,7 +4,7 @@ import itertools
 import operator
 from typing import NamedTuple
 
-from . import coverage, dates, form, identifiers, kinds, strict, values, volumes
+from . import coverage, dates, form, identifiers, jsonlist, kinds, strict, values, volumes
 from .choosing import Chooser
 from .coverage import Range
 from .identifiers import Number
@@ -165,6 +165,9 @@ class Converter:
             ranges = self.ranges(draft)
             self.volumes(draft)
         elif not self.is_kbart:
+            if draft.cells[DATES[0]] == jsonlist.EMPTY:
+                # A book has no coverage.
+                draft.cells[DATES[0]] = ""
             ranges = [self.dates(draft)]
         if not ranges:
             cell = self.columns.cell(draft.fields, "coverage")
