@@ -172,7 +172,7 @@ class Reader:
         self.pieces: list[Piece] = []
         # Whether something unknown hides a part of all ranges.
         self.is_hidden = False
-        self.tokens = self.without_walls(many)
+        self.tokens = self.without_walls(joined_lengths(many))
         # Where the piece began that a separator or a bracket ends, and whether it is one that is missing.
         self.piece = 0
         self.is_missing = self.is_negated = self.is_lesser = self.is_all = self.is_broken = False
@@ -650,6 +650,18 @@ def month_of(text: str) -> int:
 def is_negation(token: Token) -> bool:
     """Returns whether a word says that what follows is missing. `no` before a number is an issue."""
     return bool(token.meanings & {"except", "missing", "not"}) and "issue" not in token.meanings
+
+
+def joined_lengths(many: list[Token]) -> list[Token]:
+    """Returns tokens in which `1 year 6 months` is a number of months."""
+    found: list[Token] = []
+    for token in many:
+        found.append(token)
+        last = found[-4:]
+        if (len(last) == 4 and last[0].kind == last[2].kind == "int" and UNITS.get(last[1].text) == "Y"
+                and UNITS.get(last[3].text) == "M"):
+            found[-4:] = [last[0]._replace(text=str(int(last[0].text) * 12 + int(last[2].text))), last[3]]
+    return found
 
 
 def wall_length(before: list[Token], is_current: bool) -> int | None:

@@ -124,6 +124,11 @@ def embargo(cell: str, unit: str = "") -> str:
         # `1l months`
         return cell
     tokens = [NUMBERS.get(it, it) for it in re.sub(r"(\d)([^\W\d])", r"\1 \2", text).split()]
+    for at, (one, years, two, months) in enumerate(zip(tokens, tokens[1:], tokens[2:], tokens[3:])):
+        if (one + two).isdecimal() and (UNITS.get(years), UNITS.get(months)) == ("Y", "M"):
+            # `1 year 6 months`
+            tokens[at:at + 4] = [str(int(one[:9]) * 12 + int(two[:9])), months]
+            break
     numbers = [int(it[:9]) for it in tokens if it.isascii() and it.isdigit()]
     units = {UNITS[it] for it in tokens if it in UNITS} or ({unit} if unit else set())
     if len(numbers) != 1 or len(units) != 1 or numbers[0] > 99_999:
