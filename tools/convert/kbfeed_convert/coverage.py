@@ -4,6 +4,7 @@ A statement has ranges, of which each has two points with a date, a volume and a
 is never replaced by something wider: of two readings the narrower one counts, and a part that does not read gives no
 range. A word that nobody knows leaves the range beside it, and the statement counts as partly read."""
 import datetime
+import itertools
 import re
 from typing import Iterable, NamedTuple
 
@@ -23,6 +24,8 @@ HIDDEN = {"not", "except", "embargo", "missing"}
 # The tokens that a wall has at each side of its length.
 WALL_SIDE = 8
 SEPARATORS = ";|"
+# The part that is not read, if a statement has no range.
+NO_DATE = "no date"
 # The other signs that change nothing, as in `1995?`.
 KNOWN = "()[]{}.,:=&+-~/?!*#_\"'`°«»…"
 DAY = datetime.timedelta(days=1)
@@ -45,12 +48,22 @@ class Range(NamedTuple):
         """Returns whether an end has a volume or an issue."""
         return any(self[2:])
 
+    def is_reversed(self) -> bool:
+        """Returns whether it ends before it begins."""
+        first, last = strict.date(self.first), strict.date(self.last)
+        return bool(first and last and first[0] > last[1])
+
 
 class Statement(NamedTuple):
-    """What a statement says: its ranges, its embargo in the form of KBART, and what of it is not read."""
+    """What a statement says: its ranges, its embargo in the form of KBART, and what of it is not read.
+
+    `gaps` are the ranges that are missing of something that the statement does not say. `is_undecided` says that the
+    order of a day and a month is not known, so that the narrower one counts."""
     ranges: tuple[Range, ...]
     embargo: str
     unread: str
+    gaps: tuple[Range, ...] = ()
+    is_undecided: bool = False
 
 
 class Piece(NamedTuple):
@@ -60,15 +73,17 @@ class Piece(NamedTuple):
 
 
 @remembered
-def read(cell: str, order: str) -> Statement:
-    """Returns what a statement says. `order` is that of day and month, empty if the list does not decide it."""
+def read(cell: str, order: str, has_volumes: bool = False) -> Statement:
+    """Returns what a statement says. `order` is that of day and month, empty if the list does not decide it.
+
+    `has_volumes` says that `1.1990` is a volume and its year all over the list, and no month."""
     if len(cell) > LONGEST:
         return Statement((), "", f"a statement of more than {LONGEST} characters")
     if not order:
         decided = dates.Order()
         decided.look([cell])
         order = str(decided)
-    reader = Reader(tokens(with_signs(cell)), order)
+    reader = Reader(tokens(with_signs(cell)), order, has_volumes)
     reader.run()
     return reader.statement()
 
@@ -109,6 +124,8 @@ class Point:
         self.volume: list[str] = []
         self.issue: list[str] = []
         self.notation: tuple[int, int] | None = None
+        # The word before the date says that the date itself is outside.
+        self.is_after = self.is_before = False
 
     def is_empty(self) -> bool:
         """Returns whether it has nothing yet."""
@@ -159,14 +176,21 @@ def end_of(point: Point) -> End | None:
             return None
         first = dates.date_text(int(first), point.months[0], day)
         last = dates.date_text(int(last), point.months[-1], day)
+    if point.is_after or point.is_before:
+        found = dates.outside(last, True) if point.is_after else dates.outside(first, False)
+        # The volume of a date that is outside is outside, too.
+        return End(found, found, [], [], None) if found else None
     return End(first, last, volume, issue, point.notation)
 
 
 class Reader:
     """Reads the tokens of one statement from left to right."""
 
-    def __init__(self, many: list[Token], order: str):
+    def __init__(self, many: list[Token], order: str, has_volumes: bool):
         self.order = order
+        # One statement has one notation: where 16.1940 is a volume and its year, so is 1.1990.
+        self.has_volumes = has_volumes or any(it.kind == "my" and month_of(it.text) > 12 for it in many)
+        self.is_undecided = False
         self.walls: list[tuple[str, int, str]] = []
         self.unread: list[str] = []
         self.pieces: list[Piece] = []
@@ -299,6 +323,8 @@ class Reader:
     def date(self, token: Token, at: int) -> None:
         """Reads a date in numbers."""
         found = date_of(token, self.order)
+        self.is_undecided = self.is_undecided or (token.kind == "dmy" and not self.order and found is not None
+                                                  and found[0] != found[1])
         point = self.point
         if found is None:
             self.leave(token)
@@ -311,7 +337,8 @@ class Reader:
                 # `Vol. 1.1990` and `Heft 1/1995`.
                 self.number(str(number))
                 found = (year, last)
-            elif number > 12 or len(parts) > 2 or self.is_volume_notation(at) or self.left and self.left.volume:
+            elif (number > 12 or len(parts) > 2 or self.has_volumes and "." in token.text
+                  or self.has_issue_behind(at) or self.left and self.left.volume):
                 point.volume.append(str(number))
                 found = (year, last)
             else:
@@ -328,17 +355,10 @@ class Reader:
         point.dates.append(found)
         point.date_at = point.count
 
-    def is_volume_notation(self, at: int) -> bool:
-        """Returns whether `1.1990` is a volume and its year: an issue follows, or another such number is no month."""
+    def has_issue_behind(self, at: int) -> bool:
+        """Returns whether an issue follows a date, as in `1.1990,2`: the number before the year is a volume."""
         rest = self.tokens[at + 1:at + 3]
-        if len(rest) == 2 and rest[0].text == "," and rest[1].kind == "int":
-            return True
-        return any(it.kind == "my" and month_of(it.text) > 12 and self.is_one_range(at, place)
-                   for place, it in enumerate(self.tokens[at + 1:at + 4], at + 1))
-
-    def is_one_range(self, at: int, end: int) -> bool:
-        """Returns whether nothing but a dash is between two tokens."""
-        return False if end > at + 2 else all(it.text == "-" for it in self.tokens[at + 1:end])
+        return len(rest) == 2 and rest[0].text == "," and rest[1].kind == "int"
 
     def number(self, text: str) -> None:
         """Gives a number to the volume or the issue whose word was before it."""
@@ -388,6 +408,11 @@ class Reader:
             self.connect()
         elif "and" in means and point.has_date() and self.has_date_ahead(at + 1):
             self.end_piece()
+        elif means & {"after", "before"}:
+            if point.is_empty() and self.is_date_next(at + 1):
+                self.exclusive("after" in means)
+            else:
+                self.leave(token)
         elif "open" in means and (self.is_to or point.has_date()) and not (self.is_to and not point.is_empty()):
             self.open_end()
         elif "to" in means and ("filler" not in means or point.has_date()):
@@ -407,6 +432,24 @@ class Reader:
         elif not means or means <= {"open", "number", "unit", "recent", "current", "ago", "embargo", "volume", "issue"}:
             self.leave(token)
         return at + 1
+
+    def is_date_next(self, at: int) -> bool:
+        """Returns whether a date is at a place, perhaps behind a day and a month."""
+        following = self.tokens[at:at + 3]
+        before = list(itertools.takewhile(lambda it: it.kind not in DATES, following))
+        return len(before) < len(following) and all(it.kind == "int" or "month" in it.meanings for it in before)
+
+    def exclusive(self, is_after: bool) -> None:
+        """Notes a word as `after` or `before`, by which the date behind it is itself outside."""
+        if is_after and self.left is None:
+            self.is_from = self.point.is_after = True
+        elif not is_after and not self.is_from and (self.left is None or not self.left.is_empty()):
+            if self.left is None:
+                self.connect()
+            self.point.is_before = True
+        else:
+            # `from before 1990` and `to after 1990`: the named date is the narrower one.
+            self.unread.append("after" if is_after else "before")
 
     def put(self, target: list[str], text: str) -> None:
         """Adds a volume or an issue to the point."""
@@ -615,8 +658,7 @@ class Reader:
             if two.notation[0] - one.notation[0] == two.notation[1] - one.notation[1]:
                 first_volume, last_volume = str(one.notation[0]), str(two.notation[0])
         found = Range(one.first, two.last, first_volume, last_volume, number_of(one.issue, 0), number_of(two.issue, -1))
-        first, last = strict.date(found.first), strict.date(found.last)
-        if first and last and first[0] > last[1]:
+        if found.is_reversed():
             self.unread.append("a range whose end is before its beginning")
             return
         self.pieces.append(Piece(found, self.is_missing))
@@ -624,21 +666,26 @@ class Reader:
     def statement(self) -> Statement:
         """Returns what was read."""
         held: list[Range] = []
+        gaps: list[Range] = []
         for piece in merged(self.pieces):
-            if piece.is_missing:
+            if piece.is_missing and not held:
+                gaps.append(piece.range)
+            elif piece.is_missing:
                 held = [it for one in held for it in without(one, piece.range)]
             elif piece.range.has_dates():
                 held.append(piece.range)
             else:
                 self.unread.append("numbers without a date")
+        for gap in gaps:
+            held = [it for one in held for it in without(one, gap)]
         if not held and (self.is_all or self.walls) and not self.unread and not self.pieces:
             held = [Range("", "")]
         if held and all(it.last for it in held) and any(kind == "R" for kind, _, _ in self.walls):
             self.unread.append("the most recent issues beside a range that has an end")
         unread = " ".join(dict.fromkeys(self.unread))
         if not held or self.is_hidden:
-            return Statement((), "", unread or "no date")
-        return Statement(tuple(held), embargo_of(self.walls), unread)
+            return Statement((), "", unread or NO_DATE, tuple(it for it in gaps if it.has_dates()))
+        return Statement(tuple(held), embargo_of(self.walls), unread, is_undecided=self.is_undecided)
 
 
 def month_of(text: str) -> int:

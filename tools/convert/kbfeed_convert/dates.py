@@ -3,6 +3,7 @@
 `read` tries in this order: what the reader takes, words for an open end, numbers, a year with names of months or with
 a quarter, and the years of any other text, of which the earliest begins and the latest ends."""
 import calendar
+import datetime
 import re
 from typing import Iterable, NamedTuple
 
@@ -45,26 +46,45 @@ RANGE = re.compile(rf"\s*(?:-+|[~〜～]|(?<![^\W\d])(?:{TO_APART})(?![^\W\d])|{
 # The rest of a date behind its year, whose hyphens do not connect two dates.
 REST = re.compile(r"-[0-9]{1,2}-[0-9]{1,2}(?![0-9])|-(?:0?[1-9]|1[0-2])(?=\s*(?:[-~〜～]|$|\s))")
 
+# A word as `after` or `before` at the beginning of a cell.
+OUTSIDE = [re.compile(rf"(?:{'|'.join(sorted(TABLES['dates'][it], key=len, reverse=True))}) +(?=\S)", re.I)
+           for it in ("after", "before")]
+# A volume and its year, with a number above those of months.
+VOLUME_NOTATION = re.compile(rf"(?<![0-9./-])(?:1[3-9]|[2-9][0-9]|[1-9][0-9][0-9])\.{YEAR}(?![0-9./])")
+DAY = datetime.timedelta(days=1)
+
 NOT_READ = "a date that does not read is open"
-UNDECIDED = "day and month are not decided: the year"
+UNDECIDED = "day and month are not decided: the narrower"
 
 
 class Order:
-    """Whether the day or the month comes first. All date columns of a list decide it together."""
+    """Whether the day or the month comes first, and whether `1.1990` is a volume and its year. All date columns of a
+    list decide it together."""
 
     def __init__(self, fixed: str = ""):
         self.fixed = fixed
         self.seen: set[str] = set()
+        self.has_volumes = self.is_needed = False
 
     def look(self, cells: Iterable[str]) -> None:
-        """Notes the orders that the cells prove."""
+        """Notes the orders that the cells prove, and whether a cell needs one."""
         for cell in cells:
             if cell and not cell[:4].isdigit():
                 for found in DAY_FIRST.finditer(plain(cell)):
-                    if int(found[1]) > 12:
+                    one, two = int(found[1]), int(found[3])
+                    if one > 12:
                         self.seen.add("dmy")
-                    if int(found[3]) > 12:
+                    if two > 12:
                         self.seen.add("mdy")
+                    self.is_needed = self.is_needed or one != two
+
+    def look_elsewhere(self, cells: Iterable[str]) -> None:
+        """Notes the orders that dates of something else prove, as the day of the last change."""
+        self.look(it for it in cells if DAY_FIRST.fullmatch(TIME.sub("", plain(it))))
+
+    def look_for_volumes(self, cells: Iterable[str]) -> None:
+        """Notes whether a statement has a volume and its year, as `16.1940`."""
+        self.has_volumes = self.has_volumes or any(VOLUME_NOTATION.search(it) for it in cells)
 
     def __str__(self) -> str:
         """`dmy`, `mdy`, or nothing if the list does not decide it."""
@@ -86,6 +106,16 @@ def date_text(year: int, month: int = 0, day: int = 0) -> str:
     return f"{year:04}-{month:02}-{day:02}"
 
 
+def outside(date: str, is_after: bool) -> str:
+    """Returns the date behind a date, or before it: a year, a month or a day, as that is. Nothing if there is none."""
+    days = strict.date(date)
+    try:
+        day = datetime.date(*days[1]) + DAY if days and is_after else datetime.date(*days[0]) - DAY if days else None
+    except OverflowError:
+        day = None
+    return day.isoformat()[:len(date)] if day else ""
+
+
 @remembered
 def read(cell: str, is_last: bool, order: str) -> Read:
     """Reads the date of a cell, as a first or as a last one. `order` is that of day and month, empty if undecided."""
@@ -104,6 +134,8 @@ def read(cell: str, is_last: bool, order: str) -> Read:
     now = CJK_DAY.sub("", CJK_PART.sub("-", now)).strip("-[]()?.,;* ")
     if found := by_numbers(now, is_last, order) or by_names(now, is_last):
         return found
+    if (word := OUTSIDE[is_last].match(now)) and (text := read(now[word.end():], is_last, order).text):
+        return Read(outside(text, not is_last), "a date that is outside")
     sides = range_sides(now)
     if sides and all(YEARS.search(it) for it in sides):
         rule = "two years in a date" if all(YEARS.fullmatch(it) for it in sides) else "a range in one cell"
@@ -116,6 +148,12 @@ def read(cell: str, is_last: bool, order: str) -> Read:
     return by_years(now, is_last)
 
 
+def published(cell: str, order: str) -> str:
+    """Returns a date of publication. If day and month are not decided it is the year."""
+    found = read(cell, False, order)
+    return (found.text or "")[:4 if found.rule == UNDECIDED else None]
+
+
 def by_numbers(now: str, is_last: bool, order: str) -> Read | None:
     """Reads a date of numbers alone."""
     if found := DAY_FIRST.fullmatch(now):
@@ -125,7 +163,8 @@ def by_numbers(now: str, is_last: bool, order: str) -> Read | None:
         elif two > 12 >= one:
             order = "mdy"
         if not order:
-            return Read(date_text(year), UNDECIDED)
+            # The later day of the two begins, and the earlier one ends.
+            return Read((min if is_last else max)(date_text(year, one, two), date_text(year, two, one)), UNDECIDED)
         return parts(year, two, one) if order == "dmy" else parts(year, one, two)
     for form, pattern in FORMS:
         if found := pattern.fullmatch(now):

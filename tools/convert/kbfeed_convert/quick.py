@@ -181,7 +181,7 @@ def date(label: str, is_last: bool, order: str, cell: str) -> Cell | None:
 
 def published(label: str, order: str, cell: str) -> Cell:
     """Reads a date of publication."""
-    return changed(label, cell, cell and dates.read(cell, False, order).text or "", "a date of publication")
+    return changed(label, cell, cell and dates.published(cell, order), "a date of publication")
 
 
 def volume(label: str, is_last: bool, cell: str) -> Cell:

@@ -67,7 +67,8 @@ def opened(given: argparse.Namespace, name: str) -> Opened:
         "profile": rules.profile,
         "columns": [{"header": cell, "label": label} for cell, label in zip(columns.header, columns.names)],
         "unused": [cell for cell in columns.unused() if not rules.uses(cell)]}
-    settings = Settings(given.type, rules.constants, rules.replaced, str(order), tuple(rules.unwrapped))
+    settings = Settings(given.type, rules.constants, rules.replaced, str(order), tuple(rules.unwrapped),
+                        order.has_volumes)
     return Opened(text, shape, columns, rules, settings, head, warnings)
 
 
@@ -120,39 +121,58 @@ def has_serials(columns: labels.Columns, records: list[list[str]]) -> bool:
 
 def date_order(text: io.TextIOWrapper, shape: form.Form, columns: labels.Columns, chooser: Chooser,
                fixed: str) -> dates.Order:
-    """Returns the order of day and month that the date columns of the whole list prove."""
+    """Returns the order of day and month that the date columns of the whole list prove, or else its other columns, and
+    the notation of volumes that its statements prove."""
     order = dates.Order(fixed)
-    places = {at for label in (*DATES, "coverage") for at in columns.places.get(label, ())}
-    places |= chooser.alternatives(places)
-    if not fixed and places and may_have_day_first(text):
+    stated = set(columns.places.get("coverage", ()))
+    stated |= chooser.alternatives(stated)
+    places = {at for label in DATES for at in columns.places.get(label, ())}
+    places |= chooser.alternatives(places) | stated
+    may_have_days, may_have_volumes = may_have(text) if places else (False, False)
+    has_days = may_have_days and not fixed
+    if has_days or may_have_volumes and stated:
         text.seek(0)
         for record in form.body(text, shape):
-            order.look(record.cells[at] for at in places if at < len(record.cells))
+            cells = record.cells
+            if has_days:
+                order.look(cells[at] for at in places if at < len(cells))
+            if may_have_volumes:
+                order.look_for_volumes(cells[at] for at in stated if at < len(cells))
+    if order.is_needed and not order.seen:
+        text.seek(0)
+        for record in form.body(text, shape):
+            order.look_elsewhere(record.cells)
     return order
 
 
-# Digits as 0, and what is between the parts of a date as a slash. Bytes behind the first of a character are left out.
-SHAPES = bytes(48 if 48 <= it <= 57 else 47 if it in b"/.- " or it >= 0xC0 else 120 for it in range(256))
+# Digits as 0, and what is between the parts of a date as a slash, but for a full stop. Bytes behind the first of a
+# character are left out.
+SHAPES = bytes(48 if 48 <= it <= 57 else it if it == 46 else 47 if it in b"/- " or it >= 0xC0 else 120
+               for it in range(256))
 BEHIND = bytes(range(0x80, 0xC0))
 
 
-def may_have_day_first(text: io.TextIOWrapper) -> bool:
-    """Returns whether a list may have a date as 13/04/2001 in any cell: a fast look at the bytes of UTF-8."""
+def may_have(text: io.TextIOWrapper) -> tuple[bool, bool]:
+    """Returns whether a list may have a date as 13/04/2001, and a volume as 13.2001, in any cell: a fast look at the
+    bytes of UTF-8."""
     if text.encoding not in ("utf-8", "utf-8-sig"):
-        return True
+        return True, True
     text.seek(0)
     rest = b""
-    while chunk := text.buffer.read(1 << 20):
+    has_days = has_volumes = False
+    while not (has_days and has_volumes) and (chunk := text.buffer.read(1 << 20)):
         # Digits of full width are digits, too.
         if b"\xef\xbc" in chunk or b"\xf0\x9d" in chunk:
-            return True
+            return True, True
         shape = rest + chunk.translate(SHAPES, BEHIND)
-        while b"//" in shape:
-            shape = shape.replace(b"//", b"/")
-        if b"0/0/0000" in shape or b"0/00/0000" in shape:
-            return True
         rest = shape[-16:]
-    return False
+        has_volumes = has_volumes or b"00.0000" in shape
+        if not has_days:
+            shape = shape.replace(b".", b"/")
+            while b"//" in shape:
+                shape = shape.replace(b"//", b"/")
+            has_days = b"0/0/0000" in shape or b"0/00/0000" in shape
+    return has_days, has_volumes
 
 
 def name_warnings(given: argparse.Namespace, name: str) -> list[str]:

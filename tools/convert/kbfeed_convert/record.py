@@ -36,11 +36,13 @@ EMBARGO_NOT_READ = "not read: an embargo in another form"
 REVERSED = "the end is before the beginning: both are open"
 PARTLY_READ = "only partly read: the rest is left out"
 STATEMENT_NOT_READ = "not read: no range of it"
+GAP_NOT_READ = "only partly read: a gap in a note"
+YEAR_NOT_READ = "not read: a year beside a number"
 BESIDE = "not read: the dates count beside it"
 SEVERAL = "several columns have a date: the first counts"
 MANY_ROWS = f"only {MOST_ROWS} rows of a record are made"
-WIDENING = {EMBARGO_NOT_READ, REVERSED, PARTLY_READ, STATEMENT_NOT_READ, BESIDE, SEVERAL, MANY_ROWS, dates.NOT_READ,
-            dates.UNDECIDED}
+WIDENING = {EMBARGO_NOT_READ, REVERSED, PARTLY_READ, STATEMENT_NOT_READ, BESIDE, SEVERAL, MANY_ROWS, GAP_NOT_READ,
+            YEAR_NOT_READ, dates.NOT_READ, dates.UNDECIDED}
 
 
 class Change(NamedTuple):
@@ -68,6 +70,7 @@ class Settings(NamedTuple):
     replaced: Cells = {}
     order: str = ""
     unwrapped: tuple[str, ...] = ()
+    has_volumes: bool = False
 
 
 class Draft:
@@ -170,8 +173,9 @@ class Converter:
                 draft.cells[DATES[0]] = ""
             ranges = [self.dates(draft)]
         if not ranges:
-            cell = self.columns.cell(draft.fields, "coverage")
-            return Outcome([], "BadDate", f"no coverage that reads: {cell}"[:200], draft.unread())
+            unread = [self.columns.cell(draft.fields, it) for it in ("coverage", *DATES)]
+            why = "no coverage that reads: " + " | ".join(it for it in unread if it)
+            return Outcome([], "BadDate", why[:200], draft.unread())
         if isinstance(before, strict.Row) and not draft.changes and len(ranges) == 1 and pairs == [before_pair(before)]:
             # Most records of a good list.
             return Outcome([(draft.cells, before)], "", "", [])
@@ -252,7 +256,7 @@ class Converter:
                 draft.note("embargo_info", cells["embargo_info"], EMBARGO_NOT_READ)
             put("embargo_info", cells["embargo_info"] if self.is_kbart else "", EMBARGO_NOT_READ)
         for label in [it for it in PUBLISHED if cells[it] and not self.is_kbart]:
-            put(label, dates.read(cells[label], False, self.settings.order).text or "", "a date of publication")
+            put(label, dates.published(cells[label], self.settings.order), "a date of publication")
         put("coverage_depth", values.depth(cells["coverage_depth"]), "the depth in words")
         put("access_type", values.access(cells["access_type"]), "the access in words")
         if not cells["access_type"] and "open_access" in columns.places:
@@ -292,33 +296,47 @@ class Converter:
 
     def ranges(self, draft: Draft) -> list[Range]:
         """Returns the ranges of a record without the gaps that a column of its own has."""
-        self.note_wall(draft)
+        noted = self.noted(draft)
         held = self.held(draft)
+        for gap in noted:
+            held = [part for it in held for part in coverage.without(it, gap)]
         cell = self.columns.cell(draft.fields, "gaps") if "gaps" in self.columns.places else ""
         if self.is_kbart or not cell or folded(cell) in dates.NONE or values.YES_NO.get(folded(cell)) == "no":
             return held
-        gaps = coverage.read(cell, self.settings.order)
+        gaps = self.read(cell)
         if gaps.unread or not gaps.ranges:
             draft.note("coverage", cell, PARTLY_READ)
         for gap in gaps.ranges:
             held = [part for it in held for part in coverage.without(it, gap)] if gap.has_dates() else held
         return held
 
-    def note_wall(self, draft: Draft) -> None:
-        """Puts the embargo that a note says and nothing else, as `Latest 12 months not available`."""
+    def read(self, cell: str) -> coverage.Statement:
+        """Returns what a statement says in the notation of the list."""
+        return coverage.read(cell, self.settings.order, self.settings.has_volumes)
+
+    def noted(self, draft: Draft) -> tuple[Range, ...]:
+        """Puts the embargo that a note says and nothing else, as `Latest 12 months not available`, and returns the gaps
+        that it says."""
         note = draft.cells["notes"]
-        if note and not self.is_kbart and not note.isalpha():
-            said = coverage.read(note, self.settings.order)
-            if not said.unread and not any(it.has_dates() for it in said.ranges):
-                self.wall(draft, said.embargo)
+        if not note or self.is_kbart or note.isalpha():
+            return ()
+        said = self.read(note)
+        if not said.unread and not any(it.has_dates() for it in said.ranges):
+            self.wall(draft, said.embargo)
+        if said.gaps and said.unread != coverage.NO_DATE:
+            draft.note("notes", note, GAP_NOT_READ)
+        return said.gaps
 
     def held(self, draft: Draft) -> list[Range]:
         """Returns the range of each row: several if a coverage in one cell has gaps, none if nothing of it reads."""
         cell = self.columns.cell(draft.fields, "coverage") if "coverage" in self.columns.places else ""
-        statement = coverage.read(cell, self.settings.order) if folded(cell) not in dates.NONE else None
+        statement = self.read(cell) if folded(cell) not in dates.NONE else None
         if statement and not any(draft.cells[it].strip() for it in DATES):
             return self.stated(draft, cell, statement)
         given = self.dates(draft)
+        if given.is_reversed() and any(it.rule == dates.UNDECIDED for it in draft.changes):
+            # No day is in the coverage for certain.
+            return []
         if statement and not self.is_kbart:
             if statement.ranges and not statement.unread and coverage.is_within(statement.ranges, given):
                 return self.stated(draft, cell, statement)
@@ -336,6 +354,8 @@ class Converter:
         """Returns the ranges of a statement, and puts its embargo."""
         if statement.unread:
             draft.note("coverage", cell, PARTLY_READ if statement.ranges else STATEMENT_NOT_READ)
+        if statement.is_undecided:
+            draft.note("coverage", cell, dates.UNDECIDED)
         if statement.ranges:
             draft.changes.append(Change("coverage", cell, coverage.shown(statement.ranges), "a range in one cell"))
         self.wall(draft, statement.embargo)

@@ -45,7 +45,7 @@ ENDING = re.compile(r"\((?:s|es|e|en|n)\)")
 def meanings() -> dict[str, frozenset[str]]:
     """Returns what each word and phrase means: some have several meanings."""
     found: dict[str, set[str]] = {}
-    for meaning, many in [*TABLE.items(), ("open", TABLES["dates"]["open"])]:
+    for meaning, many in [*TABLE.items(), *((it, TABLES["dates"][it]) for it in ("open", "after", "before"))]:
         for word in many:
             found.setdefault(folded(word), set()).add(meaning)
     for meaning, table in (("month", MONTHS), ("unit", UNITS), ("number", NUMBERS)):
