@@ -30,6 +30,13 @@ OWN_WORDS = word_set("own", "words")
 FREE = word_set("free_lists", "labels")
 
 
+# The label of a bare number by its unit, and the words of a length that is hidden. Of short words for units, as `Y`,
+# none counts.
+UNITS = {word: unit for word, unit in words("units").items() if len(word) >= SHORT}
+LENGTHS = {"D": "embargo_days", "M": "embargo_months", "Y": "embargo_years"}
+EMBARGO = word_set("suspects", "embargo")
+
+
 def has_word(group: str, text: str, tokens: frozenset[str]) -> bool:
     """Returns whether a text has a word of a group: a whole word, or in a script without spaces anywhere."""
     return any(word in tokens if word.isascii() or len(word) < SHORT and word < IDEOGRAPHS else word in text
@@ -50,6 +57,8 @@ def label(cell: str) -> str | None:
     if found := SYNONYMS.get(text.replace(" ", "")):
         return found
     tokens = frozenset(re.findall(r"[a-z]+|[^\W\da-z]+", text))
+    if found := length_label(text, tokens):
+        return found
     for rule in TABLES["rules"]:
         if (all(any(has_word(it, text, tokens) for it in group.split("|")) for group in rule["all"])
                 and not any(has_word(it, text, tokens) for it in rule.get("none", []))):
@@ -57,6 +66,13 @@ def label(cell: str) -> str | None:
     # A label of the standard with a letter too many, too few or wrong.
     near = difflib.get_close_matches(name, strict.LABELS, 1, NEAR) if "_" in name else []
     return near[0] if near else None
+
+
+def length_label(text: str, tokens: frozenset[str]) -> str:
+    """Returns the label of a header that has a word for an embargo and a unit, as `Embargo Year`, or nothing."""
+    units = {UNITS[it] for it in tokens if it in UNITS}
+    is_date = "date" in tokens or any(has_word(it, text, tokens) for it in ("first", "last"))
+    return LENGTHS.get(min(units), "") if len(units) == 1 and tokens & EMBARGO and not is_date else ""
 
 
 def has_numbers_below(names: list[str | None], below: list[str]) -> bool:
@@ -157,6 +173,28 @@ class Columns:
             else:
                 self.places.setdefault(name, []).append(place)
 
+    def take_from(self, name: str, records: list[list[str]], passes: Callable[[str], bool]) -> None:
+        """Takes a label from the columns of the vendor in which all cells of some records pass a test."""
+        for place in list(self.places.get(name, [])):
+            filled = [it for cells in records for it in cells[place:place + 1] if it.strip()]
+            if filled and not is_standard(self.header[place]) and all(map(passes, filled)):
+                self.names[place] = None
+                self.places[name].remove(place)
+        if not self.places.get(name, [0]):
+            del self.places[name]
+
+    def relabel(self, old: str, new: str, records: list[list[str]], passes: Callable[[str], bool]) -> str:
+        """Gives another label to a vendor's column in which all cells of some records pass a test, if no column has
+        that label. Returns its header."""
+        for place in self.places.get(old, [])[:1] if new not in self.places else []:
+            filled = [it for cells in records for it in cells[place:place + 1] if it.strip()]
+            if filled and not is_standard(self.header[place]) and all(map(passes, filled)):
+                self.places[old].remove(place)
+                if not self.places[old]:
+                    del self.places[old]
+                return self.give(place, new)
+        return ""
+
     def guess_title(self, records: list[list[str]]) -> str:
         """Takes the column without a label that has the most letters for the titles, and returns its header. Cells that
         repeat count once: they may be publishers."""
@@ -174,6 +212,22 @@ class Columns:
             if filled and sum(passes(header, it) for it in filled) >= SURE * len(filled):
                 found.append(place)
         return self.give(found[0], name) if len(found) == 1 else ""
+
+    def guess_numbers(self, records: list[list[str]], passes: Callable[[str], bool]) -> str:
+        """Gives the label of an identifier to the columns without one in which nearly all cells of some records are
+        numbers, if their headers say for what, as `Print` and `Electronic`, or if no column has the label of one.
+        Returns their headers."""
+        found = []
+        has_none = not any(it in self.places for it in IDENTIFIERS)
+        for place, header in self.left_over():
+            text = folded(header)
+            tokens = frozenset(text.split())
+            is_online, is_print = has_word("online", text, tokens), has_word("print", text, tokens)
+            filled = [it for cells in records for it in cells[place:place + 1] if it.strip()]
+            if (filled and sum(map(passes, filled)) >= SURE * len(filled) and not has_word("other", text, tokens)
+                    and (is_online != is_print or has_none)):
+                found.append(self.give(place, "online_identifier" if is_online else "print_identifier"))
+        return ", ".join(found)
 
     def guess_dates(self, records: list[list[str]], passes: Callable[[str, str], bool]) -> list[int]:
         """Returns the columns without a label in which most cells of some records pass a test, and the others have no

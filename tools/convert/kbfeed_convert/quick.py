@@ -9,7 +9,8 @@ from typing import Any, Callable, NamedTuple
 
 from . import coverage, dates, kinds, labels, strict, values, volumes
 from .form import Record
-from .record import DATE, DATES, LONG, NUMBERS, PUBLISHED, VOLUMES, WIDENING, Converter
+from .record import (DATE, DATES, ISSUES, LONG, NUMBERS, PUBLISHED, VOLUMES, WIDENING, Converter, has_number_beside,
+                     has_year_beside)
 from .report import change_text
 from .texts import SIZE
 
@@ -85,6 +86,7 @@ class Shortcut:
         self.first_cell = converter.header[0] if converter.header else ""
         at = {label: place for place, label in enumerate(strict.LABELS)}
         self.url, self.embargo, self.notes = at["title_url"], at["embargo_info"], at["notes"]
+        self.issues = [at[it] for it in ISSUES]
         self.texts = operator.itemgetter(*(at[it] for it in ("publication_title", *NUMBERS)))
         self.is_standard = converter.header == list(strict.LABELS)
         self.first, self.rest = issn_sums()
@@ -135,6 +137,8 @@ class Shortcut:
         first, last, one, two = read[4:8]
         if not first and cells[self.embargo][:1] in ("R", "r") or cells[self.notes] and not self.converter.is_kbart:
             return None
+        if not first and not last and any(has_year_beside(cells[it]) for it in self.issues):
+            return None
         if first and last and first > last or one is not None and two is not None and one > two:
             return None
         return Quick(cells, changes, rules, strict.Row("serial", print_ or None, online or None, first, last, one, two))
@@ -171,6 +175,8 @@ def date(label: str, is_last: bool, order: str, cell: str) -> Cell | None:
     found = dates.read(cell, is_last, order)
     text = found.text or ""
     old, new = strict.date(cell), strict.date(text)
+    if has_number_beside(cell, found.rule):
+        return None
     if found.rule in WIDENING or new is None and text.strip(" ") or coverage.wall(cell, is_last) and not new:
         return None
     day, old_day = new and new[is_last], old and old[is_last]
@@ -184,7 +190,9 @@ def published(label: str, order: str, cell: str) -> Cell:
     return changed(label, cell, cell and dates.published(cell, order), "a date of publication")
 
 
-def volume(label: str, is_last: bool, cell: str) -> Cell:
-    """Reads a volume."""
+def volume(label: str, is_last: bool, cell: str) -> Cell | None:
+    """Reads a volume. One with a year beside it may widen the row."""
+    if has_year_beside(cell):
+        return None
     text = volumes.read(cell, is_last)
     return changed(label, cell, text, "a volume with words", strict.volume(text))

@@ -8,7 +8,7 @@ from typing import IO, Any, Iterator, NamedTuple
 from . import dates, encoding, form, identifiers, labels, mapping, source, strict, unused
 from .choosing import Chooser
 from .faults import WrongArguments
-from .record import DATES, NUMBERS, PUBLISHED, Converter, Settings
+from .record import DATES, ISSUES, NUMBERS, PUBLISHED, VOLUMES, Converter, Settings
 
 # The records by which columns are guessed.
 SAMPLE = 50
@@ -97,8 +97,18 @@ def guessed_columns(text: io.TextIOWrapper, shape: form.Form, columns: labels.Co
     cells = [it.cells for _, it in zip(range(SAMPLE), form.body(text, shape))]
     found = {}
     if not any(columns.cell(it, "title_url") for it in cells):
+        # `Access` may be the kind of access, or the way to it.
+        columns.take_from("access_type", cells, lambda cell: bool(labels.ADDRESS.match(cell)))
         found["addresses"] = columns.guess(cells, "title_url", lambda _, cell: bool(labels.ADDRESS.match(cell)))
+    if numbers := columns.guess_numbers(cells, lambda it: bool(strict.issn(it) or strict.isbn(it))):
+        found["numbers"] = numbers
     is_guessed = not rules.profile and has_serials(columns, cells)
+    if not rules.profile and "coverage" not in columns.places:
+        # `First issue` may be a number, or the date of that issue. `Volumes` may be those of a statement.
+        serials = [it for it in cells if has_serials(columns, [it])]
+        pairs = [it for numbers in (ISSUES, VOLUMES) for it in zip(numbers, DATES)]
+        pairs += [("volumes", "coverage")] if not any(it in columns.places for it in DATES) else []
+        found["dates"] = ", ".join(filter(None, (columns.relabel(*it, serials, unused.is_dated_issue) for it in pairs)))
     if is_guessed and not any(it in columns.places for it in ("coverage", *DATES)):
         for label in PUBLISHED:
             columns.take_away(label, [it for it in cells if has_serials(columns, [it])], unused.is_statement)

@@ -8,8 +8,9 @@ from . import coverage, dates, form, identifiers, jsonlist, kinds, strict, value
 from .choosing import Chooser
 from .coverage import Range
 from .identifiers import Number
-from .labels import Columns
+from .labels import Columns, has_word
 from .texts import folded, forget, word_set
+from .tokens import MEANINGS, NONE
 
 Cells = dict[str, str]
 DATES = "date_first_issue_online", "date_last_issue_online"
@@ -31,6 +32,8 @@ DATE = len("2001-12-31")
 MOST_ROWS = 1_000
 
 
+# The rules by which a date was found beside other texts.
+IN_TEXTS = {"the name of a month", "a date in a text", "a year in a text"}
 # The rules by which a row may say more than its source. A list with one of them is not passed on in silence.
 EMBARGO_NOT_READ = "not read: an embargo in another form"
 REVERSED = "the end is before the beginning: both are open"
@@ -166,6 +169,8 @@ class Converter:
         ranges = [Range(draft.cells[DATES[0]], draft.cells[DATES[1]])]
         if kind == "serial":
             ranges = self.ranges(draft)
+            if not self.is_kbart and not any(it.has_dates() for it in ranges):
+                self.note_years(draft)
             self.volumes(draft)
         elif not self.is_kbart:
             if draft.cells[DATES[0]] == jsonlist.EMPTY:
@@ -382,7 +387,25 @@ class Converter:
                 if embargo and found.rule == dates.NOT_READ:
                     found = dates.Read("", "an embargo in a coverage")
             draft.put(label, found.text or "", found.rule)
+            if has_number_beside(cell, found.rule):
+                self.numbers_beside(draft, cell, at)
         return Range(draft.cells[DATES[0]], draft.cells[DATES[1]])
+
+    def numbers_beside(self, draft: Draft, cell: str, at: int) -> None:
+        """Puts the volume and the issue that are beside a date, as in `v.23 n.1 (Jan 1996)`, if no column has them."""
+        said = self.read(cell)
+        if said.unread or len(said.ranges) != 1:
+            return
+        for labels, numbers in ((VOLUMES, said.ranges[0][2:4]), (ISSUES, said.ranges[0][4:6])):
+            if numbers[at] and labels[at] not in self.columns.places:
+                draft.put(labels[at], numbers[at], "a number beside a date")
+
+    def note_years(self, draft: Draft) -> None:
+        """Notes the years in columns of numbers of a record without dates, as `Vol. 3 (1995)`."""
+        for label in (*VOLUMES, *ISSUES, "volumes"):
+            for cell in self.columns.cells(draft.fields, label):
+                if has_year_beside(cell):
+                    draft.note(label, cell, YEAR_NOT_READ)
 
     def volumes(self, draft: Draft) -> None:
         """Puts the volumes of a record, unless the reader would take none of them."""
@@ -422,6 +445,24 @@ class Converter:
             row[DATES[0]] = row[DATES[1]] = ""
             found = strict.row(row)
         return row, found
+
+
+def has_number_beside(cell: str, rule: str) -> bool:
+    """Returns whether a date that a rule found may have a volume or an issue beside it: a word for one is there."""
+    return rule in IN_TEXTS and any(MEANINGS.get(it, NONE) & {"volume", "issue"} for it in folded(cell).split())
+
+
+def has_year_beside(cell: str) -> bool:
+    """Returns whether a volume or an issue may have a year beside it."""
+    return bool(cell) and not cell.strip().isdecimal() and dates.YEARS.search(cell) is not None
+
+
+def end_of(header: str) -> str:
+    """Returns the label of the end of a range that a header of citations means, or nothing."""
+    text = folded(header)
+    tokens = frozenset(text.split())
+    ends = [name for name, group in zip(DATES, ("first", "last")) if has_word(group, text, tokens)]
+    return ends[0] if len(ends) == 1 else ""
 
 
 def reason(cells: Cells, kind: str) -> str:

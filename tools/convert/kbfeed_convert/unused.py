@@ -64,6 +64,11 @@ def is_embargo(header: str, cell: str) -> bool:
     return kind == "embargo" or kind not in ("harmless", "status") and cell_kind(cell) == "embargo"
 
 
+def is_dated_issue(cell: str) -> bool:
+    """Returns whether a cell of a column of issues is the date of one, as `No. 1, March 1999`, or an open end."""
+    return folded(cell) in dates.OPEN or dates.YEARS.search(cell) is not None and not cell.strip().isdecimal()
+
+
 def is_range(first: str, last: str) -> bool:
     """Returns whether the years of a first and a last date may be those of a range."""
     begins, ends = dates.YEARS.findall(first), dates.YEARS.findall(last)
