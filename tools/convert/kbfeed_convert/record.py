@@ -126,8 +126,8 @@ class Converter:
         self.cells_of = operator.itemgetter(*(places[label][0] if label in places and label not in self.several
                                               else self.width for label in strict.LABELS))
         # The columns with the dates of citations, beside those of full text.
-        self.cited = [at for at, header in columns.left_over() if {*folded(header).split()} & CITED
-                      and any(it in places for it in DATES) and not self.is_kbart]
+        self.cited = [(at, end_of(header)) for at, header in columns.left_over()
+                      if {*folded(header).split()} & CITED and any(it in places for it in DATES) and not self.is_kbart]
         self.has_numbers_apart = bool({*NUMBERS} & {*self.several}) or "other_identifier" in places
 
     def convert(self, given: form.Record) -> Outcome:
@@ -351,9 +351,21 @@ class Converter:
         if begin and not given.first and not self.is_kbart:
             draft.put(DATES[0], begin, "the recent issues of an embargo")
             return [given._replace(first=begin)]
-        if not given.has_dates() and any(dates.YEARS.search(it) for at in self.cited for it in draft.fields[at:at + 1]):
+        if not given.has_dates() and (cited := self.cited_range(draft)):
             draft.put("coverage_depth", "abstracts", "dates of citations alone")
+            return [cited]
         return [given]
+
+    def cited_range(self, draft: Draft) -> Range | None:
+        """Returns the range of the dates of citations, or None if no column of them has a year."""
+        found: dict[str, str] = {}
+        has_year = False
+        for at, label in self.cited:
+            for cell in draft.fields[at:at + 1]:
+                has_year = has_year or dates.YEARS.search(cell) is not None
+                if label and label not in found:
+                    found[label] = dates.read(cell, label == DATES[1], self.settings.order).text or ""
+        return Range(*(found.get(it, "") for it in DATES)) if has_year else None
 
     def stated(self, draft: Draft, cell: str, statement: coverage.Statement) -> list[Range]:
         """Returns the ranges of a statement, and puts its embargo."""
