@@ -155,8 +155,10 @@ def depth(cell: str) -> Cell:
     return changed("coverage_depth", cell, values.depth(cell), "the depth in words")
 
 
-def access(cell: str) -> Cell:
-    """Reads the access."""
+def access(cell: str) -> Cell | None:
+    """Reads the access. One with a year may widen the row."""
+    if has_year_beside(cell):
+        return None
     return changed("access_type", cell, values.access(cell), "the access in words")
 
 

@@ -41,11 +41,12 @@ PARTLY_READ = "only partly read: the rest is left out"
 STATEMENT_NOT_READ = "not read: no range of it"
 GAP_NOT_READ = "only partly read: a gap in a note"
 YEAR_NOT_READ = "not read: a year beside a number"
+ACCESS_NOT_READ = "not read: a year in a kind of access"
 BESIDE = "not read: the dates count beside it"
 SEVERAL = "several columns have a date: the first counts"
 MANY_ROWS = f"only {MOST_ROWS} rows of a record are made"
 WIDENING = {EMBARGO_NOT_READ, REVERSED, PARTLY_READ, STATEMENT_NOT_READ, BESIDE, SEVERAL, MANY_ROWS, GAP_NOT_READ,
-            YEAR_NOT_READ, dates.NOT_READ, dates.UNDECIDED}
+            YEAR_NOT_READ, ACCESS_NOT_READ, dates.NOT_READ, dates.UNDECIDED}
 
 
 class Change(NamedTuple):
@@ -264,6 +265,9 @@ class Converter:
             put(label, dates.published(cells[label], self.settings.order), "a date of publication")
         put("coverage_depth", values.depth(cells["coverage_depth"]), "the depth in words")
         put("access_type", values.access(cells["access_type"]), "the access in words")
+        if has_year_beside(cells["access_type"]) and not self.is_kbart:
+            # `Cancelled, access until 2017`
+            draft.note("access_type", cells["access_type"], ACCESS_NOT_READ)
         if not cells["access_type"] and "open_access" in columns.places:
             put("access_type", values.open_access(columns.cell(draft.fields, "open_access")), "the access in words")
         if not cells["access_type"] and columns.is_free:
@@ -465,7 +469,7 @@ def has_number_beside(cell: str, rule: str) -> bool:
 
 
 def has_year_beside(cell: str) -> bool:
-    """Returns whether a volume or an issue may have a year beside it."""
+    """Returns whether a cell that is none of dates may have a year beside its text."""
     return bool(cell) and not cell.strip().isdecimal() and dates.YEARS.search(cell) is not None
 
 
