@@ -25,7 +25,7 @@ WORDS = {name: [folded(it) for it in many] for name, many in TABLES["words"].ite
 ADDRESS = re.compile(r"\s*https?://", re.I)
 # The first character of the scripts without spaces, and the letters below which a word of others has to be whole.
 IDEOGRAPHS, SHORT = "\u3000", 3
-OWN_WORDS = word_set("own", "words")
+OWN_WORDS, PUBLISHED_WORDS = word_set("own", "words"), word_set("published", "words")
 # A list with such a label has free titles alone.
 FREE = word_set("free_lists", "labels")
 
@@ -110,9 +110,11 @@ def is_standard(cell: str) -> bool:
     return strict.lower(cell) in strict.LABELS
 
 
-def is_own(cell: str) -> bool:
-    """Returns whether a cell of a header names what is the library's own, as `Custom Date From`."""
-    return bool(OWN_WORDS & {*folded(cell).split()})
+def rank(cell: str) -> int:
+    """Returns the rank of a header among those of one label: the library's own dates, as `Custom Date From`, are first,
+    and the dates of the title itself, as `Published from`, are last."""
+    tokens = {*folded(cell).split()}
+    return 0 if OWN_WORDS & tokens else 2 if PUBLISHED_WORDS & tokens else 1
 
 
 def letters(cells: Iterable[str]) -> int:
@@ -137,8 +139,8 @@ class Columns:
                 self.places.setdefault(name, []).append(place)
         self.twice: list[str] = []
         for name, places in self.places.items():
-            can_be_own = "date_" in name or "embargo" in name or name == "coverage"
-            places.sort(key=lambda it: (not is_standard(header[it]), can_be_own and not is_own(header[it])))
+            is_ranked = "date_" in name or "embargo" in name or name == "coverage"
+            places.sort(key=lambda it: (not is_standard(header[it]), rank(header[it]) if is_ranked else 0))
             if is_standard(header[places[0]]) and ("date_" in name or "num_" in name):
                 self.names = [it if it != name or at == places[0] else None for at, it in enumerate(self.names)]
                 del places[1:]
