@@ -81,7 +81,7 @@ kind_name kind = name_at (names_of KINDS) (tag_of family_kind.the_type kind)
 
 -- ---- the values
 
--- what sources say: how many samples, the value of the sample at a place, and that of its label, of which the row may say a part
+-- what sources say: how many samples, the value of the sample at a place, and that of its label; a row may say a part of it
 pub record Values (L S : Type 0) : Type 0 where
   pub count : S → ℕ
   pub value : S → ℕ → List ℕ

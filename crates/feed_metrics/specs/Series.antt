@@ -27,7 +27,7 @@ values_of name labels lines = flat_map (line_values name labels) lines
 abbrev pub has_end : List ℕ → List ℕ → Bool
 has_end end text = bytes_eq (drop (length text - length end) text) end
 
--- the names of counters end in `_total`, and no others do; only a histogram has samples whose names go on
+-- the names of counters end in `_total`, and no others do; only samples of a histogram have names longer than their family's
 abbrev pub is_usual : {L S : Type 0} → FamilyRow L S → Bool
 is_usual row =
     if bytes_eq (kind_name row.kind) (codes "counter") then has_end (codes "_total") row.name else not (has_end (codes "_total") row.name)

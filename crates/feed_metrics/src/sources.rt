@@ -12,7 +12,7 @@ pub trait Sources {
     ghost use Rattle.feed_metrics.specs.Labels.{label_text};
     ghost use Rattle.feed_metrics.specs.Rows.{Values};
 
-    /// What the sources say.
+    /// The values of the sources.
     ghost values: { Self → Values Self.Label Self.Sample };
 
     /// Returns how many samples a source has.
