@@ -24,7 +24,7 @@ use feed_kbart::{Holdings, Kind, Row};
 use feed_names::ReleaseName;
 use node_site::{
     Prefix, SiteFile, SiteLinks, again, is_direct, left_beside, library_has, may_be_link, note_on,
-    through,
+    shared, through,
 };
 use std::alloc::{AllocError, Global};
 use std::borrow::CowSlice;
@@ -259,15 +259,6 @@ impl<'a> ReleaseHit<'a> {
         ensures { result ≡ self.now.availability }
     {
         self.availability
-    }
-}
-
-fn shared(link: &Option<RcSlice<u8>>) -> Result<Option<RcSlice<u8>>, AllocError>
-    ensures { IfOk result (λ again. option_map rc_slice_items again ≡ option_map rc_slice_items link.now) }
-{
-    match link {
-        Some(link) => Ok(Some(link.clone()?)),
-        None => Ok(None),
     }
 }
 

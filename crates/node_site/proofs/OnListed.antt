@@ -1,4 +1,4 @@
--- The packages of which a row of a holdings file switches a title on.
+-- The packages with a title that a row of a holdings file switches on.
 use Rattle.std.proofs.Common.{◌≡◌, ℕ, ◌+◌, ◌<◌, ◌&&◌, ◌||◌, Bool, true, false, cond, nat_lt, List, [], ◌∷◌, map, Option, Some, None, is_some, if◌then◌else◌}
 use Rattle.std.proofs.Common.{length, drop, get_or, sum_by, refl, sym, ap, ◌∙◌, arith}
 use Rattle.std.specs.List.{find, list_any}

@@ -13,7 +13,7 @@ use crate::filling::{Filling, if_link};
 use crate::hosts::host_of;
 use crate::links::{may_be_link, through};
 use crate::lookup::{switch_at, text_at};
-use crate::prefixes::{Prefix, prefix_for};
+use crate::prefixes::Prefix;
 use crate::site_file::SiteFile;
 use crate::site_links::SiteLinks;
 use std::alloc::{AllocError, Global};
@@ -198,20 +198,6 @@ pub fn article_link(
     )
 }
 
-// Returns the link to an address as a page has it, if that is safe.
-#[tactic(auto, unfolding(crate::specs::Proxies::proxied))]
-fn page_link(
-    alloc: Global,
-    site: &SiteFile,
-    address: &[u8],
-    is_direct: bool,
-) -> Result<Option<Vec<u8>>, AllocError>
-    ensures { IfOk result (λ link. option_map (λ text. text.items) link
-        ≡ if_link (proxied site.now address.now is_direct)) }
-{
-    safe_link(alloc, &prefix_for(site, address, is_direct), address)
-}
-
 fn doi_address(alloc: Global, doi: &[u8]) -> Result<Vec<u8>, AllocError>
     ensures { IfOk result (λ address. address.items ≡ codes "https://doi.org/" ++ doi.now) }
 {
@@ -225,10 +211,12 @@ fn doi_address(alloc: Global, doi: &[u8]) -> Result<Vec<u8>, AllocError>
 /// # Errors
 ///
 /// Running out of memory.
-#[tactic(auto, unfolding(crate::specs::Articles::doi_link))]
+#[tactic(auto, unfolding(crate::specs::Articles::doi_link, crate::specs::Proxies::proxied))]
 pub fn doi_link(alloc: Global, site: &SiteFile, doi: &[u8]) -> Result<Option<Vec<u8>>, AllocError>
     ensures { IfOk result (λ link. option_map (λ text. text.items) link ≡ doi_link site.now doi.now) }
 {
     let address = doi_address(alloc, doi)?;
-    page_link(alloc, site, &address, false)
+    let mut links = SiteLinks::new(site);
+    let prefix = links.prefix_for(alloc, &address, false)?;
+    safe_link(alloc, &prefix, &address)
 }

@@ -86,7 +86,7 @@ pub use position::Position;
 pub use prefixes::{Prefix, again};
 pub use site_fault::{KeyFault, SiteFault};
 pub use site_file::{SITE_LIMIT, SiteFile};
-pub use site_links::SiteLinks;
+pub use site_links::{SiteLinks, shared};
 pub use sites::{SITES_LIMIT, Sites, SitesFault};
 pub use text_table::{TEXTS, Text};
 pub use text_words::is_name;

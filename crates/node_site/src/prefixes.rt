@@ -2,12 +2,11 @@
 ghost use Rattle.std.specs.Prelude.{◌≡◌, false};
 ghost use Rattle.std.specs.Option.{option_map_or};
 ghost use Rattle.toml.specs.View.{table_view};
-ghost use Rattle.node_site.specs.Proxies.{ends_in, is_encoded_behind, platform_prefix, prefix_at, prefix_for};
+ghost use Rattle.node_site.specs.Proxies.{ends_in, is_encoded_behind, platform_prefix, prefix_at};
 ghost use Rattle.node_site.specs.Proxies.{prefix_of, prefix_of_platform, site_prefix};
 ghost use Rattle.node_site.specs.Site.{platform_of};
 
 use crate::cuts::{after, before};
-use crate::hosts::host_of;
 use crate::lookup::{switch_at, text_at};
 use crate::site_file::SiteFile;
 use std::marker::Model;
@@ -124,23 +123,6 @@ pub fn again<'a>(prefix: &Option<Prefix<'a>>) -> Option<Prefix<'a>>
             is_encoded: prefix.is_encoded,
             rest: prefix.rest,
         }),
-        None => None,
-    }
-}
-
-/// Returns the prefix of the link to a target, if it has a host, and the link is not direct.
-pub(crate) fn prefix_for<'a>(
-    site: &'a SiteFile,
-    target: &[u8],
-    is_direct: bool,
-) -> Option<Prefix<'a>>
-    ensures { result ≡ prefix_for site.now target.now is_direct }
-{
-    if is_direct {
-        return None;
-    }
-    match host_of(target) {
-        Some(host) => prefix_at(site, host),
         None => None,
     }
 }

@@ -50,7 +50,12 @@ impl<'s> Model for SiteLinks<'s> {
     ghost invariant = { λ l. IfSome l.host (IsPrefixOf l.site.now) × IfSome l.made (IsLinkTo l.site.now) };
 }
 
-fn shared(link: &Option<RcSlice<u8>>) -> Result<Option<RcSlice<u8>>, AllocError>
+/// Returns the same link again, without a copy of its bytes.
+///
+/// # Errors
+///
+/// Running out of memory.
+pub fn shared(link: &Option<RcSlice<u8>>) -> Result<Option<RcSlice<u8>>, AllocError>
     ensures { IfOk result (λ again. option_map rc_slice_items again ≡ option_map rc_slice_items link.now) }
 {
     match link {
