@@ -198,6 +198,22 @@ pub fn article_link(
     )
 }
 
+// Returns the link to an address as a page has it, if that is safe.
+#[tactic(auto, unfolding(crate::specs::Proxies::proxied))]
+fn page_link(
+    alloc: Global,
+    site: &SiteFile,
+    address: &[u8],
+    is_direct: bool,
+) -> Result<Option<Vec<u8>>, AllocError>
+    ensures { IfOk result (λ link. option_map (λ text. text.items) link
+        ≡ if_link (proxied site.now address.now is_direct)) }
+{
+    let mut links = SiteLinks::new(site);
+    let prefix = links.prefix_for(alloc, address, is_direct)?;
+    safe_link(alloc, &prefix, address)
+}
+
 fn doi_address(alloc: Global, doi: &[u8]) -> Result<Vec<u8>, AllocError>
     ensures { IfOk result (λ address. address.items ≡ codes "https://doi.org/" ++ doi.now) }
 {
@@ -211,12 +227,10 @@ fn doi_address(alloc: Global, doi: &[u8]) -> Result<Vec<u8>, AllocError>
 /// # Errors
 ///
 /// Running out of memory.
-#[tactic(auto, unfolding(crate::specs::Articles::doi_link, crate::specs::Proxies::proxied))]
+#[tactic(auto, unfolding(crate::specs::Articles::doi_link))]
 pub fn doi_link(alloc: Global, site: &SiteFile, doi: &[u8]) -> Result<Option<Vec<u8>>, AllocError>
     ensures { IfOk result (λ link. option_map (λ text. text.items) link ≡ doi_link site.now doi.now) }
 {
     let address = doi_address(alloc, doi)?;
-    let mut links = SiteLinks::new(site);
-    let prefix = links.prefix_for(alloc, &address, false)?;
-    safe_link(alloc, &prefix, &address)
+    page_link(alloc, site, &address, false)
 }
