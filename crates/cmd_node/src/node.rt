@@ -13,12 +13,12 @@ use feed_keep::Keep;
 use feed_options::{NodeOptions, SitePath, Source};
 use feed_releases::{Feed, Opening};
 use node_connection::TimeLimits;
-use node_resolver::NodeSites;
 use node_server::{Server, Settings};
 use node_service::{
     End, NodeLog, NodeSetup, NodeState, SourceAddrs, StartFault, WantedPackage, WatchedFile, run,
     start,
 };
+use node_sites::NodeSites;
 use std::alloc::{AllocError, Global};
 use std::io;
 use std::io::Write;

@@ -4,10 +4,10 @@ ghost use Rattle.cmd_node.specs.Sites.{IsSiteRead};
 
 use feed_console::{Console, DONE, FAILED, open_plain_file, read_front};
 use feed_options::{NodeOptions, SitePath};
-use node_resolver::{NamedSite, NodeSites};
 use node_response::Site;
 use node_service::{read_folder, report_holdings, report_site};
 use node_site::{HOLDINGS_LIMIT, SITE_LIMIT, SiteFault, prefixes_left_open};
+use node_sites::{NamedSite, NodeSites};
 use std::alloc::{AllocError, Global};
 use std::fs::File;
 use std::io;

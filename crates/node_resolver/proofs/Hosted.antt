@@ -15,8 +15,8 @@ use Rattle.node_response.specs.Responses.{ResponseTextValue}
 use Rattle.node_response.specs.Tags.{SiteValue}
 use Rattle.node_resolver.specs.Answers.{Dated, dated}
 use Rattle.node_resolver.specs.Laws.{SameReleasesSameNodeBytes}
-use Rattle.node_resolver.specs.declared.node_sites.NodeSites.{NodeSites}
-use Rattle.node_resolver.specs.NodeSites.{site_for}
+use Rattle.node_sites.specs.declared.node_sites.NodeSites.{NodeSites}
+use Rattle.node_sites.specs.NodeSites.{site_for}
 use Rattle.node_resolver.specs.NodeResponses.{AsksForNoFetch, IsNodeResponse, hosted_response, hostless_response, node_response}
 use Rattle.node_resolver.specs.SiteLaws.{HostHasItsSite, HostWithoutSiteIsMisdirected, IsForResolver, OtherSitesDoNotCount}
 use Rattle.node_resolver.proofs.SameBytes.{same_actives}

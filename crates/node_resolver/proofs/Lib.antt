@@ -12,4 +12,3 @@ pub mod SameTags
 pub mod Held
 pub mod Shared
 pub mod Hosted
-pub mod SitesTaken

@@ -20,7 +20,7 @@ use Rattle.node_resolver.specs.Answers.{Sited, answers_body, found_among, hits_a
 use Rattle.node_resolver.specs.Status.{IsCountable, active_value, status_body}
 use Rattle.node_response.specs.Tags.{SiteValue}
 use Rattle.node_resolver.specs.Responses.{IsResponseAt}
-use Rattle.node_resolver.specs.declared.node_sites.NodeSites.{NodeSites}
+use Rattle.node_sites.specs.declared.node_sites.NodeSites.{NodeSites}
 use Rattle.node_resolver.specs.NodeResponses.{IsNodeResponseAt, AsksForNoFetch, HaveSameSite}
 use Rattle.node_request.specs.FetchRequests.{FetchPolicyValue}
 

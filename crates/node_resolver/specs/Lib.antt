@@ -1,8 +1,4 @@
 pub mod Answers
-pub mod NodeSites
-pub mod SitePlaces
-pub mod SitesReadings
-pub mod SitesSteps
 pub mod AnswerTexts
 pub mod Status
 pub mod Validators

@@ -20,8 +20,8 @@ use Rattle.feed_http_heads.specs.Requests.{is_head}
 use Rattle.node_response.specs.Messages.{IsMessageFor, BeginsStream}
 use Rattle.node_response.specs.Tags.{SiteValue}
 use Rattle.node_resolver.specs.Answers.{Dated, dated}
-use Rattle.node_resolver.specs.declared.node_sites.NodeSites.{NodeSites}
-use Rattle.node_resolver.specs.NodeSites.{site_for}
+use Rattle.node_sites.specs.declared.node_sites.NodeSites.{NodeSites}
+use Rattle.node_sites.specs.NodeSites.{site_for}
 use Rattle.node_resolver.specs.Responses.{response_to, target_query, IsResponseToNone}
 use Rattle.node_resolver.specs.Messages.{IsMessageTo}
 

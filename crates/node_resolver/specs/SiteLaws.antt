@@ -8,8 +8,8 @@ use Rattle.node_request.specs.Hosts.{host_of}
 use Rattle.node_response.specs.Responses.{ResponseTextValue}
 use Rattle.node_response.specs.Tags.{SiteValue}
 use Rattle.node_resolver.specs.Answers.{Dated}
-use Rattle.node_resolver.specs.declared.node_sites.NodeSites.{NodeSites}
-use Rattle.node_resolver.specs.NodeSites.{site_for}
+use Rattle.node_sites.specs.declared.node_sites.NodeSites.{NodeSites}
+use Rattle.node_sites.specs.NodeSites.{site_for}
 use Rattle.node_resolver.specs.NodeResponses.{HaveSameSite, IsNodeResponse, misdirected_response}
 use Rattle.node_resolver.specs.Responses.{IsResponse}
 

@@ -6,14 +6,10 @@ mod answers;
 mod context;
 mod feed_responses;
 mod laws;
-mod logged_site;
 mod node;
-mod node_sites;
 mod request;
 mod responses;
 mod shares;
-mod sites_read;
-mod sites_reading;
 mod sites_responses;
 mod status;
 mod targets;
@@ -28,11 +24,7 @@ pub use laws::{
     same_inputs_same_bytes, same_releases_same_bytes, same_releases_same_node_bytes,
     same_releases_same_tag, status_is_json, whole_text_is_written,
 };
-pub use logged_site::site_place;
 pub use node::respond_as_node;
-pub use node_sites::{NamedSite, NodeSites};
 pub use responses::{respond, respond_with};
-pub use sites_read::SitesFolder;
-pub use sites_reading::{FOLDER_LIMIT, FileFault, Need, SitesReading};
 pub use sites_responses::respond_about_sites;
 pub use validators::keep_releases;

@@ -10,14 +10,13 @@ ghost use Rattle.feed_releases.specs.Feeds.{recorded, releases_of};
 ghost use Rattle.node_request.specs.Hosts.{host_of};
 ghost use Rattle.node_response.specs.Messages.{IsMessageFor};
 ghost use Rattle.node_resolver.specs.Answers.{dated};
-ghost use Rattle.node_resolver.specs.NodeSites.{site_for};
+ghost use Rattle.node_sites.specs.NodeSites.{site_for};
 ghost use Rattle.node_resolver.specs.NodeResponses.{hosted_response, hostless_response, misdirected_response};
 ghost use Rattle.node_resolver.specs.NodeResponses.{node_response, IsNodeResponse, IsNodeResponseText};
 ghost use Rattle.node_resolver.specs.NodeResponses.{IsNodeResponseAt, IsNodeMessage, IsNodeMessageFor};
 ghost use Rattle.node_resolver.specs.NodeResponses.{SaysOfConnection};
 
 use crate::context::Context;
-use crate::node_sites::NodeSites;
 use crate::request::ReaderRequest;
 use crate::responses::response_to;
 use feed_answer::Today;
@@ -27,6 +26,7 @@ use node_request::{
     FetchPolicy, ParsedRequest, ReceivedRequest, Representation, host_of, name_to_fetch,
 };
 use node_response::{ResponseText, Site, Status, bad_head_response, fetch_response, refusal};
+use node_sites::NodeSites;
 use std::alloc::{AllocError, Global};
 use std::marker::Model;
 

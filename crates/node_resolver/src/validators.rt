@@ -16,7 +16,6 @@ ghost use Rattle.node_resolver.specs.Answered.{IsAnswered, IsAnsweredTo};
 ghost use Rattle.node_resolver.specs.Responses.{untagged_response};
 
 use crate::context::Context;
-use crate::node_sites::NodeSites;
 use crate::request::ReaderRequest;
 use crate::responses::{position_of, untagged_response};
 use crate::status::put_lines;
@@ -27,6 +26,7 @@ use node_hits::ReceivedOpenUrl;
 use node_request::{ParsedRequest, Representation, Route, has_tag, package_in};
 use node_response::{DigestedPieces, Response, Site, Status};
 use node_site::SiteFile;
+use node_sites::NodeSites;
 use std::alloc::{AllocError, Global};
 
 fn has_validator(route: Route) -> bool

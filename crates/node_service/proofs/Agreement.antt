@@ -13,7 +13,7 @@ use Rattle.node_resolver.specs.FeedResponses.{feed_target, IsFeedAnswer}
 use Rattle.node_resolver.specs.Laws.{SameReleasesSameNodeBytes}
 use Rattle.node_resolver.specs.NodeResponses.{IsNodeResponseAt}
 use Rattle.node_resolver.specs.SitesResponses.{AsksForNoSites, IsSitesAnswer, is_for_sites}
-use Rattle.node_resolver.specs.declared.node_sites.NodeSites.{NodeSites}
+use Rattle.node_sites.specs.declared.node_sites.NodeSites.{NodeSites}
 use Rattle.node_monitoring.specs.Reports.{report_of, AsksForNoReport}
 use Rattle.node_monitoring.specs.declared.report_text.ReportResponse.{ReportResponse}
 use Rattle.node_machine.specs.NodeEvents.{feed_history}

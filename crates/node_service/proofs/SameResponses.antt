@@ -1,7 +1,7 @@
 -- With other sites a responder has the same responses, in the same circumstances.
 use Rattle.std.proofs.Common.{ℕ, Bool, List, inl, inr}
 use Rattle.feed_model.specs.History.{History}
-use Rattle.node_resolver.specs.declared.node_sites.NodeSites.{NodeSites}
+use Rattle.node_sites.specs.declared.node_sites.NodeSites.{NodeSites}
 use Rattle.node_monitoring.specs.declared.report_text.ReportResponse.{ReportResponse}
 use Rattle.node_machine.specs.Occasions.{AreResponsesOf}
 use Rattle.node_machine.specs.Rules.{Terms}

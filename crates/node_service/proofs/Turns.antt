@@ -23,7 +23,7 @@ use Rattle.node_response.specs.Responses.{ResponseTextValue}
 use Rattle.node_resolver.specs.NodeResponses.{AsksForFetch, AsksForNoFetch, IsNodeResponseAt, SaysOfConnection}
 use Rattle.node_resolver.specs.FeedResponses.{IsFeedResponse}
 use Rattle.node_resolver.specs.SitesResponses.{IsSitesResponse, is_sites_route, is_for_sites}
-use Rattle.node_resolver.specs.declared.node_sites.NodeSites.{NodeSites}
+use Rattle.node_sites.specs.declared.node_sites.NodeSites.{NodeSites}
 use Rattle.node_machine.specs.Rules.{Terms}
 use Rattle.node_service.specs.Responders.{IsOperatorResponse, IsResponseBy, SaysOfTurn}
 use Rattle.node_service.specs.Wanted.{IsAnswerable, IsUnanswerable, LacksOne}

@@ -11,7 +11,7 @@ use Rattle.node_request.specs.FoundRequests.{BeginsWith, HasNoHead}
 use Rattle.node_response.specs.Responses.{ResponseTextValue}
 use Rattle.node_resolver.specs.Answers.{dated}
 use Rattle.node_resolver.specs.FeedResponses.{feed_target}
-use Rattle.node_resolver.specs.declared.node_sites.NodeSites.{NodeSites}
+use Rattle.node_sites.specs.declared.node_sites.NodeSites.{NodeSites}
 use Rattle.node_resolver.specs.NodeResponses.{AsksForNoFetch, HaveSameSite, IsNodeResponse}
 use Rattle.node_resolver.specs.SitesResponses.{AsksForNoSites}
 use Rattle.node_monitoring.specs.Reports.{AsksForNoReport}

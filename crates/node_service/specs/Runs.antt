@@ -11,7 +11,7 @@ use Rattle.node_machine.specs.NodeEvents.{NodeEvent, feed_history}
 use Rattle.node_machine.specs.Rules.{AreGiven}
 use Rattle.node_machine.specs.Nodes.{IsLater}
 use Rattle.node_service.specs.declared.responder.FeedResponder.{FeedResponder}
-use Rattle.node_resolver.specs.declared.node_sites.NodeSites.{NodeSites}
+use Rattle.node_sites.specs.declared.node_sites.NodeSites.{NodeSites}
 use Rattle.node_service.specs.declared.node_loop.End.{End}
 use Rattle.node_service.specs.Responders.{IsTurnText}
 

@@ -2,7 +2,8 @@
 ghost use Rattle.node_service.specs.Agreement.{HitsArePublished, NodesAgree};
 
 use node_machine::published_files_are_kept;
-use node_resolver::{NodeSites, same_releases_same_node_bytes};
+use node_resolver::same_releases_same_node_bytes;
+use node_sites::NodeSites;
 
 /// Two nodes whose knowledge bases serve slices of the same published files give each request of a reader the same
 /// bytes, whenever they report the same releases and have the same site for its host. Each hit is one of the whole

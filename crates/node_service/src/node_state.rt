@@ -18,8 +18,9 @@ use node_monitoring::{
     record_exchange, respond_about_node, respond_at_start,
 };
 use node_request::{FetchPolicy, ReceivedRequest};
-use node_resolver::{Activity, LastFetch, NamedSite, respond_about_feed};
+use node_resolver::{Activity, LastFetch, respond_about_feed};
 use node_response::ResponseText;
+use node_sites::NamedSite;
 use node_table::CloseCause;
 use std::alloc::{AllocError, Global};
 use std::cell::{Cell, RefCell};

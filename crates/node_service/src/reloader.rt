@@ -9,8 +9,8 @@ use feed_console::{Console, DONE, Faults, MISUSED};
 use feed_keep::Keep;
 use feed_options::{NodeOptions, SitePath};
 use node_request::SitesRequest;
-use node_resolver::{NamedSite, NodeSites};
 use node_server::{Server, StreamKind};
+use node_sites::{NamedSite, NodeSites};
 use std::io::Write;
 use std::time::Instant;
 

@@ -3,7 +3,7 @@ ghost use Rattle.std.specs.Prelude.{◌≡◌, ◌⊎◌, is_some, Err, IfNone, 
 ghost use Rattle.feed_model.specs.History.{History};
 ghost use Rattle.feed_model.specs.Content.{IsContent};
 ghost use Rattle.feed_releases.specs.Feeds.{recorded};
-ghost use Rattle.node_resolver.specs.SitePlaces.{IsSitePlace};
+ghost use Rattle.node_sites.specs.SitePlaces.{IsSitePlace};
 ghost use Rattle.node_resolver.specs.SitesResponses.{SaysOfSites};
 ghost use Rattle.feed_http_heads.specs.Options.{SaysWhetherItKeeps};
 ghost use Rattle.node_machine.specs.Occasions.{terms_of};
@@ -25,10 +25,9 @@ use node_monitoring::{ReportResponse, gets_report};
 use node_request::{
     FetchPolicy, ParsedRequest, ReceivedRequest, fetch_to_begin, form_length, sites_to_read,
 };
-use node_resolver::{
-    NodeSites, ends_fetch, keep_releases, respond_about_sites, respond_as_node, site_place,
-};
+use node_resolver::{ends_fetch, keep_releases, respond_about_sites, respond_as_node};
 use node_response::ResponseText;
+use node_sites::{NodeSites, site_place};
 use std::alloc::{AllocError, Global};
 use std::mem::replace;
 

@@ -1,7 +1,7 @@
 //! Reports of what is wrong with a site file, with its holdings file, and with a folder of them.
 use feed_console::{Console, FAILED, REFUSED};
-use node_resolver::FileFault;
 use node_site::{HoldingsFault, SiteFault, SitesFault};
+use node_sites::FileFault;
 use std::io::Write;
 
 /// Reports what is wrong with a site file, and returns the exit status. The name is that of the file in a folder.

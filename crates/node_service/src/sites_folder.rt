@@ -3,8 +3,8 @@
 use crate::site_faults::report_file;
 use feed_console::{Console, DONE, FAILED, REFUSED, open_plain_file, read_front};
 use feed_options::NodeOptions;
-use node_resolver::{FileFault, Need, NodeSites, SitesFolder, SitesReading};
 use node_site::{HOLDINGS_LIMIT, SITE_LIMIT, SITES_LIMIT};
+use node_sites::{FileFault, Need, NodeSites, SitesFolder, SitesReading};
 use std::alloc::{AllocError, Global};
 use std::fs::File;
 use std::io::Write;

@@ -12,9 +12,10 @@ use feed_releases::{Event, Feed};
 use httparse::spans::EMPTY_HEADER_SPAN;
 use node_connection::{Connection, TimeLimits};
 use node_request::{FetchPolicy, ReceivedRequest, fetch_request, form_length};
-use node_resolver::{NamedSite, NodeSites, keep_releases, respond, respond_as_node};
+use node_resolver::{keep_releases, respond, respond_as_node};
 use node_response::Site;
 use node_site::{HoldingsFault, SiteFault, SitesFault};
+use node_sites::{NamedSite, NodeSites};
 use std::alloc::Global;
 use test_support::Out;
 

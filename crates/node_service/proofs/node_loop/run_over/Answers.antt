@@ -8,7 +8,7 @@ use Rattle.node_machine.specs.Rules.{AreGiven}
 use Rattle.node_machine.specs.Nodes.{HasHistory}
 use Rattle.node_machine.proofs.Later.{room_as}
 use Rattle.node_service.specs.declared.responder.FeedResponder.{FeedResponder}
-use Rattle.node_resolver.specs.declared.node_sites.NodeSites.{NodeSites}
+use Rattle.node_sites.specs.declared.node_sites.NodeSites.{NodeSites}
 use Rattle.node_service.specs.Responders.{IsTurnText}
 use Rattle.node_service.proofs.node_loop.run_over.Goals as goal
 

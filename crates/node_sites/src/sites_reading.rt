@@ -2,12 +2,12 @@
 //! It opens no file itself: it says which one it needs, and gets its bytes.
 ghost use Rattle.std.specs.Prelude.{◌≡◌, ◌<◌, ◌+◌, List, [], true, false, IfErr, IfNone, IfOk, IfSome, OnErr};
 ghost use Rattle.std.specs.Prelude.{OnOk, length, max};
-ghost use Rattle.node_resolver.specs.SitesReadings.{FileText, folder_limit};
-ghost use Rattle.node_resolver.specs.SitesSteps.{AreSitesOfAll, IsAfterHoldings, IsAfterSite, IsAfterStep};
-ghost use Rattle.node_resolver.specs.SitesSteps.{IsHoldingsFileFault, IsNeed, IsReadingOf, IsSiteFileFault, IsSiteNext};
-ghost use Rattle.node_resolver.specs.SitesSteps.{IsSiteRefusal, IsStepFault, IsStepNext, IsStepRefusal, IsUnfinished};
-ghost use Rattle.node_resolver.specs.SitesSteps.{KeepsFolder, Refuses, WaitsForHoldings, folder_of, is_refused};
-ghost use Rattle.node_resolver.specs.SitesSteps.{room_of};
+ghost use Rattle.node_sites.specs.SitesReadings.{FileText, folder_limit};
+ghost use Rattle.node_sites.specs.SitesSteps.{AreSitesOfAll, IsAfterHoldings, IsAfterSite, IsAfterStep};
+ghost use Rattle.node_sites.specs.SitesSteps.{IsHoldingsFileFault, IsNeed, IsReadingOf, IsSiteFileFault, IsSiteNext};
+ghost use Rattle.node_sites.specs.SitesSteps.{IsSiteRefusal, IsStepFault, IsStepNext, IsStepRefusal, IsUnfinished};
+ghost use Rattle.node_sites.specs.SitesSteps.{KeepsFolder, Refuses, WaitsForHoldings, folder_of, is_refused};
+ghost use Rattle.node_sites.specs.SitesSteps.{room_of};
 
 use crate::node_sites::NodeSites;
 use crate::sites_read::{SitesFolder, SitesRead};

@@ -7,8 +7,8 @@ use Rattle.node_request.specs.Hosts.{host_of}
 use Rattle.node_request.specs.Routes.{route_of}
 use Rattle.node_request.specs.declared.route.Route.{Route}
 use Rattle.node_request.specs.declared.route.Route.TheVariants as route
-use Rattle.node_resolver.specs.declared.node_sites.NodeSites.{NodeSites}
-use Rattle.node_resolver.specs.NodeSites.{place_for}
+use Rattle.node_sites.specs.declared.node_sites.NodeSites.{NodeSites}
+use Rattle.node_sites.specs.NodeSites.{place_for}
 
 -- a reader's route, by whose host a site responds; an operator's takes any host
 abbrev pub is_readers : Route → Bool

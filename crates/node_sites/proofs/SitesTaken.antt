@@ -3,17 +3,17 @@ use Rattle.std.proofs.Common.{◌≡◌, ◌∙◌, inl, inr, ℕ, Bool, true, f
 use Rattle.node_site.specs.declared.sites.SitesFault.{SitesFault}
 use Rattle.node_site.specs.ReadingValue.{ReadingValue}
 use Rattle.node_response.specs.Tags.{SiteValue, with_listing}
-use Rattle.node_resolver.specs.declared.sites_read.SitesFolder.{SitesFolder}
-use Rattle.node_resolver.specs.declared.sites_read.SitesRead.{SitesRead}
-use Rattle.node_resolver.specs.declared.sites_reading.FilePhase.{FilePhase}
-use Rattle.node_resolver.specs.declared.sites_reading.FilePhase.TheVariants as phase
-use Rattle.node_resolver.specs.declared.sites_reading.SitesReading.{SitesReading}
-use Rattle.node_resolver.specs.declared.node_sites.NamedSite.{NamedSite}
-use Rattle.node_resolver.specs.declared.node_sites.NodeSites.{NodeSites}
-use Rattle.node_resolver.specs.NodeSites.{AddsNamed, SetsOtherNamed}
-use Rattle.node_resolver.specs.SitesReadings.{AddsNext, AddsSiteOf, IsAdded, file_name, is_for_others, AreNamed, AreSitesOf, FileText, HasRead, IsSiteOfFile, RefusesNext, name_at}
-use Rattle.node_resolver.specs.SitesSteps.{IsAfterSite, IsAfterStep, IsAfterStepIn, IsFileRead, IsFilePhase, IsFurther}
-use Rattle.node_resolver.specs.SitesSteps.{IsNamedBy, IsNaming, IsReadingOf, IsSiteNext, IsStepNext, WaitsForHoldings, WaitsIn}
+use Rattle.node_sites.specs.declared.sites_read.SitesFolder.{SitesFolder}
+use Rattle.node_sites.specs.declared.sites_read.SitesRead.{SitesRead}
+use Rattle.node_sites.specs.declared.sites_reading.FilePhase.{FilePhase}
+use Rattle.node_sites.specs.declared.sites_reading.FilePhase.TheVariants as phase
+use Rattle.node_sites.specs.declared.sites_reading.SitesReading.{SitesReading}
+use Rattle.node_sites.specs.declared.node_sites.NamedSite.{NamedSite}
+use Rattle.node_sites.specs.declared.node_sites.NodeSites.{NodeSites}
+use Rattle.node_sites.specs.NodeSites.{AddsNamed, SetsOtherNamed}
+use Rattle.node_sites.specs.SitesReadings.{AddsNext, AddsSiteOf, IsAdded, file_name, is_for_others, AreNamed, AreSitesOf, FileText, HasRead, IsSiteOfFile, RefusesNext, name_at}
+use Rattle.node_sites.specs.SitesSteps.{IsAfterSite, IsAfterStep, IsAfterStepIn, IsFileRead, IsFilePhase, IsFurther}
+use Rattle.node_sites.specs.SitesSteps.{IsNamedBy, IsNaming, IsReadingOf, IsSiteNext, IsStepNext, WaitsForHoldings, WaitsIn}
 
 -- what holds if a call succeeds, and what follows from it
 pub on_ok : {A B : Type 0} (r : Result Unit SitesFault) → (A → B) → OnOk r A → OnOk r B

@@ -8,11 +8,11 @@ use Rattle.node_site.specs.declared.sites.SitesFault.TheVariants as host
 use Rattle.node_site.specs.HoldingsFaults.{IsHoldingsFile}
 use Rattle.node_site.specs.Sites.{other_site, own_site}
 use Rattle.node_response.specs.Tags.{IsSiteWith, SiteValue, with_listing}
-use Rattle.node_resolver.specs.declared.node_sites.NamedSite.{NamedSite}
-use Rattle.node_resolver.specs.declared.node_sites.NodeSites.{NodeSites}
-use Rattle.node_resolver.specs.declared.sites_read.SitesFolder.{SitesFolder}
-use Rattle.node_resolver.specs.declared.sites_read.SitesRead.{SitesRead}
-use Rattle.node_resolver.specs.NodeSites.{AddsNamed, IsAddFault, SetsOtherNamed}
+use Rattle.node_sites.specs.declared.node_sites.NamedSite.{NamedSite}
+use Rattle.node_sites.specs.declared.node_sites.NodeSites.{NodeSites}
+use Rattle.node_sites.specs.declared.sites_read.SitesFolder.{SitesFolder}
+use Rattle.node_sites.specs.declared.sites_read.SitesRead.{SitesRead}
+use Rattle.node_sites.specs.NodeSites.{AddsNamed, IsAddFault, SetsOtherNamed}
 
 -- the most bytes of all files of a folder: 256 MiB
 abbrev pub folder_limit : ℕ

@@ -1,8 +1,8 @@
 use Rattle.std.proofs.Common.{◌∙◌, ap, refl}
-use Rattle.node_resolver.specs.declared.sites_read.SitesRead.{SitesRead}
-use Rattle.node_resolver.specs.declared.sites_reading.SitesReading.{SitesReading}
-use Rattle.node_resolver.proofs.SitesTaken.{refused_from, site_taken}
-use Rattle.node_resolver.proofs.sites_reading.SitesReading.take_site.Goals as goal
+use Rattle.node_sites.specs.declared.sites_read.SitesRead.{SitesRead}
+use Rattle.node_sites.specs.declared.sites_reading.SitesReading.{SitesReading}
+use Rattle.node_sites.proofs.SitesTaken.{refused_from, site_taken}
+use Rattle.node_sites.proofs.sites_reading.SitesReading.take_site.Goals as goal
 
 pub returns-in-Ok-clause-taken : goal.returns-in-Ok-clause-taken
 returns-in-Ok-clause-taken c files is =

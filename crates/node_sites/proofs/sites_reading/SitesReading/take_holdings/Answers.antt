@@ -1,6 +1,6 @@
 use Rattle.std.proofs.Common.{◌∙◌}
-use Rattle.node_resolver.proofs.SitesTaken.{none_waits}
-use Rattle.node_resolver.proofs.sites_reading.SitesReading.take_holdings.Goals as goal
+use Rattle.node_sites.proofs.SitesTaken.{none_waits}
+use Rattle.node_sites.proofs.sites_reading.SitesReading.take_holdings.Goals as goal
 
 pub returns-in_default-clause-room : goal.returns-in_default-clause-room
 returns-in_default-clause-room c waits =

@@ -4,17 +4,17 @@ use Rattle.node_site.specs.HoldingsFaults.{IsHoldingsFault, IsHoldingsFile}
 use Rattle.node_site.specs.ReadingValue.{ReadingValue}
 use Rattle.node_site.specs.Reading.{IsSiteFault}
 use Rattle.node_response.specs.Tags.{IsSiteWith, SiteValue, with_listing}
-use Rattle.node_resolver.specs.declared.node_sites.NodeSites.{NodeSites}
-use Rattle.node_resolver.specs.declared.sites_read.SitesFolder.{SitesFolder}
-use Rattle.node_resolver.specs.declared.sites_read.SitesRead.{SitesRead}
-use Rattle.node_resolver.specs.declared.sites_reading.FileFault.{FileFault}
-use Rattle.node_resolver.specs.declared.sites_reading.FileFault.TheVariants as fault
-use Rattle.node_resolver.specs.declared.sites_reading.FilePhase.{FilePhase}
-use Rattle.node_resolver.specs.declared.sites_reading.FilePhase.TheVariants as phase
-use Rattle.node_resolver.specs.declared.sites_reading.Need.{Need}
-use Rattle.node_resolver.specs.declared.sites_reading.Need.TheVariants as need
-use Rattle.node_resolver.specs.declared.sites_reading.SitesReading.{SitesReading}
-use Rattle.node_resolver.specs.SitesReadings.{AddsNext, AreNamed, AreSitesOf, FileText, HasRead, IsNextFault, IsSiteOfFile, RefusesNext, name_at}
+use Rattle.node_sites.specs.declared.node_sites.NodeSites.{NodeSites}
+use Rattle.node_sites.specs.declared.sites_read.SitesFolder.{SitesFolder}
+use Rattle.node_sites.specs.declared.sites_read.SitesRead.{SitesRead}
+use Rattle.node_sites.specs.declared.sites_reading.FileFault.{FileFault}
+use Rattle.node_sites.specs.declared.sites_reading.FileFault.TheVariants as fault
+use Rattle.node_sites.specs.declared.sites_reading.FilePhase.{FilePhase}
+use Rattle.node_sites.specs.declared.sites_reading.FilePhase.TheVariants as phase
+use Rattle.node_sites.specs.declared.sites_reading.Need.{Need}
+use Rattle.node_sites.specs.declared.sites_reading.Need.TheVariants as need
+use Rattle.node_sites.specs.declared.sites_reading.SitesReading.{SitesReading}
+use Rattle.node_sites.specs.SitesReadings.{AddsNext, AreNamed, AreSitesOf, FileText, HasRead, IsNextFault, IsSiteOfFile, RefusesNext, name_at}
 
 -- the site of a site file of a folder, before its holdings file is read
 pub record IsNaming (folder : SitesFolder) (bytes : List ℕ) (site : SiteValue) : Type 0 where

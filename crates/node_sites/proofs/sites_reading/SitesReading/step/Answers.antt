@@ -1,8 +1,8 @@
 use Rattle.std.proofs.Common.{◌≡◌, ◌∙◌, refl, sym}
-use Rattle.node_resolver.specs.declared.sites_reading.FilePhase.TheVariants.{Reading}
-use Rattle.node_resolver.specs.declared.sites_reading.SitesReading.{SitesReading}
-use Rattle.node_resolver.proofs.SitesTaken.{refused_from, step_taken}
-use Rattle.node_resolver.proofs.sites_reading.SitesReading.step.Goals as goal
+use Rattle.node_sites.specs.declared.sites_reading.FilePhase.TheVariants.{Reading}
+use Rattle.node_sites.specs.declared.sites_reading.SitesReading.{SitesReading}
+use Rattle.node_sites.proofs.SitesTaken.{refused_from, step_taken}
+use Rattle.node_sites.proofs.sites_reading.SitesReading.step.Goals as goal
 
 pub returns-in-Ok-clause-taken : goal.returns-in-Ok-clause-taken
 returns-in-Ok-clause-taken c files is =

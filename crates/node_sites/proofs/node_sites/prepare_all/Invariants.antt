@@ -1,5 +1,5 @@
 use Rattle.std.proofs.Common.{◌≡◌}
-use Rattle.node_resolver.proofs.node_sites.prepare_all.Given as goal
+use Rattle.node_sites.proofs.node_sites.prepare_all.Given as goal
 
 abbrev pub invariant-loop-named : goal.invariant-loop-named
 invariant-loop-named l = l.sites ≡ l.fn.sites

@@ -26,7 +26,7 @@ struct SiteList {
 
 impl Model for SiteList {
     ghost use Rattle.std.specs.Prelude.{List};
-    ghost use Rattle.node_resolver.specs.declared.node_sites.NamedSite.{NamedSite};
+    ghost use Rattle.node_sites.specs.declared.node_sites.NamedSite.{NamedSite};
 
     ghost Value = { List NamedSite };
 
@@ -116,8 +116,8 @@ impl SiteList {
 }
 
 impl NodeSites {
-    ghost use Rattle.node_resolver.specs.NodeSites.{AddsNamed, AreSameNamed, IsAddFault, SetsOtherNamed};
-    ghost use Rattle.node_resolver.specs.NodeSites.{named_for, place_for, site_for};
+    ghost use Rattle.node_sites.specs.NodeSites.{AddsNamed, AreSameNamed, IsAddFault, SetsOtherNamed};
+    ghost use Rattle.node_sites.specs.NodeSites.{named_for, place_for, site_for};
 
     /// Returns no sites.
     pub fn new(alloc: Global) -> NodeSites
@@ -218,7 +218,7 @@ impl NodeSites {
     }
 
     /// Returns the site of the requests for a host.
-    pub(crate) fn site(&self, host: Option<&[u8]>) -> Option<&Site>
+    pub fn site(&self, host: Option<&[u8]>) -> Option<&Site>
         ensures { option_copied result ≡ site_for (option_copied host.entry) self.now }
     {
         match self.named(host) {
@@ -228,7 +228,7 @@ impl NodeSites {
     }
 
     /// Returns the text about the releases for which the tags are prepared.
-    pub(crate) fn releases(&self) -> &DigestedPieces {
+    pub fn releases(&self) -> &DigestedPieces {
         &self.list.releases
     }
 
@@ -238,12 +238,7 @@ impl NodeSites {
     /// # Errors
     ///
     /// Running out of memory, after which some responses compute their digests themselves.
-    pub(crate) fn prepare(
-        &mut self,
-        alloc: Global,
-        today: &Today,
-        text: &[u8],
-    ) -> Result<bool, AllocError>
+    pub fn prepare(&mut self, alloc: Global, today: &Today, text: &[u8]) -> Result<bool, AllocError>
         ensures { self.new ≡ self.old }
     {
         self.list.prepare(alloc, today, text)

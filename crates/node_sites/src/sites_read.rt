@@ -1,8 +1,8 @@
 //! The sites of the files of a folder that are read so far.
 ghost use Rattle.std.specs.Prelude.{◌≡◌, ◌+◌, [], true, IfErr, IfOk, OnErr, OnOk, option_map};
-ghost use Rattle.node_resolver.specs.SitesReadings.{AddsNext, AddsSiteOf, HasRead, IsNextFault, RefusesNext};
-ghost use Rattle.node_resolver.specs.SitesReadings.{file_name, is_for_others, name_at};
-ghost use Rattle.node_resolver.specs.NodeSites.{IsAddFault};
+ghost use Rattle.node_sites.specs.SitesReadings.{AddsNext, AddsSiteOf, HasRead, IsNextFault, RefusesNext};
+ghost use Rattle.node_sites.specs.SitesReadings.{file_name, is_for_others, name_at};
+ghost use Rattle.node_sites.specs.NodeSites.{IsAddFault};
 
 use crate::node_sites::{NamedSite, NodeSites};
 use node_response::Site;

@@ -5,8 +5,8 @@ use Rattle.node_site.specs.declared.sites.SitesFault.TheVariants.{Memory}
 use Rattle.node_site.specs.Sites as kept
 use Rattle.node_site.specs.Sites.{AddsSite, AreSame, IsSitesFault, SetsOthers}
 use Rattle.node_response.specs.Tags.{SiteValue}
-use Rattle.node_resolver.specs.declared.node_sites.NamedSite.{NamedSite}
-use Rattle.node_resolver.specs.declared.node_sites.NodeSites.{NodeSites}
+use Rattle.node_sites.specs.declared.node_sites.NamedSite.{NamedSite}
+use Rattle.node_sites.specs.declared.node_sites.NodeSites.{NodeSites}
 
 -- the place in the list of the site of a host, or of requests that name no host
 abbrev pub place_for : Option (List ℕ) → NodeSites → Option ℕ

@@ -2,7 +2,7 @@
 ghost use Rattle.std.specs.Prelude.{◌≡◌};
 ghost use Rattle.httparse.specs.Grammar.{RequestHead};
 ghost use Rattle.feed_http_heads.specs.Requests.{HasHead};
-ghost use Rattle.node_resolver.specs.SitePlaces.{is_readers, site_place, IsSitePlace};
+ghost use Rattle.node_sites.specs.SitePlaces.{is_readers, site_place, IsSitePlace};
 
 use crate::node_sites::NodeSites;
 use node_request::{ParsedRequest, ReceivedRequest, Route, host_of};

@@ -1,8 +1,8 @@
 use Rattle.std.proofs.Common.{List, ℕ, subst, sym, ◌∙◌}
-use Rattle.node_resolver.specs.declared.node_sites.NamedSite.{NamedSite}
-use Rattle.node_resolver.specs.NodeSites.{AddsNamed}
-use Rattle.node_resolver.proofs.SitesTaken.{on_ok, other_site_added, own_site_added}
-use Rattle.node_resolver.proofs.sites_read.add_site.Goals as goal
+use Rattle.node_sites.specs.declared.node_sites.NamedSite.{NamedSite}
+use Rattle.node_sites.specs.NodeSites.{AddsNamed}
+use Rattle.node_sites.proofs.SitesTaken.{on_ok, other_site_added, own_site_added}
+use Rattle.node_sites.proofs.sites_read.add_site.Goals as goal
 
 pub returns-then-not-is_for_others-clause-added : goal.returns-then-not-is_for_others-clause-added
 returns-then-not-is_for_others-clause-added c =

@@ -1,0 +1,4 @@
+pub mod NodeSites
+pub mod SitePlaces
+pub mod SitesReadings
+pub mod SitesSteps
