@@ -6,8 +6,6 @@ pub mod Responses
 pub mod Answered
 pub mod Messages
 pub mod NodeResponses
-pub mod FeedResponses
-pub mod SitesResponses
 pub mod Laws
 pub mod SiteLaws
 pub mod TagLaws

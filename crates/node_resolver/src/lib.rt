@@ -4,19 +4,16 @@
 
 mod answers;
 mod context;
-mod feed_responses;
 mod laws;
 mod node;
 mod request;
 mod responses;
 mod shares;
-mod sites_responses;
 mod status;
 mod targets;
 mod validators;
 
 pub use context::Context;
-pub use feed_responses::{Activity, FeedTarget, LastFetch, ends_fetch, respond_about_feed};
 pub use laws::{
     each_release_is_looked_at, every_page_is_utf8, form_is_get, goes_to_best, head_is_head_of_get,
     hits_are_held, host_has_its_site, host_without_site_is_misdirected, links_are_held,
@@ -26,5 +23,4 @@ pub use laws::{
 };
 pub use node::respond_as_node;
 pub use responses::{respond, respond_with};
-pub use sites_responses::respond_about_sites;
 pub use validators::keep_releases;

@@ -9,10 +9,10 @@ use Rattle.feed_model.specs.History.{History}
 use Rattle.node_request.specs.FetchRequests.{FetchPolicyValue}
 use Rattle.node_request.specs.FoundRequests.{BeginsWith}
 use Rattle.node_response.specs.Responses.{ResponseTextValue}
-use Rattle.node_resolver.specs.FeedResponses.{feed_target, IsFeedAnswer}
+use Rattle.node_operator.specs.FeedResponses.{feed_target, IsFeedAnswer}
 use Rattle.node_resolver.specs.Laws.{SameReleasesSameNodeBytes}
 use Rattle.node_resolver.specs.NodeResponses.{IsNodeResponseAt}
-use Rattle.node_resolver.specs.SitesResponses.{AsksForNoSites, IsSitesAnswer, is_for_sites}
+use Rattle.node_operator.specs.SitesResponses.{AsksForNoSites, IsSitesAnswer, is_for_sites}
 use Rattle.node_sites.specs.declared.node_sites.NodeSites.{NodeSites}
 use Rattle.node_monitoring.specs.Reports.{report_of, AsksForNoReport}
 use Rattle.node_monitoring.specs.declared.report_text.ReportResponse.{ReportResponse}

@@ -21,8 +21,8 @@ use Rattle.node_request.specs.declared.form.FormFault.{FormFault}
 use Rattle.node_request.specs.declared.form.FormFault.TheVariants.{Coding}
 use Rattle.node_response.specs.Responses.{ResponseTextValue}
 use Rattle.node_resolver.specs.NodeResponses.{AsksForFetch, AsksForNoFetch, IsNodeResponseAt, SaysOfConnection}
-use Rattle.node_resolver.specs.FeedResponses.{IsFeedResponse}
-use Rattle.node_resolver.specs.SitesResponses.{IsSitesResponse, is_sites_route, is_for_sites}
+use Rattle.node_operator.specs.FeedResponses.{IsFeedResponse}
+use Rattle.node_operator.specs.SitesResponses.{IsSitesResponse, is_sites_route, is_for_sites}
 use Rattle.node_sites.specs.declared.node_sites.NodeSites.{NodeSites}
 use Rattle.node_machine.specs.Rules.{Terms}
 use Rattle.node_service.specs.Responders.{IsOperatorResponse, IsResponseBy, SaysOfTurn}

@@ -10,10 +10,10 @@ use Rattle.node_request.specs.FetchRequests.{FetchPolicyValue}
 use Rattle.node_request.specs.FoundRequests.{BeginsWith, HasNoHead}
 use Rattle.node_response.specs.Responses.{ResponseTextValue}
 use Rattle.node_resolver.specs.Answers.{dated}
-use Rattle.node_resolver.specs.FeedResponses.{feed_target}
+use Rattle.node_operator.specs.FeedResponses.{feed_target}
 use Rattle.node_sites.specs.declared.node_sites.NodeSites.{NodeSites}
 use Rattle.node_resolver.specs.NodeResponses.{AsksForNoFetch, HaveSameSite, IsNodeResponse}
-use Rattle.node_resolver.specs.SitesResponses.{AsksForNoSites}
+use Rattle.node_operator.specs.SitesResponses.{AsksForNoSites}
 use Rattle.node_monitoring.specs.Reports.{AsksForNoReport}
 use Rattle.node_machine.specs.NodeEvents.{NodeEvent, feed_history}
 use Rattle.node_machine.specs.Rules.{Terms, AreGiven}

@@ -7,8 +7,8 @@ use Rattle.node_request.specs.SitesRequests.{IsSitesToRead}
 use Rattle.node_request.specs.declared.sites_target.SitesRequest.{SitesRequest}
 use Rattle.node_response.specs.Responses.{ResponseTextValue}
 use Rattle.node_resolver.specs.NodeResponses.{IsNodeResponseAt, SaysOfConnection}
-use Rattle.node_resolver.specs.FeedResponses.{IsFeedResponse}
-use Rattle.node_resolver.specs.SitesResponses.{IsSitesResponse, SaysOfSites}
+use Rattle.node_operator.specs.FeedResponses.{IsFeedResponse}
+use Rattle.node_operator.specs.SitesResponses.{IsSitesResponse, SaysOfSites}
 use Rattle.node_sites.specs.declared.node_sites.NodeSites.{NodeSites}
 use Rattle.node_monitoring.specs.declared.report_text.ReportResponse.{ReportResponse}
 use Rattle.node_machine.specs.Rules.{Terms}

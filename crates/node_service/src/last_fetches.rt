@@ -1,7 +1,7 @@
 //! The last fetch of each package, of a bounded number of packages.
 use feed_keep::LARGE_CAPACITY;
 use feed_names::ReleaseName;
-use node_resolver::LastFetch;
+use node_operator::LastFetch;
 use std::alloc::{AllocError, Global};
 
 // The most packages: as many as a node may record releases.

@@ -1,7 +1,7 @@
 //! The state that the responses and the log of a node share: what the node counts, and the last fetches.
 ghost use Rattle.std.specs.Prelude.{IfOk, IfSome};
 ghost use Rattle.feed_http_heads.specs.Options.{SaysWhetherItKeeps};
-ghost use Rattle.node_resolver.specs.FeedResponses.{IsFeedResponse};
+ghost use Rattle.node_operator.specs.FeedResponses.{IsFeedResponse};
 ghost use Rattle.node_service.specs.Reports.{IsSomeResponse};
 ghost use Rattle.node_service.specs.Starting.{IsSomeStartingResponse};
 
@@ -17,8 +17,8 @@ use node_monitoring::{
     Gauges, LogPolicy, LoggedExchange, ReleaseTime, ReportRequest, ReportResponse, SiteName,
     record_exchange, respond_about_node, respond_at_start,
 };
+use node_operator::{Activity, LastFetch, respond_about_feed};
 use node_request::{FetchPolicy, ReceivedRequest};
-use node_resolver::{Activity, LastFetch, respond_about_feed};
 use node_response::ResponseText;
 use node_sites::NamedSite;
 use node_table::CloseCause;

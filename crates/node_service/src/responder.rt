@@ -4,7 +4,7 @@ ghost use Rattle.feed_model.specs.History.{History};
 ghost use Rattle.feed_model.specs.Content.{IsContent};
 ghost use Rattle.feed_releases.specs.Feeds.{recorded};
 ghost use Rattle.node_sites.specs.SitePlaces.{IsSitePlace};
-ghost use Rattle.node_resolver.specs.SitesResponses.{SaysOfSites};
+ghost use Rattle.node_operator.specs.SitesResponses.{SaysOfSites};
 ghost use Rattle.feed_http_heads.specs.Options.{SaysWhetherItKeeps};
 ghost use Rattle.node_machine.specs.Occasions.{terms_of};
 ghost use Rattle.node_request.specs.FetchRequests.{IsWhetherToBegin};
@@ -22,10 +22,11 @@ use node_connection::{BODY_LIMIT, IncomingRequest, LoggedResponse, RespondFault,
 use node_file_checks::ExpectedFile;
 use node_machine::{FeedRespond, Occasion};
 use node_monitoring::{ReportResponse, gets_report};
+use node_operator::{ends_fetch, respond_about_sites};
 use node_request::{
     FetchPolicy, ParsedRequest, ReceivedRequest, fetch_to_begin, form_length, sites_to_read,
 };
-use node_resolver::{ends_fetch, keep_releases, respond_about_sites, respond_as_node};
+use node_resolver::{keep_releases, respond_as_node};
 use node_response::ResponseText;
 use node_sites::{NodeSites, site_place};
 use std::alloc::{AllocError, Global};

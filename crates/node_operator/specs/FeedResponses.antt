@@ -13,8 +13,8 @@ use Rattle.node_request.specs.declared.representation.Representation.{Representa
 use Rattle.node_request.specs.declared.representation.Representation.TheVariants.{Text}
 use Rattle.node_response.specs.Responses.{ResponseValue, ResponseTextValue, refusal, response_with, response_of}
 use Rattle.node_response.specs.declared.status.Status.TheVariants as status
-use Rattle.node_resolver.specs.declared.feed_responses.FeedTarget.{FeedTarget}
-use Rattle.node_resolver.specs.declared.feed_responses.FeedTarget.TheVariants.{Releases, End, OtherMethod, Release}
+use Rattle.node_operator.specs.declared.feed_responses.FeedTarget.{FeedTarget}
+use Rattle.node_operator.specs.declared.feed_responses.FeedTarget.TheVariants.{Releases, End, OtherMethod, Release}
 
 -- what a request asks of `/feed` by its method (RFC 9110, section 9.3)
 abbrev pub asked_by : RequestHead → Option FeedTarget

@@ -5,10 +5,10 @@ ghost use Rattle.httparse.specs.Grammar.{RequestHead};
 ghost use Rattle.feed_http_heads.specs.Options.{SaysWhetherItKeeps};
 ghost use Rattle.feed_http_heads.specs.Requests.{HasHead};
 ghost use Rattle.feed_releases.specs.Actives.{AreInOrder};
-ghost use Rattle.node_resolver.specs.FeedResponses.{asked_below, asked_by, ends_by, feed_target, has_token_of, is_end};
-ghost use Rattle.node_resolver.specs.FeedResponses.{EndsFetch, EndsNoFetch, IsEndResponse, IsFeedResponse};
-ghost use Rattle.node_resolver.specs.FeedResponses.{IsResponseToFeedTarget};
-ghost use Rattle.node_resolver.specs.FeedResponses.{IsListResponse};
+ghost use Rattle.node_operator.specs.FeedResponses.{asked_below, asked_by, ends_by, feed_target, has_token_of, is_end};
+ghost use Rattle.node_operator.specs.FeedResponses.{EndsFetch, EndsNoFetch, IsEndResponse, IsFeedResponse};
+ghost use Rattle.node_operator.specs.FeedResponses.{IsResponseToFeedTarget};
+ghost use Rattle.node_operator.specs.FeedResponses.{IsListResponse};
 
 use feed_bytes::put_all;
 use feed_http_heads::origin_form;

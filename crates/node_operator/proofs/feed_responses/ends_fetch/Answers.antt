@@ -2,8 +2,8 @@ use Rattle.std.proofs.Common.{◌≡◌, ℕ, Bool, true, false, List, MatchBool
 use Rattle.httparse.specs.Grammar.{RequestHead}
 use Rattle.node_request.specs.FetchRequests.{FetchPolicyValue}
 use Rattle.node_request.specs.FoundRequests.{BeginsWith}
-use Rattle.node_resolver.specs.FeedResponses.{EndsFetch, EndsNoFetch, ends_by}
-use Rattle.node_resolver.proofs.feed_responses.ends_fetch.Goals as goal
+use Rattle.node_operator.specs.FeedResponses.{EndsFetch, EndsNoFetch, ends_by}
+use Rattle.node_operator.proofs.feed_responses.ends_fetch.Goals as goal
 
 ended : (b : Bool) (policy : FetchPolicyValue) (bytes : List ℕ) (head : RequestHead) → BeginsWith bytes head → b ≡ ends_by policy head
     → MatchBool b (EndsFetch policy bytes) (EndsNoFetch policy bytes)

@@ -2,8 +2,8 @@
 ghost use Rattle.std.specs.Prelude.{◌≡◌, IfOk, IfSome};
 ghost use Rattle.httparse.specs.Grammar.{RequestHead};
 ghost use Rattle.feed_http_heads.specs.Requests.{HasHead};
-ghost use Rattle.node_resolver.specs.SitesResponses.{is_for_sites, is_sites_route, sites_refusal, sites_response};
-ghost use Rattle.node_resolver.specs.SitesResponses.{IsSitesMessage, IsSitesResponse, SaysOfSites};
+ghost use Rattle.node_operator.specs.SitesResponses.{is_for_sites, is_sites_route, sites_refusal, sites_response};
+ghost use Rattle.node_operator.specs.SitesResponses.{IsSitesMessage, IsSitesResponse, SaysOfSites};
 
 use feed_http_heads::origin_form;
 use node_request::{

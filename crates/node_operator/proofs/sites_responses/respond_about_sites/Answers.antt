@@ -1,6 +1,6 @@
 use Rattle.std.proofs.Common.{◌∙◌, sym}
-use Rattle.node_resolver.proofs.Connections.{sites_says}
-use Rattle.node_resolver.proofs.sites_responses.respond_about_sites.Goals as goal
+use Rattle.node_operator.proofs.Connections.{sites_says}
+use Rattle.node_operator.proofs.sites_responses.respond_about_sites.Goals as goal
 
 pub returns-clause-says : goal.returns-clause-says
 returns-clause-says c =

@@ -1,0 +1,2 @@
+pub mod FeedResponses
+pub mod SitesResponses
