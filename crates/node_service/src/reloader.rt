@@ -4,12 +4,12 @@ ghost use Rattle.node_service.specs.Runs.{IsLaterNode};
 
 use crate::fetcher::FeedNode;
 use crate::node_state::NodeState;
-use crate::sites_folder::FolderReading;
 use feed_console::{Console, DONE, Faults, MISUSED};
 use feed_keep::Keep;
 use feed_options::{NodeOptions, SitePath};
 use node_request::SitesRequest;
 use node_server::{Server, StreamKind};
+use node_site_files::FolderReading;
 use node_sites::{NamedSite, NodeSites};
 use std::io::Write;
 use std::time::Instant;
