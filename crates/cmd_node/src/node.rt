@@ -15,10 +15,10 @@ use feed_releases::{Feed, Opening};
 use node_connection::TimeLimits;
 use node_server::{Server, Settings};
 use node_service::{
-    End, NodeLog, NodeSetup, NodeState, SourceAddrs, StartFault, WantedPackage, WatchedFile, run,
-    start,
+    End, NodeSetup, SourceAddrs, StartFault, WantedPackage, WatchedFile, run, start,
 };
 use node_sites::NodeSites;
+use node_state::{NodeLog, NodeState};
 use std::alloc::{AllocError, Global};
 use std::io;
 use std::io::Write;

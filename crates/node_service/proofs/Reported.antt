@@ -1,13 +1,14 @@
 -- The response of a node about itself, from the response that its state makes.
-use Rattle.std.proofs.Common.{◌≡◌, ◌<◌, ◌+◌, ℕ, Bool, List, [], ◌∷◌, ◌++◌, length, take, get_or, map, Option, Some, None, ap, sym, subst, inl, inr, ◌∙◌}
+use Rattle.std.proofs.Common.{◌≡◌, ℕ, Bool, List, map, Option, Some, None, ap, subst, inl, inr, ◌∙◌}
 use Rattle.std.specs.Prelude.{◌&&◌, is_some}
-use Rattle.std.proofs.lemmas.List.{take_more, map-append}
 use Rattle.node_monitoring.specs.declared.metrics_text.ReleaseTime.{ReleaseTime}
 use Rattle.node_monitoring.specs.Reports.{AsksForNoReport, GetsNoReport, IsReportAnswer, may_report}
 use Rattle.node_monitoring.specs.declared.report_text.ReportResponse.{ReportResponse}
 use Rattle.feed_model.specs.History.{History}
 use Rattle.feed_releases.specs.Actives.{ActiveValue, AreReported}
-use Rattle.node_service.specs.Reports.{IsSomeResponse, HasReport, IsReportIn, time_of, active_time}
+use Rattle.node_state.specs.ReleaseTimes.{time_of, active_time}
+use Rattle.node_state.specs.StateReports.{IsSomeResponse}
+use Rattle.node_service.specs.Reports.{HasReport, IsReportIn}
 use Rattle.node_service.specs.Wanted.{missing_text}
 use Rattle.node_service.specs.declared.responder.FeedResponder.{FeedResponder}
 
@@ -44,9 +45,3 @@ report_of_slices responder is_local h bytes keeps actives timed listed releases 
     report_in responder is_local h bytes keeps actives times lines found allowed reported
     (ap (map time_of) as_times ∙ same ∙ ap (map active_time) as_timed)
     (as_lines ∙ text ∙ ap (λ (active : List ActiveValue). missing_text active responder.wanted.now) as_listed) is
-
-pub next_times : (actives : List ActiveValue) (i : ℕ) (d : ActiveValue) (old new : List (List ℕ × ℕ)) → i < length actives
-    → old ≡ map active_time (take i actives) → new ≡ old ++ active_time (get_or actives i d) ∷ [] → new ≡ map active_time (take (i + 1) actives)
-next_times actives i d old new below was is =
-    is ∙ ap (λ times. times ++ active_time (get_or actives i d) ∷ []) was ∙ sym (map-append active_time (take i actives) (get_or actives i d ∷ []))
-    ∙ ap (map active_time) (sym (take_more actives i d below))

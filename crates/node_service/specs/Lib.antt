@@ -1,5 +1,3 @@
-pub mod NodeCounts
-pub mod FetchOutcomes
 pub mod Reports
 pub mod Wanted
 pub mod Responders

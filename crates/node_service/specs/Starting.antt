@@ -1,5 +1,5 @@
 -- A node that does not answer readers yet.
-use Rattle.std.specs.Prelude.{◌≡◌, ℕ, Bool, List, Option, Some}
+use Rattle.std.specs.Prelude.{◌≡◌, ℕ, Bool, List, Some}
 use Rattle.feed_model.specs.Content.{within}
 use Rattle.feed_model.specs.Sound.{IsSound}
 use Rattle.feed_model.specs.declared.keep_fault.KeepFault.TheVariants.{Damaged}
@@ -8,19 +8,14 @@ use Rattle.feed_releases.specs.declared.feed.opening.Opening.{Opening}
 use Rattle.node_service.specs.declared.starting.StartFault.{StartFault}
 use Rattle.node_service.specs.declared.starting.StartFault.TheVariants.{Keeper}
 use Rattle.feed_keep.specs.declared.keep.Keep.{Ghosts}
-use Rattle.node_monitoring.specs.MetricsTexts.{MetricsValue}
 use Rattle.feed_model.specs.History.{History}
-use Rattle.node_monitoring.specs.Starting.{IsStartingResponse}
 use Rattle.node_monitoring.specs.declared.report_text.ReportResponse.{ReportResponse}
+use Rattle.node_state.specs.StateReports.{IsSomeStartingResponse}
 use Rattle.node_machine.specs.Nodes.{IsLater}
 use Rattle.node_machine.specs.Rules.{Terms}
 use Rattle.node_machine.specs.declared.machine.NodeMachine.{NodeMachine}
 use Rattle.node_server.specs.declared.socket.Socket.{Socket}
 use Rattle.node_service.specs.declared.starting_responder.StartingResponder.{StartingResponder}
-
--- the response about a node that starts, by some counters
-abbrev pub IsSomeStartingResponse : Bool → Bool → List ℕ → Bool → Option ReportResponse → Type 0
-IsSomeStartingResponse is_local is_open bytes keeps found = (metrics : MetricsValue) × IsStartingResponse is_local is_open metrics bytes keeps found
 
 -- the responses of a node that starts: those about itself. To any other request its responder makes none, so the
 -- response is `unavailable`

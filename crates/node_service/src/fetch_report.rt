@@ -1,10 +1,10 @@
 //! The line on standard error by which a node reports the end of a fetch.
-use crate::fetch_outcome::FetchOutcome;
 use crate::fetcher::FeedNode;
 use feed_fetch::{FetchEnd, RequestFault, Stop};
 use feed_keep::Keep;
 use feed_names::ReleaseName;
 use feed_releases::Feed;
+use node_state::FetchOutcome;
 use std::alloc::Global;
 use std::io;
 use std::io::{ErrorKind, Write};

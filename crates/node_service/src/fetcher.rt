@@ -4,16 +4,13 @@ ghost use Rattle.feed_limits.specs.Limits.{piece_limit};
 ghost use Rattle.node_service.specs.Runs.{IsLaterNode};
 
 use crate::exchange::{FetchStep, RunningExchange};
-use crate::fetch_outcome::FetchOutcome;
 use crate::fetch_report::{FetchReport, reason_of};
 use crate::fetched::{
     EventLines, counts_of_active, is_answered, print_counts, rows_of_active, take_part,
     take_response,
 };
-use crate::node_state::NodeState;
 use crate::responder::FeedResponder;
 use crate::source_addrs::SourceAddrs;
-use crate::today::unix_seconds;
 use crate::watched_file::WatchedFile;
 use feed_dial::DialFault;
 use feed_fetch::{
@@ -27,6 +24,7 @@ use feed_names::NameFault;
 use feed_options::{NodeOptions, Source};
 use node_file_checks::{FileCheck, HeldList, Mismatch, gate_by};
 use node_server::{OutgoingRequest, ServedNode, Server, StreamKind};
+use node_state::{FetchOutcome, NodeState, unix_seconds};
 use std::io;
 use std::io::{ErrorKind, Write};
 use std::time::Instant;

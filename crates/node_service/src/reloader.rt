@@ -3,7 +3,6 @@ ghost use Rattle.std.specs.Prelude.{◌≡◌};
 ghost use Rattle.node_service.specs.Runs.{IsLaterNode};
 
 use crate::fetcher::FeedNode;
-use crate::node_state::NodeState;
 use feed_console::{Console, DONE, Faults, MISUSED};
 use feed_keep::Keep;
 use feed_options::{NodeOptions, SitePath};
@@ -11,6 +10,7 @@ use node_request::SitesRequest;
 use node_server::{Server, StreamKind};
 use node_site_files::FolderReading;
 use node_sites::{NamedSite, NodeSites};
+use node_state::NodeState;
 use std::io::Write;
 use std::time::Instant;
 

@@ -12,8 +12,6 @@ ghost use Rattle.node_service.specs.Reports.{HasReport, HasNoReport, IsReportIn}
 ghost use Rattle.node_service.specs.Responders.{IsHeldBack, IsOperatorResponse, IsResponseBy, IsTurnResponse};
 ghost use Rattle.node_service.specs.Responders.{IsWhetherToRead, IsWhetherToStream, SaysOfTurn, response_in};
 
-use crate::node_state::NodeState;
-use crate::release_times::release_times;
 use crate::wanted::{WantedPackage, is_answerable, missing_text};
 use feed_answer::Today;
 use feed_keep::Keep;
@@ -29,6 +27,7 @@ use node_request::{
 use node_resolver::{keep_releases, respond_as_node};
 use node_response::ResponseText;
 use node_sites::{NodeSites, site_place};
+use node_state::{NodeState, release_times};
 use std::alloc::{AllocError, Global};
 use std::mem::replace;
 

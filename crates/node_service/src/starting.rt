@@ -3,17 +3,15 @@ ghost use Rattle.std.specs.Prelude.{IfErr, IfOk};
 ghost use Rattle.feed_releases.specs.Openings.{IsOpeningStep};
 ghost use Rattle.node_service.specs.Starting.{IsLaterStart, IsStartFault};
 
-use crate::access_log::AccessLog;
-use crate::node_log::NodeLog;
 use crate::node_loop::{End, NodeSetup};
 use crate::starting_responder::StartingResponder;
-use crate::today::{day_number, today};
 use feed_keep::{Keep, ListKeep};
 use feed_model::KeepFault;
 use feed_releases::{Feed, Opening, OpeningStep};
 use mio::Events;
 use node_machine::NodeMachine;
 use node_server::{ServedNode, Server};
+use node_state::{AccessLog, NodeLog, day_number, today};
 use node_table::Table;
 use std::alloc::AllocError;
 use std::io;

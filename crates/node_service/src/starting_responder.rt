@@ -1,5 +1,4 @@
 //! The responses of a node whose feed is not open yet: reports of itself, and no others.
-use crate::node_state::NodeState;
 use feed_answer::Today;
 use feed_keep::Keep;
 use feed_releases::Feed;
@@ -7,6 +6,7 @@ use node_connection::{IncomingRequest, LoggedResponse, RespondFault};
 use node_machine::{FeedRespond, Occasion};
 use node_monitoring::ReportRequest;
 use node_request::ParsedRequest;
+use node_state::NodeState;
 use std::alloc::{AllocError, Global};
 
 /// A responder that makes responses about the node alone, as of one without an active release. To any other request it

@@ -2,7 +2,8 @@ use Rattle.std.proofs.lemmas.Result.{IfOk-weaker}
 use Rattle.feed_model.specs.History.{History}
 use Rattle.feed_model.specs.Content.{IsContent}
 use Rattle.feed_releases.specs.Feeds.{recorded}
-use Rattle.node_service.specs.Reports.{IsReportIn, IsSomeResponse}
+use Rattle.node_state.specs.StateReports.{IsSomeResponse}
+use Rattle.node_service.specs.Reports.{IsReportIn}
 use Rattle.node_service.proofs.Reported.{report_of_slices}
 use Rattle.node_service.proofs.responder.FeedResponder.report.Goals as goal
 

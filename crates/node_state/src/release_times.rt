@@ -1,6 +1,6 @@
 //! The active releases of a node with the first seconds of their days.
 ghost use Rattle.std.specs.Prelude.{◌≡◌, ◌++◌, ◌∷◌, [], IfOk, OnOk, map};
-ghost use Rattle.node_service.specs.Reports.{time_of, active_time, seconds_of};
+ghost use Rattle.node_state.specs.ReleaseTimes.{time_of, active_time, seconds_of};
 
 use feed_releases::ActiveRelease;
 use node_monitoring::ReleaseTime;

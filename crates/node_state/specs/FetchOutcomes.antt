@@ -6,8 +6,8 @@ use Rattle.feed_fetch.specs.declared.fetch_end.FetchEnd.{FetchEnd}
 use Rattle.feed_fetch.specs.declared.fetch_end.FetchEnd.TheVariants.{Done, Stopped}
 use Rattle.node_monitoring.specs.declared.counter.Counter.{Counter}
 use Rattle.node_monitoring.specs.declared.counter.Counter.TheVariants as counter
-use Rattle.node_service.specs.declared.fetch_outcome.FetchOutcome.{FetchOutcome}
-use Rattle.node_service.specs.declared.fetch_outcome.FetchOutcome.TheVariants as outcomes
+use Rattle.node_state.specs.declared.fetch_outcome.FetchOutcome.{FetchOutcome}
+use Rattle.node_state.specs.declared.fetch_outcome.FetchOutcome.TheVariants as outcomes
 
 -- the outcome of a fetch that stopped so; one that runs out of memory for its lines is refused by the node
 abbrev pub outcome_of : Stop → FetchOutcome

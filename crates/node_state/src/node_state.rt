@@ -2,8 +2,7 @@
 ghost use Rattle.std.specs.Prelude.{IfOk, IfSome};
 ghost use Rattle.feed_http_heads.specs.Options.{SaysWhetherItKeeps};
 ghost use Rattle.node_operator.specs.FeedResponses.{IsFeedResponse};
-ghost use Rattle.node_service.specs.Reports.{IsSomeResponse};
-ghost use Rattle.node_service.specs.Starting.{IsSomeStartingResponse};
+ghost use Rattle.node_state.specs.StateReports.{IsSomeResponse, IsSomeStartingResponse};
 
 use crate::counts::NodeCounts;
 use crate::fetch_outcome::FetchOutcome;

@@ -4,8 +4,8 @@ ghost use Rattle.node_monitoring.specs.Counts.{Added, HasCounted};
 ghost use Rattle.node_monitoring.specs.Histograms.{HasObserved};
 ghost use Rattle.node_monitoring.specs.MetricsTexts.{KeepsSites};
 ghost use Rattle.node_monitoring.specs.declared.counter.Counter.TheVariants as counter;
-ghost use Rattle.node_service.specs.FetchOutcomes.{fetch_counter};
-ghost use Rattle.node_service.specs.NodeCounts.{cause_counter, many_of, one_of};
+ghost use Rattle.node_state.specs.FetchOutcomes.{fetch_counter};
+ghost use Rattle.node_state.specs.NodeCounts.{cause_counter, many_of, one_of};
 
 use crate::fetch_outcome::FetchOutcome;
 use node_monitoring::{Counter, Metrics};

@@ -1,6 +1,6 @@
 //! The outcome of a fetch, by which a node counts and reports it.
 ghost use Rattle.std.specs.Prelude.{◌≡◌};
-ghost use Rattle.node_service.specs.FetchOutcomes.{fetch_counter, outcome_after, outcome_of};
+ghost use Rattle.node_state.specs.FetchOutcomes.{fetch_counter, outcome_after, outcome_of};
 
 use feed_fetch::{FetchEnd, Stop};
 use node_monitoring::Counter;

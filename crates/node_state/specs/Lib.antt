@@ -1,0 +1,4 @@
+pub mod NodeCounts
+pub mod FetchOutcomes
+pub mod ReleaseTimes
+pub mod StateReports
