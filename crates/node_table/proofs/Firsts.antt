@@ -1,6 +1,6 @@
 -- The search for the connection that is closed for a place or for memory.
-use Rattle.std.proofs.Common.{◌≡◌, ◌+◌, ◌<◌, ◌≤◌, ◌⊎◌, ℕ, true, false, [], length, Option, Some, None, is_some, cond, refl, sym, ap, subst, ◌∙◌, arith, inl, inr}
-use Rattle.std.proofs.lemmas.Bool.{cases_eq, cases_lt}
+use Rattle.std.proofs.Common.{◌≡◌, ◌+◌, ◌<◌, ◌≤◌, ◌⊎◌, ℕ, zero, suc, Bool, true, false, [], length, Option, Some, None, is_some, cond, refl, sym, ap, subst, ◌∙◌, arith, inl, inr}
+use Rattle.std.proofs.lemmas.Bool.{both_ways, cases_eq, cases_lt}
 use Rattle.std.proofs.lemmas.List.{get_or_past}
 use Rattle.std.specs.Prelude.{IfSome, IfNone, IsSome}
 use Rattle.node_connection.specs.States.{is_closed_before, closing_rank}
@@ -148,3 +148,61 @@ module _ {T : Type 0} (shortage : Shortage) where
       → IfNone first (size_of table ≡ 0)
   none_found table limit None within below = none_at_all table limit within below
   none_found table limit (Some key) within below = tt
+
+  -- with one key more there is a first one again, or none
+  next_first : (table : Table T) (limit : ℕ) (slot : Option (Peer T)) (first : Option ℕ) → peer_at table limit ≡ slot
+      → IsFirstBelow shortage table limit first → (next : Option ℕ) × IsFirstBelow shortage table (limit + 1) next
+  next_first table limit None first is below = (first, first_skips table limit first is below)
+  next_first table limit (Some peer) None is below = (Some limit, first_begins table limit peer is below)
+  next_first table limit (Some peer) (Some chosen) is below = by (is_closed_first shortage table limit peer chosen below.peer) refl
+    where
+      by : (before : Bool) → is_closed_first shortage table limit peer chosen below.peer ≡ before → (next : Option ℕ) × IsFirstBelow shortage table (limit + 1) next
+      by true before = (Some limit, first_changes table limit chosen peer below.peer is below.there before below)
+      by false not = (Some chosen, first_stays table limit chosen peer below.peer is below.there not below)
+
+  first_below : (table : Table T) (limit : ℕ) → (first : Option ℕ) × IsFirstBelow shortage table limit first
+  first_below table zero = (None, λ key below. absurd (omega (arith, below)))
+  first_below table (suc limit) =
+      let before = first_below table limit in
+      let next = next_first table limit (peer_at table limit) before.0 refl before.1 in
+      let same : limit + 1 ≡ suc limit = omega arith in
+      (next.0, subst (λ n. IsFirstBelow shortage table n next.0) same next.1)
+
+module _ {T : Type 0} where
+  -- if a connection does not wait, the one that is closed for a place does not
+  pub one_is_closed : (table : Table T) (key : ℕ) → IsSome (peer_at table key) → waits Places table key ≡ false
+      → (first : ℕ) × IsFirstToClose Places table first × (waits Places table first ≡ false)
+  one_is_closed table key there not = let below = first_below Places table (length table.peers.slots) in by below.0 below.1
+    where
+      moves : (first : ℕ) → IsFirstToClose Places table first → (waiting : Bool) → waits Places table first ≡ waiting → waits Places table first ≡ false
+      moves first is true waiting = absurd (both_ways (waits Places table key) not (all_wait table first is waiting key there))
+      moves first is false waiting = waiting
+
+      by : (first : Option ℕ) → IsFirstBelow Places table (length table.peers.slots) first
+          → (first : ℕ) × IsFirstToClose Places table first × (waits Places table first ≡ false)
+      by None none = none_there table key (none_at_all Places table (length table.peers.slots) (omega arith) none) there
+      by (Some first) among =
+          let is = first_of_all Places table (length table.peers.slots) first (omega arith) among in
+          (first, is, moves first is (waits Places table first) refl)
+
+  -- the connections with keys below a limit wait
+  abbrev pub AllWaitBelow : Table T → ℕ → Type 0
+  AllWaitBelow table limit = (key : ℕ) → key < limit → IsSome (peer_at table key) → waits Places table key ≡ true
+
+  pub all_wait_next : (table : Table T) (limit : ℕ) → AllWaitBelow table limit → (IsSome (peer_at table limit) → waits Places table limit ≡ true)
+      → AllWaitBelow table (limit + 1)
+  all_wait_next table limit before here = λ key below there. elim (with_limit limit key below) [
+    | inl same ↦ subst (λ k. waits Places table k ≡ true) (sym same) (here (subst (λ k. IsSome (peer_at table k)) same there))
+    | inr less ↦ before key less there
+  ]
+
+  pub all_wait_below : (table : Table T) (limit : ℕ) → length table.peers.slots ≤ limit → AllWaitBelow table limit
+      → (key : ℕ) → IsSome (peer_at table key) → waits Places table key ≡ true
+  all_wait_below table limit within before key there = elim (cases_lt key limit) [
+    | inl less ↦ before key less there
+    | inr over ↦ absurd (no_some (peer_at table key) (past table limit key within over) there)
+  ]
+    where
+      no_some : (slot : Option (Peer T)) → slot ≡ None → IsSome slot → ⊥
+      no_some None none some = cc
+      no_some (Some peer) none some = cc

@@ -15,6 +15,7 @@ use node_turns::{ReadyQueues, SLOTS, TurnRest};
 use slab::Slab;
 use std::alloc::{AllocError, Global};
 
+mod places;
 mod streams;
 
 /// The bytes of responses past which the connection that holds the most is closed.
@@ -208,36 +209,6 @@ impl<T: Stream> Table<T> {
             first = self.closed_first(shortage, first, key);
         }
         first
-    }
-
-    /// Returns whether a connection can be added: there is a place, or one for which no connection is closed that waits
-    /// for its share.
-    pub fn has_place(&self) -> bool
-        ensures place { result ≡ true → (size_of self.now < self.now.clients)
-            ⊎ ((key : ℕ) × IsFirstToClose Shortage.Places self.now key × (waits Shortage.Places self.now key ≡ false)) }
-        ensures full { result ≡ false → self.now.clients ≤ size_of self.now }
-        ensures waiting { result ≡ false → (key : ℕ) → IsSome (peer_at self.now key)
-            → waits Shortage.Places self.now key ≡ true }
-    {
-        if !self.is_full() {
-            return true;
-        }
-        match self.first_to_close(Shortage::Places) {
-            Some(key) => !self.waits(Shortage::Places, key),
-            None => false,
-        }
-    }
-
-    /// Closes the connection that is closed for a place, if there is any.
-    pub fn make_room<L: Log>(&mut self, now: u64, log: &mut L)
-        ensures removed { 0 < size_of self.old → (key : ℕ) × IsFirstToClose Shortage.Places self.old key
-            × IsRemoved L.records key CloseCause.Evicted now self.old self.new log.old log.new }
-        ensures empty { size_of self.old ≡ 0 → (self.new ≡ self.old) × (log.new ≡ log.old) }
-    {
-        let Some(key) = self.first_to_close(Shortage::Places) else {
-            return;
-        };
-        let _ = self.remove(key, CloseCause::Evicted, now, log);
     }
 
     /// Closes the connection whose response takes the most memory, if the responses take more than 33,554,432 bytes.
