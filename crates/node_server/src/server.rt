@@ -40,6 +40,9 @@ const TURN_MICROS: u64 = 2_000;
 // The most connections that a turn accepts before it serves those that are ready, and after.
 pub(crate) const ACCEPTS: usize = 256;
 
+// The most connections that a turn ends before it serves those that are ready, since their clients have closed them.
+const ENDS: usize = 256;
+
 // The most microseconds for which connections are served before all are closed.
 const DRAIN_MICROS: u64 = 250_000;
 
@@ -284,8 +287,9 @@ impl Server {
         ensures { IsLater S.wanted S.responses S.sites node.old node.new }
     {
         self.wait(rt, node.table().has_ready(), events)?;
+        let mut ends = ENDS;
         for event in events.iter() {
-            self.on_event(node, event, log);
+            self.on_event(node, event, &mut ends, log);
         }
         let end = self.now.saturating_add(TURN_MICROS);
         self.accept_waiting(node, log);

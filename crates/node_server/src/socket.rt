@@ -1,4 +1,7 @@
 //! The socket of a client, which leaves out the calls that would do nothing.
+ghost use Rattle.std.specs.Prelude.{MatchBool};
+ghost use Rattle.node_server.specs.Proxies.{IsLocal, IsRemote};
+
 use mio::net::TcpStream;
 use mio::{Interest, Registry, Token};
 use node_connection::{
@@ -128,6 +131,8 @@ impl<'a> Transmit for SocketWriter<'a> {
 
 /// Returns whether an address is a loopback address (RFC 1122, section 3.2.1.3; RFC 4291, section 2.5.3), also one of
 /// IPv4 in IPv6.
-pub fn is_local(addr: SocketAddr) -> bool {
+pub fn is_local(addr: SocketAddr) -> bool
+    ensures { MatchBool result (IsLocal addr) (IsRemote addr) }
+{
     addr.ip().to_canonical().is_loopback()
 }
