@@ -8,7 +8,7 @@ import itertools
 import re
 from typing import Iterable, NamedTuple
 
-from . import dates, strict
+from . import dates, strict, thresholds
 from .texts import remembered, with_signs
 from .tokens import MONTHS, NUMBERS, UNITS, Token, tokens
 
@@ -67,9 +67,10 @@ class Statement(NamedTuple):
 
 
 class Piece(NamedTuple):
-    """A range as it was read, and whether it is one that is missing."""
+    """A range as it was read, whether it is one that is missing, and whether only `from` leaves its end open."""
     range: Range
     is_missing: bool
+    is_from: bool = False
 
 
 @remembered
@@ -83,7 +84,7 @@ def read(cell: str, order: str, has_volumes: bool = False) -> Statement:
         decided = dates.Order()
         decided.look([cell])
         order = str(decided)
-    reader = Reader(tokens(with_signs(cell)), order, has_volumes)
+    reader = Reader(tokens(with_signs(thresholds.written_out(cell))), order, has_volumes)
     reader.run()
     return reader.statement()
 
@@ -161,6 +162,9 @@ def end_of(point: Point) -> End | None:
                 day, bare = int(number[0]), [it for it in bare if it is not number]
                 break
     volume, issue = list(point.volume), list(point.issue)
+    if len(bare) == 2 and not volume and not issue and bare[0][1] > point.date_at > 0:
+        # `1996, 100(12)`
+        volume, issue, bare = [bare[0][0]], [bare[1][0]], []
     for text, place, _ in bare:
         if not volume and not issue and not (point.dates and place > point.date_at):
             volume = [text]
@@ -240,7 +244,8 @@ class Reader:
             behind += 1
         around = left[before:] + many[at + 1:behind]
         said = {meaning for it in around for meaning in self.wall_meanings(it)}
-        length = wall_length(left[before:], "current" in said and bool(said & HIDDEN))
+        is_alone = not before and not (behind < len(many) and self.is_connector(many[behind]))
+        length = wall_length(left[before:], "current" in said and (is_alone or bool(said & HIDDEN)))
         sign = left[before - 1].text if before and left[before - 1].text in ("+", "-") else ""
         is_begin = before == 1 or before > 1 and left[before - 2].text in (*SEPARATORS, ":", "(")
         if length is None:
@@ -252,7 +257,10 @@ class Reader:
             start = before
             is_end = start > 0 and self.is_connector(left[start - 1])
             if not is_end:
-                if not (behind < len(many) and (self.is_connector(many[behind]) or "open" in many[behind].meanings)):
+                is_from = start > 0 and "from" in left[start - 1].meanings
+                start -= is_from
+                if not (is_from or behind < len(many)
+                        and (self.is_connector(many[behind]) or "open" in many[behind].meanings)):
                     self.is_hidden = True
                     return 0
                 kind = "R"
@@ -261,6 +269,10 @@ class Reader:
         elif said & {"recent", "embargo"} or "current" in said:
             kind = "P" if said & HIDDEN else "R"
             del left[before:]
+            rest = list(itertools.dropwhile(self.is_connector, many[behind:behind + 2]))
+            if kind == "R" and not before and rest and "open" in rest[0].meanings:
+                # `last 3 years to present`
+                behind = many.index(rest[0], behind) + 1
         elif sign and is_begin:
             kind = "R" if sign == "+" else "P"
             before -= 1
@@ -398,25 +410,25 @@ class Reader:
         elif "from_behind" in means and point.has_date():
             self.is_open = True
             if "から" == token.text or "부터" == token.text:
-                self.connect()
+                self.connect(at)
         elif "to_behind" in means and point.has_date():
             if self.left is None:
                 self.left, self.is_to = Point(), True
         elif "between" in means:
             self.is_between = True
         elif "and" in means and self.is_between and point.has_date() and self.left is None:
-            self.connect()
+            self.connect(at)
         elif "and" in means and point.has_date() and self.has_date_ahead(at + 1):
             self.end_piece()
         elif means & {"after", "before"}:
             if point.is_empty() and self.is_date_next(at + 1):
-                self.exclusive("after" in means)
+                self.exclusive("after" in means, at)
             else:
                 self.leave(token)
         elif "open" in means and (self.is_to or point.has_date()) and not (self.is_to and not point.is_empty()):
             self.open_end()
         elif "to" in means and ("filler" not in means or point.has_date()):
-            self.connect()
+            self.connect(at)
         elif "from" in means:
             if point.has_date():
                 self.end_piece()
@@ -429,6 +441,9 @@ class Reader:
             self.is_negated = True
         elif "lesser" in means:
             self.lesser()
+        elif "current" in means and at + 1 < len(self.tokens) and self.tokens[at + 1].text == ":":
+            # `Archive: 1950-1996, current: 1997-`
+            pass
         elif not means or means <= {"open", "number", "unit", "recent", "current", "ago", "embargo", "volume", "issue"}:
             self.leave(token)
         return at + 1
@@ -439,13 +454,13 @@ class Reader:
         before = list(itertools.takewhile(lambda it: it.kind not in DATES, following))
         return len(before) < len(following) and all(it.kind == "int" or "month" in it.meanings for it in before)
 
-    def exclusive(self, is_after: bool) -> None:
+    def exclusive(self, is_after: bool, at: int) -> None:
         """Notes a word as `after` or `before`, by which the date behind it is itself outside."""
         if is_after and self.left is None:
             self.is_from = self.point.is_after = True
         elif not is_after and not self.is_from and (self.left is None or not self.left.is_empty()):
             if self.left is None:
-                self.connect()
+                self.connect(at)
             self.point.is_before = True
         else:
             # `from before 1990` and `to after 1990`: the named date is the narrower one.
@@ -474,7 +489,7 @@ class Reader:
             if self.is_sentence_end(at):
                 self.end_piece()
         elif text in "-~":
-            self.connect()
+            self.connect(at)
         elif text in "([":
             if self.depth < DEPTH and self.is_own_group(at):
                 self.end_piece()
@@ -528,7 +543,7 @@ class Reader:
                     and not self.left.volume)
         if self.point.has_date():
             return True
-        return self.is_to and self.left is not None and not self.left.has_date()
+        return self.is_to and self.left is not None and not self.left.has_date() and not self.point.volume
 
     def is_sentence_end(self, at: int) -> bool:
         """Returns whether a full stop ends a sentence, and no short word or ordinal."""
@@ -554,12 +569,14 @@ class Reader:
         has_range = any(map(self.is_connector, inside))
         return has_range and (has_date or self.point.has_date()) or has_date and self.point.has_date()
 
-    def connect(self) -> None:
+    def connect(self, at: int) -> None:
         """Notes that the second end of a range follows."""
-        if self.left is not None:
+        is_begin = self.left is not None and self.left.is_empty() and self.point.has_date()
+        if self.left is not None and not (is_begin and self.has_date_ahead(at + 1)):
             if not self.point.is_empty():
                 self.is_spoilt = True
             return
+        # Of `access to 1995 - 2001`, the first date begins.
         self.left, self.point, self.is_to = self.point, Point(), True
 
     def open_end(self) -> None:
@@ -637,9 +654,9 @@ class Reader:
             self.unread.append("a range")
             return
         if two is None or left is None:
-            self.keep(one, NOWHERE if is_from or is_open else one)
+            self.keep(one, NOWHERE if is_from or is_open else one, is_from and not is_open)
         elif left.is_empty():
-            self.keep(NOWHERE, two)
+            self.keep(self.begun(two), two)
         elif point.is_empty():
             self.keep(one, two)
         elif bool(one.first) == bool(two.last):
@@ -650,7 +667,21 @@ class Reader:
             known = one if one.first else two
             self.keep(known, known)
 
-    def keep(self, one: End, two: End) -> None:
+    def begun(self, end: End) -> End:
+        """Returns the beginning of the range before, and removes that, if only its end is said here: `Began with 1990;
+        ceased with 1999`."""
+        before = self.pieces[-1] if self.pieces else None
+        if before is None or not before.is_from or before.is_missing or self.is_missing:
+            return NOWHERE
+        begin = before.range
+        if begin._replace(last=end.last).is_reversed():
+            return NOWHERE
+        del self.pieces[-1]
+        self.piece = min(self.piece, len(self.pieces))
+        return End(begin.first, begin.last, [it for it in (begin.first_volume,) if it],
+                   [it for it in (begin.first_issue,) if it], None)
+
+    def keep(self, one: End, two: End, is_from: bool = False) -> None:
         """Keeps a range, unless its end is before its beginning."""
         first_volume, last_volume = number_of(one.volume, 0), number_of(two.volume, -1)
         if one.notation and two.notation and one is not two:
@@ -661,7 +692,7 @@ class Reader:
         if found.is_reversed():
             self.unread.append("a range whose end is before its beginning")
             return
-        self.pieces.append(Piece(found, self.is_missing))
+        self.pieces.append(Piece(found, self.is_missing, is_from))
 
     def statement(self) -> Statement:
         """Returns what was read."""
@@ -782,6 +813,17 @@ def without(held: Range, missing: Range) -> list[Range]:
         behind = datetime.date(*gap_last[1]) + DAY
         parts.append(held._replace(first=shortest(behind, (1, 1)), first_volume="", first_issue=""))
     return parts
+
+
+def within(held: Range, limit: Range) -> Range | None:
+    """Returns the days of a range that are in another one too, or None if there are none."""
+    found = held
+    first, last, begin, end = map(strict.date, (held.first, held.last, limit.first, limit.last))
+    if begin and (not first or first[0] < begin[0]):
+        found = found._replace(first=limit.first, first_volume="", first_issue="")
+    if end and (not last or end[1] < last[1]):
+        found = found._replace(last=limit.last, last_volume="", last_issue="")
+    return None if found.is_reversed() else found
 
 
 def shortest(day: datetime.date, turn: tuple[int, int]) -> str:

@@ -23,7 +23,7 @@ PATTERN = re.compile(
     r"(?P<ymd>\d{4}(?P<a>[-/.])\d{1,2}(?P=a)\d{1,2}(?!\d))"
     r"|(?P<dmy>\d{1,2}(?P<b>[-/.])\d{1,2}(?P=b)\d{4}(?!\d))"
     r"|(?P<cjk>\d{4} ?[年년](?: ?\d{1,2} ?[月월](?: ?\d{1,2} ?[日号號일])?)?)"
-    r"|(?P<compact>(?:1[4-9]|20)\d{6}(?!\d))"
+    r"|(?P<compact>(?:1[4-9]|20)\d\d(?:0[1-9]|1[0-2])(?:\d\d)?(?!\d))"
     r"|(?P<ym>\d{4}(?P<c>[-/.])\d{1,2}(?!\d|(?P=c)\d{1,2}(?!\d)))"
     r"|(?P<my>\d{1,3}[./]\d{4}(?:/\d\d)?(?!\d)|\d\d-\d{4}(?!\d))"
     r"|(?P<year>(?:1[4-9]|20|21)\d\d(?!\d))"
@@ -38,6 +38,15 @@ PATTERN = re.compile(
 NUMERO = re.compile(r"\bn\. ?[º°]", re.I)
 ANNATA = re.compile(r"\ba\. ?(?=[0-9]{1,3}(?![0-9]))")
 LINE_END = re.compile(r"[\r\n]+|<br ?/?>", re.I)
+# `01-Jan-1990`. An arrow is a dash, and the dash of `Jan-1990` is none, unless the month belongs to a year before it.
+DAY_MONTH = re.compile(r"(?<![0-9])([0-9]{1,2})-([^\W\d_]{3,9})\.?-(?=[0-9]{4}(?![0-9]))")
+ARROW = re.compile(r"-*>(?=\s|$|[0-9])|[→⇒➔]")
+MONTH_YEAR = re.compile(r"(?<![0-9]{4}[ ,:(])(?<![0-9]{4}, )(?<![^\W_])([^\W\d_]{3,9})\.?-(?=[0-9]{4}(?![0-9/-]))")
+YEAR_MONTH = re.compile(r"(?<![0-9/-])([0-9]{4})-([^\W\d_]{3,9})(?![^\W_]|\.? ?,? ?[0-9])")
+# Years that are counted from today's: `current year - 1`, and `to last year`.
+COUNTED = re.compile(r"\(? ?\bcurrent(?: year| date)? ?(?:-|minus|less) ?([0-9]{1,3})(?![0-9])"
+                     r" ?(year|yr|month|week|day)?s?\b\)?")
+LAST_YEAR = re.compile(r"(?<=[-o] )(?:the )?(?:last|previous|prior) year\b")
 # An ending in brackets, as of `year(s)`, and one with an apostrophe, as of `1995'ten`.
 ENDING = re.compile(r"\((?:s|es|e|en|n)\)")
 
@@ -75,6 +84,13 @@ def simplified(cell: str) -> str:
     text = ";".join(plain(it) for it in LINE_END.split(NUMERO.sub("num ", cell)))
     text = "".join(it for it in unicodedata.normalize("NFKD", text) if unicodedata.category(it) != "Mn")
     text = ENDING.sub("", unicodedata.normalize("NFC", text).casefold())
+    text = DAY_MONTH.sub(lambda it: f"{it[1]} {it[2]} " if it[2] in MONTHS else it[0], text)
+    text = MONTH_YEAR.sub(lambda it: f"{it[1]} " if it[1] in MONTHS else it[0], text)
+    text = YEAR_MONTH.sub(lambda it: f"{it[1]} {it[2]}" if it[2] in MONTHS else it[0], text)
+    if "year" in text or "current" in text:
+        text = LAST_YEAR.sub("1 year ago", COUNTED.sub(lambda it: f" {it[1]} {it[2] or 'year'} ago", text))
+    if ">" in text or "→" in text:
+        text = ARROW.sub("-", text)
     return dates.APART.sub(r"\1", ANNATA.sub("vol ", text).replace("t/m", "tot"))
 
 
