@@ -4,7 +4,7 @@ import re
 from typing import Iterator, NamedTuple
 
 from . import strict
-from .texts import plain, remembered
+from .texts import folded, plain, remembered, word_set
 
 
 class Number(NamedTuple):
@@ -22,6 +22,11 @@ CANDIDATE = re.compile(
 TEN = str.maketrans(dict.fromkeys("ХхΧχ×", "X"))
 ALIKE = str.maketrans("OoQIl|", "000111")
 SCIENTIFIC = re.compile(r"[0-9](?:[.,][0-9]+)?[eE]\+?[0-9]{1,2}")
+# What may be behind a number in brackets, letters that are no part of one, and the words of each side.
+BEHIND = re.compile(r"\s*[(\[]([^()\[\]]{1,40})[)\]]")
+LETTERS = re.compile(r"[^\W\dXx_]")
+SIDES = {side: word_set("words", side) | word_set("words", number) | word_set("numbers_of", side)
+         for side, number in (("print", "print_number"), ("online", "electronic_number"))}
 YEARS = re.compile(r"(?:1[4-9]|20)[0-9]{2}-(?:1[4-9]|20)[0-9]{2}")
 
 
@@ -56,6 +61,43 @@ def numbers(cell: str) -> tuple[Number, ...]:
         # A range of years beside an ISSN may have a check character that fits.
         found = [it for it in found if not (YEARS.fullmatch(it.text) and it.text[:4] <= it.text[5:])] or found
     return tuple(found) or tuple(lost_zeros(text)) or tuple(scan(text.translate(ALIKE)))
+
+
+@remembered
+def sides(cell: str) -> tuple[tuple[Number, str], ...]:
+    """Returns the numbers of a cell beside which a word says that they are of print or online.
+
+    The word is in brackets behind the number, as `2434-561X (print)`, or else before it, as `e-ISSN: 2434-561X`."""
+    if not LETTERS.search(cell):
+        return ()
+    text = plain(cell).translate(TEN)
+    places = [(it, at) for it in dict.fromkeys(scan(text)) if (at := place_of(text, it))]
+    found = []
+    begin = 0
+    for number, (start, end) in sorted(places, key=lambda it: it[1]):
+        behind = BEHIND.match(text, end)
+        side = side_of(behind[1]) if behind else ""
+        side = side or side_of(text[begin:start])
+        if side:
+            found.append((number, side))
+        begin = behind.end() if behind else end
+    return tuple(found)
+
+
+def place_of(text: str, number: Number) -> tuple[int, int] | None:
+    """Returns where a number begins and ends in a text, or None if it is there in another form."""
+    for match in CANDIDATE.finditer(text):
+        digits = re.sub("[- ]", "", match[0])
+        if (strict.issn(digits) if match["issn"] else strict.isbn(digits)) == number.text:
+            return match.span()
+    return None
+
+
+def side_of(text: str) -> str:
+    """Returns `print` or `online` if the words of a text say one of them, or nothing."""
+    tokens = {*re.findall(r"[^\W\d_]+", folded(text))}
+    said = [side for side, words in SIDES.items() if tokens & words]
+    return said[0] if len(said) == 1 else ""
 
 
 def scan(text: str) -> Iterator[Number]:

@@ -2,7 +2,9 @@
 
 Some labels are our own: `other_identifier` (an ISSN-L, a further ISBN), `coverage` and `volumes` (ranges in one cell),
 `gaps` (what these lack), `embargo_days`, `embargo_months`, `embargo_years`, `recent_months` and `recent_years` (bare
-numbers), and `open_access` (yes or no)."""
+numbers), `embargo_unit`, `embargo_sign` (`<` or `>`, of recent or of other issues), `open_access` (yes or no), `medium`
+(print or online), and the parts of dates that are in columns of their own: `first_month`, `first_day`, `last_month`,
+`last_day`."""
 import difflib
 import itertools
 import re
@@ -12,7 +14,9 @@ from . import strict
 from .texts import TABLES, folded, remembered, word_set, words
 
 OWN = ("other_identifier", "coverage", "volumes", "embargo_days", "embargo_months", "embargo_years", "recent_months",
-       "recent_years", "gaps", "open_access")
+       "recent_years", "gaps", "open_access", "embargo_unit", "embargo_sign", "medium", "first_month", "first_day",
+       "last_month", "last_day")
+PARTS = (("first_month", "first_day"), ("last_month", "last_day"))
 IDENTIFIERS = ("print_identifier", "online_identifier", "other_identifier")
 # The characters of the longest label.
 LONGEST = 200
@@ -26,6 +30,7 @@ ADDRESS = re.compile(r"\s*https?://", re.I)
 # The first character of the scripts without spaces, and the letters below which a word of others has to be whole.
 IDEOGRAPHS, SHORT = "\u3000", 3
 OWN_WORDS, PUBLISHED_WORDS = word_set("own", "words"), word_set("published", "words")
+OWN_STATEMENTS = OWN_WORDS | word_set("own", "statements")
 # A list with such a label has free titles alone.
 FREE = word_set("free_lists", "labels")
 
@@ -117,6 +122,11 @@ def rank(cell: str) -> int:
     return 0 if OWN_WORDS & tokens else 2 if PUBLISHED_WORDS & tokens else 1
 
 
+def is_own(cell: str) -> bool:
+    """Returns whether the header of a column of statements says that they are the library's own."""
+    return bool(OWN_STATEMENTS & {*folded(cell).split()})
+
+
 def letters(cells: Iterable[str]) -> int:
     """Returns how many letters some cells have."""
     return sum(it.isalpha() for cell in cells for it in cell)
@@ -133,6 +143,10 @@ class Columns:
         # The headers that a map leaves out.
         self.left_out = {cell for cell, name in renamed.items() if not name}
         self.names = [renamed.get(cell.strip(), label(cell)) or None for cell in header]
+        for whole, parts in zip(("date_first_issue_online", "date_last_issue_online"), PARTS):
+            if whole not in self.names:
+                # `First month` is a date, if no column has its year.
+                self.names = [whole if it in parts else it for it in self.names]
         self.places: dict[str, list[int]] = {}
         for place, name in enumerate(self.names):
             if name:
@@ -251,13 +265,21 @@ class Columns:
         A row without dates says that readers have everything, so a wrong guess is no wider than none."""
         stated = [place for place in self.guess_dates(records, lambda *it: is_statement(*it) or is_date(*it))
                   if any(is_statement(self.header[place], it) for cells in records for it in cells[place:place + 1])]
-        if len(stated) == 1:
-            return self.give(stated[0], "coverage")
+        own = [it for it in stated if is_own(self.header[it])]
+        if len(stated) == 1 or len(stated) == 2 and len(own) == 1:
+            for place in sorted(stated, key=lambda it: it in own):
+                self.give(place, "coverage")
+            return ", ".join(self.header[it] for it in stated)
         found = [] if stated else self.guess_dates(records, is_date)
         if len(found) != 2 or not all(is_range(*(it[at] if at < len(it) else "" for at in found)) for it in records):
             return ""
         first = self.give(found[0], "date_first_issue_online")
         return f"{first}, {self.give(found[1], 'date_last_issue_online')}"
+
+    def guess_own(self, records: list[list[str]], is_statement: Callable[[str, str], bool]) -> str:
+        """Gives the label of coverage to the column that has statements of the library's own, beside those of all."""
+        found = [it for it in self.guess_dates(records, is_statement) if is_own(self.header[it])]
+        return self.give(found[0], "coverage") if len(found) == 1 else ""
 
     def keep_dates(self, records: list[list[str]], is_date: Callable[[str], bool]) -> None:
         """Takes the label of a date from the columns without dates, such as `First Issue` beside `First Date`."""

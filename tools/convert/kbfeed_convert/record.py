@@ -2,13 +2,14 @@
 import datetime
 import itertools
 import operator
+import re
 from typing import NamedTuple
 
-from . import coverage, dates, form, identifiers, jsonlist, kinds, strict, values, volumes
+from . import coverage, dates, form, identifiers, jsonlist, kinds, strict, unused, values, volumes
 from .choosing import Chooser
 from .coverage import Range
 from .identifiers import Number
-from .labels import Columns, has_word
+from .labels import PARTS, Columns, has_word
 from .texts import folded, forget, word_set
 from .tokens import MEANINGS, NONE
 
@@ -32,6 +33,11 @@ DATE = len("2001-12-31")
 MOST_ROWS = 1_000
 
 
+# `12 (1990)`
+NUMBER_FIRST = re.compile(r"\s*[0-9]{1,4} ?\([^()0-9]*[0-9]{4}[^()0-9]*\)\W*")
+# What is between the dates of one cell, and the rules by which it may have two.
+PART_END = re.compile(r"[|;\r\n]+")
+IN_PAIRS = {"two years in a date", "a range in one cell"}
 # The rules by which a date was found beside other texts.
 IN_TEXTS = {"the name of a month", "a date in a text", "a year in a text"}
 # The rules by which a row may say more than its source. A list with one of them is not passed on in silence.
@@ -43,10 +49,11 @@ GAP_NOT_READ = "only partly read: a gap in a note"
 YEAR_NOT_READ = "not read: a year beside a number"
 ACCESS_NOT_READ = "not read: a year in a kind of access"
 BESIDE = "not read: the dates count beside it"
+NOT_PAIRED = "several dates that make no pairs: the narrowest range"
 SEVERAL = "several columns have a date: the first counts"
 MANY_ROWS = f"only {MOST_ROWS} rows of a record are made"
-WIDENING = {EMBARGO_NOT_READ, REVERSED, PARTLY_READ, STATEMENT_NOT_READ, BESIDE, SEVERAL, MANY_ROWS, GAP_NOT_READ,
-            YEAR_NOT_READ, ACCESS_NOT_READ, dates.NOT_READ, dates.UNDECIDED}
+WIDENING = {NOT_PAIRED, EMBARGO_NOT_READ, REVERSED, PARTLY_READ, STATEMENT_NOT_READ, BESIDE, SEVERAL, MANY_ROWS,
+            GAP_NOT_READ, YEAR_NOT_READ, ACCESS_NOT_READ, dates.NOT_READ, dates.UNDECIDED}
 
 
 class Change(NamedTuple):
@@ -129,6 +136,10 @@ class Converter:
         # The columns with the dates of citations, beside those of full text.
         self.cited = [(at, end_of(header)) for at, header in columns.left_over()
                       if {*folded(header).split()} & CITED and any(it in places for it in DATES) and not self.is_kbart]
+        self.has_parts = any(name in places for pair in PARTS for name in pair) and not self.is_kbart
+        # The columns of a status, in which an end may be: `Cancelled, access until 2017`.
+        self.status = [at for at, header in columns.left_over()
+                       if unused.label_kind(header) == "status" and not self.is_kbart]
         self.has_numbers_apart = bool({*NUMBERS} & {*self.several}) or "other_identifier" in places
 
     def convert(self, given: form.Record) -> Outcome:
@@ -161,6 +172,8 @@ class Converter:
             place = self.columns.places["publication_title"][0]
             change = Change("publication_title", given.cells[place], fields[place], "separators in a title")
             draft.changes.append(change)
+        if self.has_parts:
+            self.join_dates(draft)
         self.texts(draft, not text.isprintable())
         kind, pairs = self.decided(draft, before)
         if not kind:
@@ -247,10 +260,10 @@ class Converter:
         address = values.address(cells["title_url"], self.settings.replaced, self.settings.unwrapped)
         put("title_url", address, "an address")
         if cells["embargo_info"]:
-            put("embargo_info", values.embargo(cells["embargo_info"]), "an embargo in words")
-        for label, unit in EMBARGOES:
-            if label in columns.places and not cells["embargo_info"]:
-                put("embargo_info", values.embargo(columns.cell(draft.fields, label), unit), "an embargo in words")
+            unit = values.UNITS.get(folded(columns.cell(draft.fields, "embargo_unit")), "")
+            put("embargo_info", values.embargo(cells["embargo_info"], unit), "an embargo in words")
+        if not cells["embargo_info"] and any(it in columns.places for it, _ in EMBARGOES):
+            put("embargo_info", self.embargo(draft.fields), "an embargo in words")
         for label, unit in RECENT:
             if recent := values.embargo(columns.cell(draft.fields, label), unit):
                 if values.is_embargo(recent):
@@ -265,13 +278,35 @@ class Converter:
             put(label, dates.published(cells[label], self.settings.order), "a date of publication")
         put("coverage_depth", values.depth(cells["coverage_depth"]), "the depth in words")
         put("access_type", values.access(cells["access_type"]), "the access in words")
-        if has_year_beside(cells["access_type"]) and not self.is_kbart:
-            # `Cancelled, access until 2017`
-            draft.note("access_type", cells["access_type"], ACCESS_NOT_READ)
         if not cells["access_type"] and "open_access" in columns.places:
             put("access_type", values.open_access(columns.cell(draft.fields, "open_access")), "the access in words")
         if not cells["access_type"] and columns.is_free:
             put("access_type", "F", "a list of free titles")
+
+    def embargo(self, fields: list[str]) -> str:
+        """Returns the embargo of the columns of its years, months and days: `1` and `6` are 18 months."""
+        found: dict[str, str] = {}
+        for label, unit in EMBARGOES:
+            if cell := values.embargo(self.columns.cell(fields, label), unit):
+                if not values.is_embargo(cell):
+                    return cell
+                found[unit] = cell
+        sign = self.columns.cell(fields, "embargo_sign").strip()
+        is_recent = "R" if sign.startswith("<") else ""
+        if {*found} == {"M", "Y"} and all(it[-1] == unit for unit, it in found.items()):
+            found = {"M": f"{found['M'][0]}{int(found['M'][1:-1]) + 12 * int(found['Y'][1:-1])}M"}
+        several = [is_recent + it[1:] if is_recent else it for it in found.values()]
+        return coverage.combined(several[0], several[1]) if len(several) == 2 else "".join(several[:1])
+
+    def join_dates(self, draft: Draft) -> None:
+        """Puts each date whose month and day are in columns of their own beside its year."""
+        for label, names in zip(DATES, PARTS):
+            year = draft.cells[label].strip()
+            month, day = (self.columns.cell(draft.fields, it).strip() for it in names)
+            if dates.YEARS.fullmatch(year) and month:
+                number = int(month) if month.isdecimal() else int(dates.MONTHS.get(folded(month), 0))
+                draft.put(label, dates.date_text(int(year), number, int(day) if day.isdecimal() else 0),
+                          "a date in several columns")
 
     def numbers(self, draft: Draft) -> Sides:
         """Returns the ISSNs and ISBNs of a record."""
@@ -282,8 +317,23 @@ class Converter:
             sides.append(self.columns.cells(draft.fields, label) if is_several else [draft.cells[label]])
             if self.is_kbart:
                 further = further + self.columns.cells(draft.fields, label, skipped=1)
-        return Sides(*([it for cell in cells if cell for it in identifiers.numbers(cell)]
-                       for cells in (*sides, further)))
+        found = Sides(*([it for cell in cells if cell for it in identifiers.numbers(cell)]
+                        for cells in (*sides, further)))
+        return found if self.is_kbart else self.sided(draft, found, [it for cells in sides for it in cells])
+
+    def sided(self, draft: Draft, found: Sides, cells: list[str]) -> Sides:
+        """Returns numbers on the sides that words beside them say, as `2434-561X (online)`, or a record's medium."""
+        said = {number: side for cell in cells for number, side in identifiers.sides(cell)}
+        medium = identifiers.side_of(self.columns.cell(draft.fields, "medium"))
+        if medium and not said and not (found.print and found.online):
+            said = dict.fromkeys([*found.print, *found.online], medium)
+        if not said:
+            return found
+        online = [*(it for it in found.print if said.get(it) == "online"),
+                  *(it for it in found.online if said.get(it) != "print")]
+        print_ = [*(it for it in found.print if said.get(it) != "online"),
+                  *(it for it in found.online if said.get(it) == "print")]
+        return Sides(print_, online, found.further)
 
     def kind(self, draft: Draft, sides: Sides) -> str | None:
         """Returns whether a record is a serial or a book, and puts its type. None if it is neither."""
@@ -309,6 +359,8 @@ class Converter:
         held = self.held(draft)
         for gap in noted:
             held = [part for it in held for part in coverage.without(it, gap)]
+        if not self.is_kbart:
+            held = self.limited(draft, held)
         cell = self.columns.cell(draft.fields, "gaps") if "gaps" in self.columns.places else ""
         if self.is_kbart or not cell or folded(cell) in dates.NONE or values.YES_NO.get(folded(cell)) == "no":
             return held
@@ -317,6 +369,24 @@ class Converter:
             draft.note("coverage", cell, PARTLY_READ)
         for gap in gaps.ranges:
             held = [part for it in held for part in coverage.without(it, gap)] if gap.has_dates() else held
+        return held
+
+    def limited(self, draft: Draft, held: list[Range]) -> list[Range]:
+        """Returns the ranges without the days that an access, a status or a note leaves out, as `access until 2017`."""
+        given = [("access_type", draft.cells["access_type"]), ("notes", draft.cells["notes"]),
+                 *(("access_type", it) for at in self.status for it in draft.fields[at:at + 1])]
+        for label, cell in given:
+            if not has_year_beside(cell):
+                continue
+            said = self.read(cell)
+            is_range = not said.unread and any(it.first != it.last for it in said.ranges)
+            left = [part for it in held for limit in said.ranges if (part := coverage.within(it, limit))]
+            if is_range and left:
+                if left != held:
+                    draft.changes.append(Change(label, cell, coverage.shown(left), "a coverage in other words"))
+                    held = left
+            elif label == "access_type":
+                draft.note(label, cell, ACCESS_NOT_READ)
         return held
 
     def read(self, cell: str) -> coverage.Statement:
@@ -342,6 +412,9 @@ class Converter:
         statement = self.read(cell) if folded(cell) not in dates.NONE else None
         if statement and not any(draft.cells[it].strip() for it in DATES):
             return self.stated(draft, cell, statement)
+        pairs = None if self.is_kbart else self.pairs(draft)
+        if pairs is not None:
+            return pairs
         given = self.dates(draft)
         if given.is_reversed() and any(it.rule == dates.UNDECIDED for it in draft.changes):
             # No day is in the coverage for certain.
@@ -407,6 +480,27 @@ class Converter:
                 self.numbers_beside(draft, cell, at)
         return Range(draft.cells[DATES[0]], draft.cells[DATES[1]])
 
+    def pairs(self, draft: Draft) -> list[Range] | None:
+        """Returns the ranges of two columns of dates that have several each, as `1975|1985` and `1980|`, or None.
+
+        If one has more than the other, the narrowest range counts."""
+        sides = [several_of(draft.cells[it]) for it in DATES]
+        found = [[dates.read(cell, bool(at), self.settings.order) for cell in cells] for at, cells in enumerate(sides)]
+        if max(map(len, sides)) < 2 or any(it.text is None or it.rule in IN_PAIRS for side in found for it in side):
+            return None
+        first, last = ([it.text or "" for it in side] for side in found)
+        if len(first) == len(last) and all(first) and all(last[:-1]):
+            numbers = [several_of(draft.cells[it]) for it in (*VOLUMES, *ISSUES)]
+            numbers = [it if len(it) == len(first) else [""] * len(first) for it in numbers]
+            ranges = [Range(one, two, *it) for one, two, *it in zip(first, last, *numbers)]
+            if not any(it.is_reversed() for it in ranges):
+                draft.changes += [Change(label, draft.cells[label], "", "several dates, in pairs") for label in DATES]
+                return ranges
+        for label in DATES:
+            draft.note(label, draft.cells[label], NOT_PAIRED)
+        narrow = Range(max(first), min(filter(None, last), default=""))
+        return [] if narrow.is_reversed() else [narrow]
+
     def numbers_beside(self, draft: Draft, cell: str, at: int) -> None:
         """Puts the volume and the issue that are beside a date, as in `v.23 n.1 (Jan 1996)`, if no column has them."""
         said = self.read(cell)
@@ -446,7 +540,8 @@ class Converter:
                 rule = "a row of its own for a further number" if is_further else "an identifier in another form"
                 draft.changes.append(Change(label, row[label], number, rule))
                 row[label] = number
-            elif not number and not self.is_kbart and not identifiers.numbers(row[label]):
+            elif not number and not self.is_kbart and not any(
+                    (it.kind == "issn") != (kind == "serial") for it in identifiers.numbers(row[label])):
                 row[label] = ""
         row[DATES[0]], row[DATES[1]] = one.first, one.last
         for labels, numbers in ((VOLUMES, one[2:4]), (ISSUES, one[4:6])):
@@ -463,9 +558,18 @@ class Converter:
         return row, found
 
 
+def several_of(cell: str) -> list[str]:
+    """Returns the parts of a cell between bars, semicolons or line ends, or between commas if all are numbers."""
+    parts = [it.strip() for it in PART_END.split(cell)]
+    if len(parts) == 1 and "," in cell and not re.search("[^0-9,./ -]", cell):
+        parts = [it.strip() for it in cell.split(",")]
+    return parts
+
+
 def has_number_beside(cell: str, rule: str) -> bool:
     """Returns whether a date that a rule found may have a volume or an issue beside it: a word for one is there."""
-    return rule in IN_TEXTS and any(MEANINGS.get(it, NONE) & {"volume", "issue"} for it in folded(cell).split())
+    return rule in IN_TEXTS and (NUMBER_FIRST.fullmatch(cell) is not None or any(
+        MEANINGS.get(it, NONE) & {"volume", "issue"} for it in folded(cell).split()))
 
 
 def has_year_beside(cell: str) -> bool:

@@ -95,7 +95,11 @@ class Column:
     def look(self, cell: str) -> None:
         """Counts a cell that is not empty."""
         self.filled += 1
-        if kind := cell_kind(cell):
+        kind = cell_kind(cell)
+        if not kind and self.kind == "dates" and dates.YEARS.search(cell):
+            # Its label says what it has, though nobody reads it.
+            kind = "dates"
+        if kind:
             self.counts["dates" if kind == "nested" else kind] += 1
         if len(self.cells) < CELLS:
             self.cells[cell[:100]] = None

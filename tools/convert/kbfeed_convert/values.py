@@ -52,6 +52,8 @@ HOST = re.compile(r"(?:[A-Za-z0-9](?:[A-Za-z0-9-]*[A-Za-z0-9])?\.)+[A-Za-z]{2,24
 # A link in HTML, and one as a formula of a spreadsheet.
 LINKED = re.compile(r"""\s*(?:<a [^<>]*?href|=HYPERLINK\()\s*=?\s*["']([^"'<>]+)["']""", re.I)
 DOI = re.compile(r"(?:doi:\s*)?(10\.[0-9]{4,9}/\S+)", re.I)
+# What is between several addresses of a cell.
+NEXT = re.compile(r"\s*(?:\|+|;|\s)\s*(?=https?://)", re.I)
 # `[SITE_ID]`, `{custid}`, `{{inst}}`, `<your id>`, `%INST%`, `%%ID%%`, `$SITE_ID` and `${site}`, which a library has to
 # fill. Two hexadecimal digits behind `%` are a byte.
 PLACEHOLDER = re.compile(r"\[[A-Za-z_ -]+\]|\$?\{\{?[^{}]+\}\}?|<[A-Za-z_ -]+>|%%[A-Za-z_]+%%"
@@ -73,14 +75,14 @@ def unwrapped(text: str, parameters: tuple[str, ...]) -> str:
 def address(cell: str, replaced: dict[str, str], parameters: tuple[str, ...] = ()) -> str:
     """Returns an address with a scheme and without spaces. `replaced` has the texts that a map replaces, and
     `parameters` are those in which an address may be."""
-    if not replaced and not parameters and GOOD_ADDRESS.fullmatch(cell) and "&amp;" not in cell:
+    if not replaced and not parameters and GOOD_ADDRESS.fullmatch(cell) and "&amp;" not in cell and "|" not in cell:
         return cell
     text = unwrapped(cell, parameters)
     for old, new in replaced.items():
         text = text.replace(old, new)
     if found := LINKED.match(text):
         text = found[1]
-    text = clean(text).strip(" ").replace("&amp;", "&")
+    text = NEXT.split(clean(text).strip(" ").replace("&amp;", "&"), 1)[0]
     if not text or GOOD_ADDRESS.fullmatch(text):
         return text if text != cell.strip(" ") else cell
     if found := DOI.fullmatch(text):
