@@ -28,6 +28,8 @@ OWN = word_set("own", "words")
 EMPTY = "a list without ranges"
 # The characters of a list that is not used that a cell has.
 SHORT = 500
+# The numbers by which HoldingsIQ says what an identifier is of.
+SUBTYPE, SUBTYPES = "subtype", {"1": "Print", "2": "Online"}
 # What follows the key of a list that is not used, as no label says what is inside.
 NESTED = " (nested)"
 
@@ -41,6 +43,8 @@ class JsonList:
         self.keys: dict[str, None] = {}
         # The key of a first date by the list of ranges that it is in.
         self.first: dict[str, str] = {}
+        # The keys of the lists of ranges that are statements.
+        self.stated: set[str] = set()
         for record in self.records():
             for key in record:
                 if label(key) == DATES[0]:
@@ -54,8 +58,9 @@ class JsonList:
         yield list(self.keys)
         for record in self.records():
             # A list of ranges that is empty does not say that there is all.
-            for name, key in self.first.items():
-                if record.get(name) == "" and not any(record.get(it) for it in self.first.values()):
+            ranges = [*self.first.values(), *self.stated]
+            for name, key in [*self.first.items(), *((it, it) for it in self.stated)]:
+                if record.get(name) == "" and not any(record.get(it) for it in ranges):
                     record[key] = EMPTY
             yield [record.get(key, "") for key in self.keys]
 
@@ -66,7 +71,9 @@ class JsonList:
         try:
             for value in values(text):
                 if isinstance(value, dict):
-                    yield from several(value)
+                    flat = Flat(value, "", 0)
+                    yield from flat.branches() or [flat.texts]
+                    self.stated |= flat.stated
         finally:
             text.detach()
 
@@ -118,12 +125,6 @@ def is_lines(text: str) -> bool:
         isinstance(it, list) and it and isinstance(it[0], dict) for it in value.values()))
 
 
-def several(value: dict[str, Any]) -> Iterator[dict[str, str]]:
-    """Yields an object flat: once for each range of the list that counts, or once if it has none."""
-    found = Flat(value, "", 0)
-    yield from found.branches() or [found.texts]
-
-
 class Flat:
     """An object as texts by their keys, `outer.inner` for one inside another, and its lists of ranges.
 
@@ -133,6 +134,7 @@ class Flat:
     def __init__(self, value: dict[str, Any], before: str, depth: int):
         self.texts: dict[str, str] = {}
         self.ranges: list[tuple[str, list[Any], list[dict[str, str]]]] = []
+        self.stated: set[str] = set()
         self.add(value, before, depth)
 
     def add(self, value: dict[str, Any], before: str, depth: int) -> None:
@@ -152,6 +154,7 @@ class Flat:
         """Adds a list of objects or of lists."""
         is_short = depth + 1 < DEEPEST and len(many) <= MOST_RANGES and all(isinstance(it, dict) for it in many)
         objects = [(it, Flat(it, f"{name}.", depth + 1)) for it in many] if is_short else []
+        self.stated |= {name for _, it in objects for name in it.stated}
         if numbers := numbers_of([it for _, it in objects], name):
             self.texts.update(numbers)
         elif found := ranges_of(objects):
@@ -166,13 +169,33 @@ class Flat:
         self.texts[name + NESTED] = nested(many)
 
     def branches(self) -> list[dict[str, str]]:
-        """Returns the texts once for each range. Of several lists the library's own one counts, or else the first."""
+        """Returns the texts once for each range. Of several lists the library's own one counts, or else the first.
+
+        A list of the library's own beside that of everybody is a statement, as that one is, so that both are there."""
         own = [it for it in self.ranges if OWN & {*folded(it[0].rpartition(".")[2]).split()}]
+        if len(own) == 1 and len(self.ranges) == 2 and all(map(is_coverage, self.ranges)):
+            self.texts.update({name: statement_of(found) for name, _, found in self.ranges})
+            self.stated |= {name for name, _, _ in self.ranges}
+            self.ranges = []
+            return []
         for chosen in (own or self.ranges)[:1]:
             for name, many, _ in [] if own else self.ranges[1:]:
                 self.leave(many, name)
             return [{**self.texts, **one} for one in chosen[2]]
         return []
+
+
+def is_coverage(one: tuple[str, list[Any], list[dict[str, str]]]) -> bool:
+    """Returns whether a list has dates alone, and a key that is a label of coverage."""
+    name, _, found = one
+    return label(name) == "coverage" and all(label(key) in DATES for it in found for key, text in it.items() if text)
+
+
+def statement_of(many: list[dict[str, str]]) -> str:
+    """Returns ranges as a statement."""
+    ends = [[next((text for key, text in it.items() if label(key) == end), "") for end in DATES] for it in many]
+    return "; ".join(f"{first} to {last or 'present'}" if first else f"until {last}" if last else "all years"
+                     for first, last in ends)
 
 
 def numbers_of(many: list[Flat], name: str) -> dict[str, str]:
@@ -190,6 +213,8 @@ def numbers_of(many: list[Flat], name: str) -> dict[str, str]:
             if label(said) not in IDENTIFIERS and "publication_title" in labels:
                 return {}
             kind = said if label(said) in IDENTIFIERS else "ISSN" if strict.issn(given[0]) else "ISBN"
+            side = SUBTYPES.get(one.texts.get(f"{name}.{SUBTYPE}", ""), "")
+            kind = f"{kind} {side}" if side and label(kind) == "print_identifier" else kind
             found.setdefault(f"{name} {kind}", []).append(given[0])
     return {key: "; ".join(dict.fromkeys(texts)) for key, texts in found.items()}
 
@@ -230,7 +255,8 @@ def ranges_of(many: list[tuple[dict[str, Any], Flat]]) -> list[dict[str, str]]:
         branches = inside.branches()
         # A list of one object with lists is as good as that object: these may be empty here, and ranges elsewhere.
         has_inside = has_inside or bool(branches) or len(many) == 1 and any(it == [] for it in one.values())
-        undated += not branches and not any(label(key) in DATES for key in inside.texts)
+        has_inside = has_inside or bool(inside.stated)
+        undated += not branches and not inside.stated and not any(label(key) in DATES for key in inside.texts)
         found += branches or [inside.texts]
         if len(found) > MOST_RANGES:
             return []

@@ -18,13 +18,15 @@ from .files import Output
 from .form import Record
 from .record import DATES, NUMBERS, Cells, Outcome
 from .report import Report
-from .texts import counted, folded, words
+from .texts import counted, folded, word_set, words
 
 # The limits of a node for a site file and a holdings file, with room for what a librarian adds.
 SITE, HOLDINGS = 60_000, 16 * 1024 * 1024
 PACKAGES = 10_000
 NOTE = 500
 YES_NO = words("yes_no")
+# The labels of a column of packages, if no map and no profile names it.
+PACKAGE = word_set("packages", "labels")
 OPEN_FIRST, OPEN_LAST = (0, 0, 0), (9999, 12, 31)
 Days = tuple[strict.Day, strict.Day, str]
 
@@ -89,7 +91,8 @@ class Library:
     def __init__(self, opened: reading.Opened, row_line: Callable[[Cells], bytes]):
         self.opened, self.row_line = opened, row_line
         rules, header = opened.rules, opened.shape.header
-        self.package = self.place(rules.library.get("package", []))
+        self.package = self.place(rules.library.get("package", [])) if "package" in rules.library else next(
+            (at for at, cell in enumerate(header) if folded(cell) in PACKAGE), -1)
         if self.package < 0:
             raise Refused("--library: no column has the packages. A map names it: [library] package = [\"COLUMN\"]")
         self.notes = [at for it in rules.library.get("note", []) if (at := mapping.place_of(header, it)) >= 0]
