@@ -9,8 +9,8 @@ from typing import Any, Callable, NamedTuple
 
 from . import coverage, dates, kinds, labels, strict, values, volumes
 from .form import Record
-from .record import (DATE, DATES, ISSUES, LONG, NUMBERS, PUBLISHED, VOLUMES, WIDENING, Converter, has_number_beside,
-                     has_year_beside)
+from .record import (DATE, DATES, IN_PAIRS, ISSUES, LONG, NUMBERS, PUBLISHED, VOLUMES, WIDENING, Converter,
+                     has_number_beside, has_year_beside)
 from .report import change_text
 from .texts import SIZE
 
@@ -79,8 +79,8 @@ class Shortcut:
     def __init__(self, converter: Converter):
         settings, places = converter.settings, converter.columns.places
         self.is_open = not (
-            converter.several or converter.cited or converter.columns.is_free or settings.constants or settings.replaced
-            or settings.unwrapped or converter.chooser.choices or converter.chooser.where
+            converter.several or converter.cited or converter.status or converter.columns.is_free or settings.constants
+            or settings.replaced or settings.unwrapped or converter.chooser.choices or converter.chooser.where
             or any(it in places for it in OWN))
         self.converter, self.width = converter, converter.width
         self.first_cell = converter.header[0] if converter.header else ""
@@ -177,7 +177,7 @@ def date(label: str, is_last: bool, order: str, cell: str) -> Cell | None:
     found = dates.read(cell, is_last, order)
     text = found.text or ""
     old, new = strict.date(cell), strict.date(text)
-    if has_number_beside(cell, found.rule):
+    if has_number_beside(cell, found.rule) or found.rule in IN_PAIRS:
         return None
     if found.rule in WIDENING or new is None and text.strip(" ") or coverage.wall(cell, is_last) and not new:
         return None

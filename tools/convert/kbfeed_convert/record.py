@@ -9,7 +9,7 @@ from . import coverage, dates, form, identifiers, jsonlist, kinds, strict, unuse
 from .choosing import Chooser
 from .coverage import Range
 from .identifiers import Number
-from .labels import PARTS, Columns, has_word
+from .labels import PARTS, WORDS, Columns, has_word
 from .texts import folded, forget, word_set
 from .tokens import MEANINGS, NONE
 
@@ -35,6 +35,8 @@ MOST_ROWS = 1_000
 
 # `12 (1990)`
 NUMBER_FIRST = re.compile(r"\s*[0-9]{1,4} ?\([^()0-9]*[0-9]{4}[^()0-9]*\)\W*")
+# The words of the two ends of a range in headers.
+ENDS = {*WORDS["first"], *WORDS["last"], *WORDS["calendar"]}
 # What is between the dates of one cell, and the rules by which it may have two.
 PART_END = re.compile(r"[|;\r\n]+")
 IN_PAIRS = {"two years in a date", "a range in one cell"}
@@ -136,6 +138,7 @@ class Converter:
         # The columns with the dates of citations, beside those of full text.
         self.cited = [(at, end_of(header)) for at, header in columns.left_over()
                       if {*folded(header).split()} & CITED and any(it in places for it in DATES) and not self.is_kbart]
+        self.groups = groups(columns) if not self.is_kbart else []
         self.has_parts = any(name in places for pair in PARTS for name in pair) and not self.is_kbart
         # The columns of a status, in which an end may be: `Cancelled, access until 2017`.
         self.status = [at for at, header in columns.left_over()
@@ -412,9 +415,9 @@ class Converter:
         statement = self.read(cell) if folded(cell) not in dates.NONE else None
         if statement and not any(draft.cells[it].strip() for it in DATES):
             return self.stated(draft, cell, statement)
-        pairs = None if self.is_kbart else self.pairs(draft)
-        if pairs is not None:
-            return pairs
+        for rule in () if self.is_kbart else (self.pairs, self.grouped, self.alone):
+            if (apart := rule(draft)) is not None:
+                return apart
         given = self.dates(draft)
         if given.is_reversed() and any(it.rule == dates.UNDECIDED for it in draft.changes):
             # No day is in the coverage for certain.
@@ -480,13 +483,45 @@ class Converter:
                 self.numbers_beside(draft, cell, at)
         return Range(draft.cells[DATES[0]], draft.cells[DATES[1]])
 
+    def alone(self, draft: Draft) -> list[Range] | None:
+        """Returns the ranges of a cell that has both dates, if the column of the other one is empty, or None."""
+        for at, label in enumerate(DATES):
+            cell = draft.cells[label]
+            if cell.strip() and not draft.cells[DATES[1 - at]].strip() and len(dates.YEARS.findall(cell)) > 1:
+                said = self.read(cell)
+                # `1887-1888` may be the two years of one volume.
+                if not said.unread and any(it.last and it.first[:4] != it.last[:4] and not is_next(it)
+                                           for it in said.ranges):
+                    return self.stated(draft, cell, said)
+        return None
+
+    def grouped(self, draft: Draft) -> list[Range] | None:
+        """Returns a range for each group of columns with dates, as those of an archive and of what is current, or None
+        if the record has only one."""
+        found = []
+        for places in self.groups:
+            cells = [draft.fields[it] if 0 <= it < len(draft.fields) else "" for it in places]
+            ends = [dates.read(cell, bool(at), self.settings.order) for at, cell in enumerate(cells)]
+            if not any(it.strip() for it in cells):
+                continue
+            if any(it.text is None or it.rule in IN_PAIRS for it in ends) or not ends[0].text:
+                return None
+            found.append(Range(ends[0].text or "", ends[1].text or ""))
+        found.sort()
+        if len(found) < 2 or any(it.is_reversed() for it in found) or any(
+                not one.last or one.last >= two.first for one, two in itertools.pairwise(found)):
+            return None
+        draft.changes += [Change(label, draft.cells[label], "", "several dates, in pairs") for label in DATES]
+        return found
+
     def pairs(self, draft: Draft) -> list[Range] | None:
         """Returns the ranges of two columns of dates that have several each, as `1975|1985` and `1980|`, or None.
 
         If one has more than the other, the narrowest range counts."""
         sides = [several_of(draft.cells[it]) for it in DATES]
         found = [[dates.read(cell, bool(at), self.settings.order) for cell in cells] for at, cells in enumerate(sides)]
-        if max(map(len, sides)) < 2 or any(it.text is None or it.rule in IN_PAIRS for side in found for it in side):
+        is_several = any(sum(map(bool, it)) > 1 for it in sides)
+        if not is_several or any(it.text is None or it.rule in IN_PAIRS for side in found for it in side):
             return None
         first, last = ([it.text or "" for it in side] for side in found)
         if len(first) == len(last) and all(first) and all(last[:-1]):
@@ -498,8 +533,9 @@ class Converter:
                 return ranges
         for label in DATES:
             draft.note(label, draft.cells[label], NOT_PAIRED)
-        narrow = Range(max(first), min(filter(None, last), default=""))
-        return [] if narrow.is_reversed() else [narrow]
+        end = min(filter(None, last), default="")
+        narrow = [Range(begin, end) for begin in sorted(first)]
+        return [it for it in narrow if not it.is_reversed()][-1:]
 
     def numbers_beside(self, draft: Draft, cell: str, at: int) -> None:
         """Puts the volume and the issue that are beside a date, as in `v.23 n.1 (Jan 1996)`, if no column has them."""
@@ -556,6 +592,30 @@ class Converter:
             row[DATES[0]] = row[DATES[1]] = ""
             found = strict.row(row)
         return row, found
+
+
+def groups(columns: Columns) -> list[list[int]]:
+    """Returns the places of the first and the last date of each group of columns, -1 for none, if there are several
+    groups. Columns are of one group if their headers have the same words besides those of the two ends."""
+    found: dict[str, list[int]] = {}
+    for at, label in enumerate(DATES):
+        for place in columns.places.get(label, []):
+            words = [it for it in folded(columns.header[place]).split() if it not in ENDS]
+            pair = found.setdefault(" ".join(words), [-1, -1])
+            if pair[at] >= 0:
+                return []
+            pair[at] = place
+    # A first and a last date that are left over are one group.
+    left = [it for it in found.values() if min(it) < 0]
+    if len(left) == 2 and max(left[0][0], left[1][0]) >= 0 and max(left[0][1], left[1][1]) >= 0:
+        left[0][:] = [max(it) for it in zip(*left)]
+        found = {key: it for key, it in found.items() if it is not left[1]}
+    return list(found.values()) if len(found) > 1 and all(it[0] >= 0 for it in found.values()) else []
+
+
+def is_next(one: Range) -> bool:
+    """Returns whether the last year of a range is the one behind its first."""
+    return one.first[:4].isdecimal() and int(one.last[:4]) == int(one.first[:4]) + 1
 
 
 def several_of(cell: str) -> list[str]:
