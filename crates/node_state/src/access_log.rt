@@ -1,7 +1,7 @@
 //! The access log of a node, and the counters of its connections and requests.
+use crate::clock::unix_seconds;
 use crate::node_log::NodeLog;
 use crate::node_state::NodeState;
-use crate::today::unix_seconds;
 use feed_http_heads::FIELD_LIMIT;
 use feed_options::LogOptions;
 use httparse::spans::EMPTY_HEADER_SPAN;

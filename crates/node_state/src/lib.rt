@@ -3,17 +3,17 @@
 #![tactic(auto)]
 
 mod access_log;
+mod active_times;
+mod clock;
 mod counts;
 mod fetch_outcome;
 mod last_fetches;
 mod node_log;
 mod node_state;
-mod release_times;
-mod today;
 
 pub use access_log::AccessLog;
+pub use active_times::release_times;
+pub use clock::{day_number, today, unix_seconds};
 pub use fetch_outcome::FetchOutcome;
 pub use node_log::NodeLog;
 pub use node_state::{NodeState, TurnFacts};
-pub use release_times::release_times;
-pub use today::{day_number, today, unix_seconds};
