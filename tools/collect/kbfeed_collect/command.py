@@ -9,6 +9,7 @@ from typing import Iterator
 
 from kbfeed_convert import ending
 from kbfeed_convert.faults import Stopped, WrongArguments
+from kbfeed_convert.parsing import Parser
 
 from . import clock, configuration, table
 from .clock import Clock
@@ -31,7 +32,8 @@ all is well, 1 if a list was not published for a reason that the table has, 2 fo
 
 def arguments(given: list[str] | None = None) -> argparse.Namespace:
     """Parses the arguments."""
-    parser = argparse.ArgumentParser(prog=PROGRAM, description=DESCRIPTION, epilog=EPILOG, allow_abbrev=False)
+    parser = Parser(prog=PROGRAM, description=DESCRIPTION, epilog=EPILOG, allow_abbrev=False)
+    parser.hint = ": --config FILE names the sources, and --only PACKAGE a package"
     parser.add_argument("--config", metavar="FILE", default=CONFIGURATION,
                         help=f"the sources; {CONFIGURATION} by default")
     parser.add_argument("--only", metavar="PACKAGE", action="append", default=[],

@@ -11,6 +11,7 @@ from typing import Any, NamedTuple
 
 from kbfeed_convert import mapping, names
 from kbfeed_convert.faults import BYTES, WrongArguments
+from kbfeed_convert.parsing import meant
 
 from .keys import Key, file_of
 
@@ -106,6 +107,8 @@ def read(path: str) -> tuple[Configuration, list[str]]:
     try:
         with open(path, "rb") as file:
             found = tomllib.load(file)
+    except FileNotFoundError as error:
+        raise WrongArguments(f"{path}: {error.strerror}: make it, or name another by --config") from error
     except OSError as error:
         raise WrongArguments(f"{path}: {error.strerror}") from error
     except (tomllib.TOMLDecodeError, UnicodeDecodeError) as error:
@@ -177,7 +180,7 @@ def value_fault(key: str, value: Any) -> str:
                                                    for old, new in value.items())
         return "" if is_right else "replace: it is not a table as { \"[SITE_ID]\" = \"4711\" }"
     if key not in TEXTS:
-        return f"{key}: a source has no such key"
+        return f"{key}: a source has no such key{meant(key, [*TEXTS, *NUMBERS, 'inside', 'replace'])}"
     form, words = TEXTS[key]
     is_accepted = isinstance(value, str) and re.fullmatch(form, value) is not None
     if is_accepted and key == "url":

@@ -6,6 +6,7 @@ import re
 from . import ending, library, mapping, names, quick, reading, strict, unused
 from .faults import BYTES, Refused, WrongArguments
 from .files import Output, ReportOutput, standard_output
+from .parsing import Parser
 from .record import Cells
 from .report import Report
 
@@ -19,7 +20,8 @@ arguments, and 3 if a file cannot be read or written."""
 
 def arguments(given: list[str] | None = None) -> argparse.Namespace:
     """Parses the arguments."""
-    parser = argparse.ArgumentParser(prog=PROGRAM, description=DESCRIPTION, epilog=EPILOG, allow_abbrev=False)
+    parser = Parser(prog=PROGRAM, description=DESCRIPTION, epilog=EPILOG, allow_abbrev=False)
+    parser.hint = ": it converts one list at a time"
     parser.add_argument("file", metavar="FILE", help="the list; - is standard input")
     parser.add_argument("--into", metavar="DIR", help="write DIR/NAME and print NAME, in place of standard output")
     parser.add_argument("--name", metavar="NAME", help="the file name to take the package and the day from")

@@ -136,7 +136,7 @@ def find(text: TextIO, renamed: dict[str, str]) -> Form:
         if len(first) == SEARCHED or size > LINE:
             break
     if not first:
-        raise Refused("empty: it has no records")
+        raise Refused("empty: it has no records: get it again")
     header = first[0][1].lstrip("\ufeff").split("\t")
     if strict.columns(header):
         return within_limit(Form("tab", first[0][0], header, True))
@@ -154,7 +154,8 @@ def find(text: TextIO, renamed: dict[str, str]) -> Form:
             above = [renamed.get(it.strip()) or labels.label(it) for it in cells]
     good = [it for it in counted if it[0] >= LEAST] or backed
     if not good:
-        raise Refused(f"no header: no line has {LEAST} known labels. The nearest are {nearest(counted, first)}")
+        raise Refused(f"no header: no line has {LEAST} known labels, and --map can give some. The nearest are "
+                      f"{nearest(counted, first)}")
     header_line = min(form.line for _, form in good)
     best = max((it for it in good if it[1].line == header_line), key=lambda it: it[0])[1]
     return within_limit(with_second_line(best, first, renamed))

@@ -5,6 +5,7 @@ from typing import Any, NamedTuple
 
 from . import labels, strict
 from .faults import WrongArguments
+from .parsing import meant
 from .texts import folded
 
 TEXTS = ("labels", "constants", "replace")
@@ -108,7 +109,7 @@ def read(path: str | None) -> Map:
         with open(path, "rb") as file:
             found = tomllib.load(file)
     except (tomllib.TOMLDecodeError, UnicodeDecodeError) as error:
-        raise WrongArguments(f"--map: {error}") from error
+        raise WrongArguments(f"--map: {path}: {error}") from error
     return parsed(found, "--map")
 
 
@@ -133,7 +134,7 @@ def parsed(found: dict[str, Any], where: str) -> Map:
     for key, value in found.items():
         if key not in KEYS:
             raise WrongArguments(f"{where}: {key} is none of [labels], [constants], [replace], date_order, [[choose]], "
-                                 f"[where], unwrap and [library]")
+                                 f"[where], unwrap and [library]{meant(key, KEYS)}")
         if fault := value_fault(key, value):
             raise WrongArguments(f"{where}: {fault}")
     renamed = {key.strip(): value for key, value in found.get("labels", {}).items()}
@@ -141,10 +142,10 @@ def parsed(found: dict[str, Any], where: str) -> Map:
     for label in [*renamed.values(), *[label for choice in choices for label in choice.labels]]:
         # A header without a label is not used.
         if label and label not in strict.LABELS and label not in labels.OWN:
-            raise WrongArguments(f"{where}: {label} is not a label")
+            raise WrongArguments(f"{where}: {label} is not a label{meant(label, [*strict.LABELS, *labels.OWN])}")
     for label in found.get("constants", {}):
         if label not in strict.LABELS:
-            raise WrongArguments(f"{where}: {label} is not a label of a list")
+            raise WrongArguments(f"{where}: {label} is not a label of a list{meant(label, strict.LABELS)}")
     if "" in found.get("replace", {}):
         raise WrongArguments(f"{where}: [replace] has an empty text")
     return Map(renamed, found.get("constants", {}), found.get("replace", {}), found.get("date_order", ""), choices,

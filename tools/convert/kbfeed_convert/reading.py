@@ -76,17 +76,17 @@ def text_encoding(given: argparse.Namespace, file: IO[bytes], sheet: str) -> enc
     """Returns the encoding of a text: the given one, or the detected one."""
     if sheet:
         if given.encoding:
-            raise WrongArguments("--encoding: a spreadsheet has none")
+            raise WrongArguments("--encoding: a spreadsheet has none: leave it out")
         return encoding.Encoding("utf-8")
     if given.sheet:
-        raise WrongArguments("--sheet: the list is not a spreadsheet")
+        raise WrongArguments("--sheet: the list is not a spreadsheet: leave it out")
     if not given.encoding:
         return encoding.detect(file)
     try:
         "".encode(given.encoding)
         name = codecs.lookup(given.encoding).name
     except LookupError as error:
-        raise WrongArguments(f"--encoding: {given.encoding} is not known") from error
+        raise WrongArguments(f"--encoding: {given.encoding} is not known, as cp1252 or shift_jis are") from error
     return encoding.Encoding("utf-8-sig" if name == "utf-8" else name)
 
 

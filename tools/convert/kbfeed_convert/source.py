@@ -2,6 +2,7 @@
 import errno
 import functools
 import gzip
+import os
 import re
 import struct
 import sys
@@ -17,14 +18,21 @@ from .opendocument import CONTENT, OpenDocument
 from .webpage import WebPage
 from .workbook import Workbook
 
+# What to do with what is not a list.
+AS_TEXT = ": ask for the list as text or as a spreadsheet"
+LOOK = ": look at it in a browser"
+AGAIN = ": get it again"
 SIGNS = [
-    (b"%PDF", "a PDF file"), (b"\x89PNG", "an image"), (b"\xff\xd8\xff", "an image"), (b"GIF8", "an image"),
+    (b"%PDF", "a PDF file" + AS_TEXT), (b"\x89PNG", "an image" + AS_TEXT), (b"\xff\xd8\xff", "an image" + AS_TEXT),
+    (b"GIF8", "an image" + AS_TEXT),
     (b"\xd0\xcf\x11\xe0", "a spreadsheet of the old form (.xls) or with a password: save it as .xlsx or as text"),
-    (b"Rar!", "a RAR file"), (b"7z\xbc\xaf", "a 7z file"), (b"BZh9", "a bzip2 file"), (b"\xfd7zXZ", "an xz file"),
-    (b"\x28\xb5\x2f\xfd", "a zstd file"), (b"{\\rtf", "an RTF text"), (b"SQLite format 3", "an SQLite database")]
+    (b"Rar!", "a RAR file: unpack it"), (b"7z\xbc\xaf", "a 7z file: unpack it"), (b"BZh9", "a bzip2 file: unpack it"),
+    (b"\xfd7zXZ", "an xz file: unpack it"), (b"\x28\xb5\x2f\xfd", "a zstd file: unpack it"),
+    (b"{\\rtf", "an RTF text: save its table as text"), (b"SQLite format 3", "an SQLite database" + AS_TEXT)]
 PAGES = (b"<!doctype html", b"<html", b"<head", b"<body", b"<table", b"<script", b"<meta", b"<title", b"<!--")
 # A file in a ZIP file that says what the whole is.
-PACKED = {"word/document.xml": "a Word document", "ppt/presentation.xml": "a presentation"}
+PACKED = {"word/document.xml": "a Word document: save its table as text",
+          "ppt/presentation.xml": "a presentation" + AS_TEXT}
 JSON = (b'{"', b"[{", b"{\n", b"{\r", b"{ ", b"[\n", b"[\r", b"[ ")
 NOT_A_LIST = "not a list: "
 # The files of a ZIP file that may be its one list, and those beside it that are none.
@@ -70,10 +78,10 @@ def open_list(path: str, sheet_name: str, label: sheet.Labels, least: int) -> sh
             file = inside
         elif begins(head, PAGES):
             return sheet.as_text(functools.partial(WebPage, file), "", label, least,
-                                 NOT_A_LIST + "a page of HTML, perhaps a form or an error")
+                                 NOT_A_LIST + "a page of HTML, perhaps a form or an error" + LOOK)
         elif begins(head, JSON):
             return sheet.as_text(functools.partial(JsonList, file), "", label, least,
-                                 NOT_A_LIST + "JSON, perhaps an error of a server")
+                                 NOT_A_LIST + "JSON, perhaps an error of a server" + LOOK)
         else:
             refuse(head)
             return sheet.Text(file, "", [])
@@ -91,6 +99,8 @@ def opened(path: str) -> IO[bytes]:
     """Returns a file that can be read twice. Standard input and pipes are copied."""
     if path == "-":
         return spooled(sys.stdin.buffer, "standard input")
+    if os.path.isdir(path):
+        raise IsADirectoryError(errno.EISDIR, "it is a folder: give one list", path)
     file = open(path, "rb")
     if not file.seekable():
         return spooled(file, "the file")
@@ -105,7 +115,7 @@ def unpacked_gzip(file: IO[bytes]) -> IO[bytes]:
     try:
         return spooled(gzip.GzipFile(fileobj=file), "the unpacked file")
     except (EOFError, struct.error, zlib.error, gzip.BadGzipFile) as error:
-        raise Refused(f"gzip that cannot be unpacked: {error}") from error
+        raise Refused(f"gzip that cannot be unpacked: {error}{AGAIN}") from error
 
 
 def begins(head: bytes, words: tuple[bytes, ...]) -> bool:
@@ -144,17 +154,17 @@ def unpacked_zip(file: IO[bytes]) -> IO[bytes] | str:
         # A damaged file names places before its beginning.
         if isinstance(error, OSError) and error.errno not in (None, errno.EINVAL):
             raise
-        raise Refused(f"a ZIP file that cannot be unpacked: {error}") from error
+        raise Refused(f"a ZIP file that cannot be unpacked: {error}{AGAIN}") from error
 
 
 def refuse(head: bytes) -> None:
     """Refuses what is not a list, by how it begins."""
     if not head.strip(b"\xef\xbb\xbf\xff\xfe\r\n \t\0"):
-        raise Refused("empty: it has no records")
+        raise Refused("empty: it has no records" + AGAIN)
     for sign, what in SIGNS:
         if head.startswith(sign):
             raise Refused("not a list: " + what)
     if MARC.match(head) or b"marc21" in head.lower():
         raise Refused("not a list: MARC records. Export the holdings as a spreadsheet or as text")
     if begins(head, (b"<?xml", b"<rss", b"<feed")):
-        raise Refused("not a list: XML, perhaps an error of a server")
+        raise Refused("not a list: XML, perhaps an error of a server" + LOOK)
