@@ -21,6 +21,8 @@ DATES = {"ymd", "dmy", "cjk", "compact", "ym", "my", "year"}
 # The meanings of words around the length of a moving wall, and which of them make it one of what is not there.
 WALL = {"recent", "current", "not", "available", "except", "embargo", "ago", "filler", "number"}
 HIDDEN = {"not", "except", "embargo", "missing"}
+# Units that are one without a number, as in `last year not available`.
+ONE = {"year", "month", "jahr", "monat"}
 # The tokens that a wall has at each side of its length.
 WALL_SIDE = 8
 SEPARATORS = ";|"
@@ -245,7 +247,9 @@ class Reader:
         around = left[before:] + many[at + 1:behind]
         said = {meaning for it in around for meaning in self.wall_meanings(it)}
         is_alone = not before and not (behind < len(many) and self.is_connector(many[behind]))
-        length = wall_length(left[before:], "current" in said and (is_alone or bool(said & HIDDEN)))
+        is_one = "current" in said and (is_alone or bool(said & HIDDEN))
+        is_one = is_one or many[at].text in ONE and "recent" in said and bool(said & HIDDEN)
+        length = wall_length(left[before:], is_one)
         sign = left[before - 1].text if before and left[before - 1].text in ("+", "-") else ""
         is_begin = before == 1 or before > 1 and left[before - 2].text in (*SEPARATORS, ":", "(")
         if length is None:
@@ -361,6 +365,11 @@ class Reader:
             return
         if point.has_date() and self.left is None and not self.is_to:
             self.is_spoilt = True
+        elif point.has_date() and self.left is not None and self.left.has_date() and not self.is_spoilt:
+            # `1995-1999 2001-2004`
+            self.end_range()
+            self.date(token, at)
+            return
         if point.volume == [""] or point.issue == [""]:
             # `Jahrgang 1995` is a year.
             (point.volume if point.volume == [""] else point.issue).clear()
@@ -490,11 +499,11 @@ class Reader:
                 self.end_piece()
         elif text in "-~":
             self.connect(at)
-        elif text in "([":
+        elif text in "([{":
             if self.depth < DEPTH and self.is_own_group(at):
                 self.end_piece()
             self.depth += 1
-        elif text in ")]":
+        elif text in ")]}":
             self.depth = max(0, self.depth - 1)
             if self.is_missing or self.left is not None and self.left.is_empty():
                 self.end_piece()

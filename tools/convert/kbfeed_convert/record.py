@@ -35,6 +35,8 @@ MOST_ROWS = 1_000
 
 # `12 (1990)`
 NUMBER_FIRST = re.compile(r"\s*[0-9]{1,4} ?\([^()0-9]*[0-9]{4}[^()0-9]*\)\W*")
+# The words of an access that is free.
+FREE = word_set("access", "F")
 # The words of the two ends of a range in headers.
 ENDS = {*WORDS["first"], *WORDS["last"], *WORDS["calendar"]}
 # What is between the dates of one cell, and the rules by which it may have two.
@@ -382,7 +384,9 @@ class Converter:
             if not has_year_beside(cell):
                 continue
             said = self.read(cell)
-            is_range = not said.unread and any(it.first != it.last for it in said.ranges)
+            # `Open access since 2015` says nothing of what else the library has.
+            is_range = (not said.unread and any(it.first != it.last for it in said.ranges)
+                        and not FREE & {*folded(cell).split()})
             left = [part for it in held for limit in said.ranges if (part := coverage.within(it, limit))]
             if is_range and left:
                 if left != held:

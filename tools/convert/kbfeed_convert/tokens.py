@@ -46,6 +46,10 @@ YEAR_MONTH = re.compile(r"(?<![0-9/-])([0-9]{4})-([^\W\d_]{3,9})(?![^\W_]|\.? ?,
 # Years that are counted from today's: `current year - 1`, and `to last year`.
 COUNTED = re.compile(r"\(? ?\bcurrent(?: year| date)? ?(?:-|minus|less) ?([0-9]{1,3})(?![0-9])"
                      r" ?(year|yr|month|week|day)?s?\b\)?")
+COUNTED_UNITS = re.compile(r"\b(?:present|today|now|date) ?(?:minus|less) ?([0-9]{1,3}) ?(year|yr|month|week|day)s?\b")
+# `1995-01-01/2004-12-31`, and `after 12 months`.
+INTERVAL = re.compile(r"(?<=[0-9]{4}-[0-9]{2}-[0-9]{2})/(?=[0-9]{4}-)")
+AFTER = re.compile(r"\bafter (?=(?:an? |the |first |initial )?[0-9]{1,3}[ -]?(?:day|week|month|year))")
 LAST_YEAR = re.compile(r"(?<=[-o] )(?:the )?(?:last|previous|prior) year\b")
 # An ending in brackets, as of `year(s)`, and one with an apostrophe, as of `1995'ten`.
 ENDING = re.compile(r"\((?:s|es|e|en|n)\)")
@@ -87,7 +91,9 @@ def simplified(cell: str) -> str:
     text = DAY_MONTH.sub(lambda it: f"{it[1]} {it[2]} " if it[2] in MONTHS else it[0], text)
     text = MONTH_YEAR.sub(lambda it: f"{it[1]} " if it[1] in MONTHS else it[0], text)
     text = YEAR_MONTH.sub(lambda it: f"{it[1]} {it[2]}" if it[2] in MONTHS else it[0], text)
-    if "year" in text or "current" in text:
+    text = INTERVAL.sub(" - ", text)
+    if "year" in text or "month" in text or "current" in text:
+        text = COUNTED_UNITS.sub(r"\1 \2 ago", AFTER.sub("embargo ", text))
         text = LAST_YEAR.sub("1 year ago", COUNTED.sub(lambda it: f" {it[1]} {it[2] or 'year'} ago", text))
     if ">" in text or "→" in text:
         text = ARROW.sub("-", text)
