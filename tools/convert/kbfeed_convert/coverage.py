@@ -654,10 +654,10 @@ class Reader:
             return
         one = end_of(point if left is None else left)
         two = end_of(point) if left is not None else None
-        if self.is_negated and 0 < self.piece == len(self.pieces):
-            # `1995-2001, not 1997`
+        if self.is_negated:
+            # `1995-2001, not 1997`, and `1997 not available` in a note.
             self.is_missing = True
-        elif self.is_negated or self.is_lesser:
+        elif self.is_lesser:
             is_spoilt = True
         if is_spoilt or self.is_broken or one is None or left is not None and two is None:
             self.unread.append("a range")
@@ -707,10 +707,13 @@ class Reader:
         """Returns what was read."""
         held: list[Range] = []
         gaps: list[Range] = []
+        # What was held before the first gap: a range inside it, as in `missing 1997 and 1998`, is one more gap.
+        whole: list[Range] = []
         for piece in merged(self.pieces):
             if piece.is_missing and not held:
                 gaps.append(piece.range)
-            elif piece.is_missing:
+            elif piece.is_missing or any(is_within([piece.range], it) for it in whole if piece.range.has_dates()):
+                whole = whole or held
                 held = [it for one in held for it in without(one, piece.range)]
             elif piece.range.has_dates():
                 held.append(piece.range)

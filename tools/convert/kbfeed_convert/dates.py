@@ -216,6 +216,9 @@ def by_years(now: str, is_last: bool) -> Read:
     """Reads the years of any text: the earliest begins, and the latest ends."""
     found = [int(it) for it in YEARS.findall(now)]
     for match in TWO_YEARS.finditer(now):
+        if int(match[2]) <= 12 and re.search("[0-9]", now[match.end():]):
+            # `1911-12 x 31` is a month.
+            continue
         found += filter(None, [second_year(int(match[1]), int(match[2]))])
     if not found:
         return Read(None, NOT_READ)

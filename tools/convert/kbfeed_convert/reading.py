@@ -9,11 +9,14 @@ from . import dates, encoding, form, identifiers, labels, mapping, source, stric
 from .choosing import Chooser
 from .faults import WrongArguments
 from .record import DATES, ISSUES, NUMBERS, PUBLISHED, VOLUMES, Converter, Settings
+from .texts import folded
 
 # The records by which columns are guessed.
 SAMPLE = 50
 # The labels whose absence is worth a warning. Identifiers need none: a record without them is dropped.
 EXPECTED = ("publication_title", "title_url")
+# The different cells that a column has at most that says which titles are held.
+HELD_CELLS = 10
 # The labels beside which no column of embargoes is guessed.
 EMBARGOES = ("embargo_info", "embargo_days", "embargo_months", "embargo_years")
 
@@ -56,10 +59,11 @@ def opened(given: argparse.Namespace, name: str) -> Opened:
     shape = shape._replace(is_kbart=shape.is_kbart and found.is_utf8() and not rules.is_read())
     columns = labels.Columns(shape.header, rules.renamed(shape.header))
     guessed = guessed_columns(text, shape, columns, rules)
+    rules, held = held_titles(text, shape, columns, rules)
     order = date_order(text, shape, columns, Chooser(rules, shape.header), rules.order)
     warnings = [*left_out, *([found.warning] if found.warning else [])]
     shown = "" if sheet else f", with {shape.separator} between cells"
-    warnings += [*guessed, *name_warnings(given, name), *profile_warnings(given, rules),
+    warnings += [*guessed, *held, *name_warnings(given, name), *profile_warnings(given, rules),
                  *form_warnings(shape, shown, columns, order), *missing]
     head = {
         "file": os.path.basename(given.file), "name": name, "sheet": sheet, "encoding": found.name,
@@ -122,6 +126,30 @@ def guessed_columns(text: io.TextIOWrapper, shape: form.Form, columns: labels.Co
     columns.keep_dates(cells, lambda cell: bool(dates.YEARS.search(cell)))
     return [f"no label says which column has the {what}: it is guessed to be {header!r}"
             for what, header in found.items() if header]
+
+
+def held_titles(text: io.TextIOWrapper, shape: form.Form, columns: labels.Columns,
+                rules: mapping.Map) -> tuple[mapping.Map, list[str]]:
+    """Returns the rules with the condition of a column whose cells all say whether a title is held, as `Subscribed` and
+    `Not subscribed`, if the list has one, and a warning."""
+    places = [it for it, header in columns.left_over() if unused.label_kind(header) == "status"]
+    if shape.is_kbart or rules.where or not places:
+        return rules, []
+    found: dict[int, set[str]] = {it: set() for it in places}
+    text.seek(0)
+    for record in form.body(text, shape):
+        for place, cells in found.items():
+            if len(cells) <= HELD_CELLS and any(map(str.strip, record.cells)):
+                cells.add(folded("".join(record.cells[place:place + 1])))
+    held = {it: values for it, cells in found.items()
+            if len(cells) <= HELD_CELLS and (values := unused.held_values(columns.header[it], cells))}
+    if len(held) != 1:
+        return rules, []
+    place, values = held.popitem()
+    header = columns.header[place].strip()
+    columns.left_out.add(header)
+    return (rules._replace(where={header: sorted(values)}),
+            [f"the column {header!r} says which titles are held: those with {' or '.join(map(repr, sorted(values)))}"])
 
 
 def has_serials(columns: labels.Columns, records: list[list[str]]) -> bool:

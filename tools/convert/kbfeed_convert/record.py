@@ -9,7 +9,7 @@ from . import coverage, dates, form, identifiers, jsonlist, kinds, strict, unuse
 from .choosing import Chooser
 from .coverage import Range
 from .identifiers import Number
-from .labels import PARTS, WORDS, Columns, has_word
+from .labels import PARTS, WORDS, Columns, has_word, rank
 from .texts import folded, forget, word_set
 from .tokens import MEANINGS, NONE
 
@@ -29,6 +29,8 @@ TEXTS = [it for it in strict.LABELS if it not in OWN_RULE]
 LONG = 2_000
 # The characters of the longest date that reads as it is.
 DATE = len("2001-12-31")
+# The columns of single years that a list has at least.
+LEAST_YEARS = 3
 # More rows of one record are not made: a cell of numbers beside a cell of ranges multiply.
 MOST_ROWS = 1_000
 
@@ -140,11 +142,15 @@ class Converter:
         # The columns with the dates of citations, beside those of full text.
         self.cited = [(at, end_of(header)) for at, header in columns.left_over()
                       if {*folded(header).split()} & CITED and any(it in places for it in DATES) and not self.is_kbart]
+        # The columns of single years, in which a mark says that the year is held.
+        years = [(at, header.strip()) for at, header in columns.left_over() if dates.YEARS.fullmatch(header.strip())]
+        self.years = years if len(years) >= LEAST_YEARS and not self.is_kbart else []
         self.groups = groups(columns) if not self.is_kbart else []
         self.has_parts = any(name in places for pair in PARTS for name in pair) and not self.is_kbart
         # The columns of a status, in which an end may be: `Cancelled, access until 2017`.
         self.status = [at for at, header in columns.left_over()
-                       if unused.label_kind(header) == "status" and not self.is_kbart]
+                       if unused.label_kind(header) == "status" and not self.is_kbart
+                       and not ENDS & {*folded(header).split()}]
         self.has_numbers_apart = bool({*NUMBERS} & {*self.several}) or "other_identifier" in places
 
     def convert(self, given: form.Record) -> Outcome:
@@ -379,7 +385,7 @@ class Converter:
     def limited(self, draft: Draft, held: list[Range]) -> list[Range]:
         """Returns the ranges without the days that an access, a status or a note leaves out, as `access until 2017`."""
         given = [("access_type", draft.cells["access_type"]), ("notes", draft.cells["notes"]),
-                 *(("access_type", it) for at in self.status for it in draft.fields[at:at + 1])]
+                 *(("status", it) for at in self.status for it in draft.fields[at:at + 1])]
         for label, cell in given:
             if not has_year_beside(cell):
                 continue
@@ -419,7 +425,7 @@ class Converter:
         statement = self.read(cell) if folded(cell) not in dates.NONE else None
         if statement and not any(draft.cells[it].strip() for it in DATES):
             return self.stated(draft, cell, statement)
-        for rule in () if self.is_kbart else (self.pairs, self.grouped, self.alone):
+        for rule in () if self.is_kbart else (self.pairs, self.grouped, self.alone, self.marked):
             if (apart := rule(draft)) is not None:
                 return apart
         given = self.dates(draft)
@@ -498,6 +504,19 @@ class Converter:
                                            for it in said.ranges):
                     return self.stated(draft, cell, said)
         return None
+
+    def marked(self, draft: Draft) -> list[Range] | None:
+        """Returns the ranges of the years that are marked, each in its own column, or None if there are no such columns
+        or the record has dates."""
+        if not self.years or any(draft.cells[it].strip() for it in DATES):
+            return None
+        found: list[Range] = []
+        for at, year in sorted(self.years, key=lambda it: it[1]):
+            if values.YES_NO.get(folded(draft.fields[at] if at < len(draft.fields) else "")) == "yes":
+                is_next_year = found and int(found[-1].last) + 1 == int(year)
+                found[-1:] = [found[-1]._replace(last=year)] if is_next_year else [*found[-1:], Range(year, year)]
+        draft.changes.append(Change("coverage", "", coverage.shown(found), "a mark for each year"))
+        return found
 
     def grouped(self, draft: Draft) -> list[Range] | None:
         """Returns a range for each group of columns with dates, as those of an archive and of what is current, or None
@@ -604,6 +623,9 @@ def groups(columns: Columns) -> list[list[int]]:
     found: dict[str, list[int]] = {}
     for at, label in enumerate(DATES):
         for place in columns.places.get(label, []):
+            if rank(columns.header[place]) == 0:
+                # The library's own dates count before those of all, and not beside them.
+                return []
             words = [it for it in folded(columns.header[place]).split() if it not in ENDS]
             pair = found.setdefault(" ".join(words), [-1, -1])
             if pair[at] >= 0:

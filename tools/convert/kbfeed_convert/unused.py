@@ -13,6 +13,7 @@ SHOWN = {"dates": "dates", "embargo": "an embargo", "status": "a status"}
 LABELS = {kind: word_set("suspects", kind) for kind in KINDS}
 HARMLESS = word_set("suspects", "harmless")
 STATUS = word_set("suspects", "status_cells")
+HELD, NOT_HELD, HELD_LABELS = (word_set("held", it) for it in ("yes", "no", "labels"))
 # The share of the cells that have to look like one kind, and how many different ones the report has.
 MOST = 0.5
 CELLS = 5
@@ -73,6 +74,14 @@ def is_range(first: str, last: str) -> bool:
     """Returns whether the years of a first and a last date may be those of a range."""
     begins, ends = dates.YEARS.findall(first), dates.YEARS.findall(last)
     return not begins or not ends or min(begins) <= max(ends)
+
+
+def held_values(header: str, cells: set[str]) -> set[str]:
+    """Returns the cells of a column that say that a title is held, if all say that or the opposite, and some each."""
+    says_yes_no = folded(header) in HELD_LABELS
+    said = {it: "yes" if it in HELD else "no" if it in NOT_HELD else values.YES_NO.get(it, "") if says_yes_no else ""
+            for it in cells}
+    return {it for it in cells if said[it] == "yes"} if {*said.values()} == {"yes", "no"} else set()
 
 
 def label_kind(header: str) -> str:
