@@ -707,13 +707,14 @@ class Reader:
         """Returns what was read."""
         held: list[Range] = []
         gaps: list[Range] = []
-        # What was held before the first gap: a range inside it, as in `missing 1997 and 1998`, is one more gap.
-        whole: list[Range] = []
+        # From the beginning to the end of what was held before the first gap: a range inside, as in `missing 1997 and
+        # 1998`, is one more gap.
+        whole: Range | None = None
         for piece in merged(self.pieces):
             if piece.is_missing and not held:
                 gaps.append(piece.range)
-            elif piece.is_missing or any(is_within([piece.range], it) for it in whole if piece.range.has_dates()):
-                whole = whole or held
+            elif piece.is_missing or whole and piece.range.has_dates() and is_within([piece.range], whole):
+                whole = whole or hull(held)
                 held = [it for one in held for it in without(one, piece.range)]
             elif piece.range.has_dates():
                 held.append(piece.range)
@@ -825,6 +826,12 @@ def without(held: Range, missing: Range) -> list[Range]:
         behind = datetime.date(*gap_last[1]) + DAY
         parts.append(held._replace(first=shortest(behind, (1, 1)), first_volume="", first_issue=""))
     return parts
+
+
+def hull(many: list[Range]) -> Range:
+    """Returns the range from the beginning of the first of some ranges to the end of the last one."""
+    firsts, lasts = [it.first for it in many], [it.last for it in many]
+    return Range(min(firsts) if all(firsts) else "", max(lasts) if all(lasts) else "")
 
 
 def within(held: Range, limit: Range) -> Range | None:

@@ -22,8 +22,10 @@ CANDIDATE = re.compile(
 TEN = str.maketrans(dict.fromkeys("ХхΧχ×", "X"))
 ALIKE = str.maketrans("OoQIl|", "000111")
 SCIENTIFIC = re.compile(r"[0-9](?:[.,][0-9]+)?[eE]\+?[0-9]{1,2}")
-# What may be behind a number in brackets, letters that are no part of one, and the words of each side.
+# What may be behind a number in brackets, how many characters before it are looked at, letters that are no part of
+# one, and the words of each side.
 BEHIND = re.compile(r"\s*[(\[]([^()\[\]]{1,40})[)\]]")
+BESIDE = 60
 LETTERS = re.compile(r"[^\W\dXx_]")
 SIDES = {side: word_set("words", side) | word_set("words", number) | word_set("numbers_of", side)
          for side, number in (("print", "print_number"), ("online", "electronic_number"))}
@@ -71,26 +73,15 @@ def sides(cell: str) -> tuple[tuple[Number, str], ...]:
     if not LETTERS.search(cell):
         return ()
     text = plain(cell).translate(TEN)
-    places = [(it, at) for it in dict.fromkeys(scan(text)) if (at := place_of(text, it))]
-    found = []
+    found: dict[Number, str] = {}
     begin = 0
-    for number, (start, end) in sorted(places, key=lambda it: it[1]):
+    for number, start, end in places(text):
         behind = BEHIND.match(text, end)
         side = side_of(behind[1]) if behind else ""
-        side = side or side_of(text[begin:start])
-        if side:
-            found.append((number, side))
+        if side := side or side_of(text[max(begin, start - BESIDE):start]):
+            found.setdefault(number, side)
         begin = behind.end() if behind else end
-    return tuple(found)
-
-
-def place_of(text: str, number: Number) -> tuple[int, int] | None:
-    """Returns where a number begins and ends in a text, or None if it is there in another form."""
-    for match in CANDIDATE.finditer(text):
-        digits = re.sub("[- ]", "", match[0])
-        if (strict.issn(digits) if match["issn"] else strict.isbn(digits)) == number.text:
-            return match.span()
-    return None
+    return tuple(found.items())
 
 
 def side_of(text: str) -> str:
@@ -102,6 +93,11 @@ def side_of(text: str) -> str:
 
 def scan(text: str) -> Iterator[Number]:
     """Yields the numbers of a text."""
+    return (number for number, _, _ in places(text))
+
+
+def places(text: str) -> Iterator[tuple[Number, int, int]]:
+    """Yields the numbers of a text, each with the places at which it begins and ends."""
     at = 0
     while match := CANDIDATE.search(text, at):
         at = match.start() + 1
@@ -109,7 +105,7 @@ def scan(text: str) -> Iterator[Number]:
         digits = re.sub("[- ]", "", match[0])
         kept = strict.issn(digits) if kind == "issn" else strict.isbn(digits)
         if kept:
-            yield Number(kind, kept)
+            yield Number(kind, kept), *match.span()
             at = match.end()
 
 

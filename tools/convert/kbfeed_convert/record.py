@@ -392,8 +392,9 @@ class Converter:
             said = self.read(cell)
             # `Open access since 2015` says nothing of what else the library has.
             is_range = (not said.unread and any(it.first != it.last for it in said.ranges)
-                        and not FREE & {*folded(cell).split()})
-            left = [part for it in held for limit in said.ranges if (part := coverage.within(it, limit))]
+                        and len(held) * len(said.ranges) <= MOST_ROWS and not FREE & {*folded(cell).split()})
+            left = [part for it in held for limit in said.ranges if (part := coverage.within(it, limit))] \
+                if is_range else []
             if is_range and left:
                 if left != held:
                     draft.changes.append(Change(label, cell, coverage.shown(left), "a coverage in other words"))

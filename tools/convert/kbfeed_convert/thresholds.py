@@ -3,7 +3,7 @@
 They are written out as a statement, which the grammar of coverage reads."""
 import re
 
-CALL = re.compile(r"(?:\$?\w+\s*->\s*)?(parsedDate|timediff)\s*\(([^()]*)\)", re.I)
+CALL = re.compile(r"(?:\$?\w{1,20} ?-> ?)?(parsedDate|timediff) ?\(([^()]{0,100})\)", re.I)
 DATES = {">=": "from", ">": "after", "<=": "until", "<": "before", "==": "in", "=": "in"}
 UNITS = {"y": "years", "m": "months", "d": "days", "w": "weeks"}
 LENGTH = re.compile(r"([0-9]{1,4})([ymdw])", re.I)
