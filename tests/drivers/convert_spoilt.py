@@ -109,11 +109,29 @@ def chinese(ranges, wall, r):
     return "；".join([*parts, words[wall[0]].format(length) if wall else ""]).strip("；")
 
 
-STATEMENTS = [sfx, dates_360, german, french, english, ansi, chinese]
+def database(ranges, wall, r):
+    parts = [f'$obj->parsedDate(">=",{first},{at},undef)'
+             + (f' && $obj->parsedDate("<=",{last},{at},undef)' if last else "")
+             for at, (first, last) in enumerate(ranges, 1)]
+    sign = {"P": ">=", "R": "<="}[wall[0]] if wall else ""
+    end = f' && $obj->timediff("{sign}","{wall[1:].lower()}")' if wall else ""
+    return " || ".join(parts) + end
+
+
+def marc(ranges, wall, r):
+    parts = [f"v.{at}:no.1({first}:Jan.)-" + (f"v.{at}:no.12({last}:Dec.)" if last else "")
+             for at, (first, last) in enumerate(ranges, 1)]
+    return "; ".join([*parts, wall]).strip("; ")
+
+
+STATEMENTS = [sfx, dates_360, german, french, english, ansi, chinese, database, marc]
 
 
 def columns(ranges, wall, r):
     """Returns the cells of a first date, a last date and an embargo."""
+    if len(ranges) > 1:
+        sign = r.choice(["|", ";", " | "])
+        return [sign.join(str(it or "") for it in side) for side in zip(*ranges)] + [wall]
     first, last = ranges[0][0], ranges[-1][1]
     begin = r.choice([str(first), f"{first}-01-01", f"January {first}", f"1.1.{first}"])
     ends = [str(last), f"{last}-12-31", f"December {last}", f"31.12.{last}"] if last else ["", "present"]
@@ -130,7 +148,7 @@ def random_list(r):
     records, truth = [], {}
     for number in range(r.randrange(1, 9)):
         ranges, wall = title(r)
-        if not is_statement:
+        if not is_statement and r.random() < 0.7:
             ranges = [(ranges[0][0], ranges[-1][1])]
         key = issn(r)
         cells = [form(ranges, wall, r)] if is_statement else columns(ranges, wall, r)

@@ -240,6 +240,9 @@ class Reader:
             # `a 12-month embargo`
             before -= 1
         while before and len(left) - before < WALL_SIDE and self.is_of_wall(left[before - 1]):
+            if left[before - 1].kind == "int" and any(it.kind == "int" for it in left[before:]):
+                # `volume 1 most recent 6 months`
+                break
             before -= 1
         behind = at + 1
         while behind < len(many) and behind - at <= WALL_SIDE and self.is_of_wall(many[behind]):

@@ -10,7 +10,7 @@ from .choosing import Chooser
 from .coverage import Range
 from .identifiers import Number
 from .labels import PARTS, WORDS, Columns, has_word, rank
-from .texts import folded, forget, word_set
+from .texts import folded, forget, plain, word_set
 from .tokens import MEANINGS, NONE
 
 Cells = dict[str, str]
@@ -42,7 +42,7 @@ FREE = word_set("access", "F")
 # The words of the two ends of a range in headers.
 ENDS = {*WORDS["first"], *WORDS["last"], *WORDS["calendar"]}
 # What is between the dates of one cell, and the rules by which it may have two.
-PART_END = re.compile(r"[|;\r\n]+")
+PART_END = re.compile(r"[|;\r\n｜；]+")
 IN_PAIRS = {"two years in a date", "a range in one cell"}
 # The rules by which a date was found beside other texts.
 IN_TEXTS = {"the name of a month", "a date in a text", "a year in a text"}
@@ -541,25 +541,28 @@ class Converter:
     def pairs(self, draft: Draft) -> list[Range] | None:
         """Returns the ranges of two columns of dates that have several each, as `1975|1985` and `1980|`, or None.
 
-        If one has more than the other, the narrowest range counts."""
+        A pair of which a date does not read is left out. If one has more than the other, the narrowest range counts."""
         sides = [several_of(draft.cells[it]) for it in DATES]
         found = [[dates.read(cell, bool(at), self.settings.order) for cell in cells] for at, cells in enumerate(sides)]
-        is_several = any(sum(map(bool, it)) > 1 for it in sides)
-        if not is_several or any(it.text is None or it.rule in IN_PAIRS for side in found for it in side):
+        is_several = any(sum(dates.YEARS.search(cell) is not None for cell in cells) > 1 for cells in sides)
+        if not is_several or any(it.rule in IN_PAIRS for side in found for it in side):
             return None
-        first, last = ([it.text or "" for it in side] for side in found)
-        if len(first) == len(last) and all(first) and all(last[:-1]):
+        first, last = ([it.text for it in side] for side in found)
+        is_read = None not in first + last
+        if len(first) == len(last):
             numbers = [several_of(draft.cells[it]) for it in (*VOLUMES, *ISSUES)]
             numbers = [it if len(it) == len(first) else [""] * len(first) for it in numbers]
-            ranges = [Range(one, two, *it) for one, two, *it in zip(first, last, *numbers)]
-            if not any(it.is_reversed() for it in ranges):
+            ranges = [Range(one, two, *it) for one, two, *it in zip(first, last, *numbers) if one and two is not None]
+            if not any(it.is_reversed() or not it.last and it is not ranges[-1] for it in ranges):
                 draft.changes += [Change(label, draft.cells[label], "", "several dates, in pairs") for label in DATES]
+                if not is_read or len(ranges) < len(first):
+                    draft.note(DATES[0], draft.cells[DATES[0]], NOT_PAIRED)
                 return ranges
         for label in DATES:
             draft.note(label, draft.cells[label], NOT_PAIRED)
         end = min(filter(None, last), default="")
-        narrow = [Range(begin, end) for begin in sorted(first)]
-        return [it for it in narrow if not it.is_reversed()][-1:]
+        narrow = [Range(begin, end) for begin in sorted(filter(None, first))]
+        return [it for it in narrow if not it.is_reversed()][-1:] if end or is_read else []
 
     def numbers_beside(self, draft: Draft, cell: str, at: int) -> None:
         """Puts the volume and the issue that are beside a date, as in `v.23 n.1 (Jan 1996)`, if no column has them."""
@@ -647,9 +650,9 @@ def is_next(one: Range) -> bool:
 
 def several_of(cell: str) -> list[str]:
     """Returns the parts of a cell between bars, semicolons or line ends, or between commas if all are numbers."""
-    parts = [it.strip() for it in PART_END.split(cell)]
-    if len(parts) == 1 and "," in cell and not re.search("[^0-9,./ -]", cell):
-        parts = [it.strip() for it in cell.split(",")]
+    parts = [plain(it) for it in PART_END.split(cell)]
+    if len(parts) == 1 and "," in parts[0] and not re.search("[^0-9,./ -]", parts[0]):
+        return [it.strip() for it in parts[0].split(",")]
     return parts
 
 

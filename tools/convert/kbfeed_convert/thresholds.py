@@ -24,7 +24,7 @@ def in_words(call: re.Match[str]) -> str:
         if not length or sign[:1] not in ("<", ">"):
             return call[0]
         end = "not available" if sign[0] == ">" else "available"
-        return f" most recent {length[1]} {UNITS[length[2].lower()]} {end};"
+        return f"; most recent {length[1]} {UNITS[length[2].lower()]} {end};"
     if sign not in DATES or not parts or not parts[0].isdigit():
         return call[0]
     numbers = [f"{name} {it}" for name, it in zip(("volume", "issue"), parts[1:3]) if it.isdigit()]
