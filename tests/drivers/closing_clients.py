@@ -2,15 +2,20 @@
 """Runs clients that close their connection after one request.
 
 closing_clients.py ADDR flood TARGET CLIENTS REQUESTS
+closing_clients.py ADDR together TARGET CLIENTS PID
 closing_clients.py ADDR unread TARGET BYTES
 
 flood    CLIENTS at a time ask for TARGET with `Connection: close`, read the response to its end, close and connect
          again, until REQUESTS are answered. Prints how many were not answered whole, and how many connections the node
          counts as closed meanwhile for each cause that is not `peer`.
+together CLIENTS ask for TARGET with `Connection: close` and read the response. The process PID, which is the node, is
+         stopped while all of them close, so that it finds all closed at once. Prints the same.
 unread   one client asks for TARGET with `Connection: close`, sends BYTES more, ends its side, and reads 4,096 bytes at
          a time, with a small buffer. Prints whether it got the whole response."""
+import os
 import re
 import selectors
+import signal
 import socket
 import sys
 import time
@@ -90,6 +95,19 @@ def flood(address, target, clients, requests):
     return broken
 
 
+def together(address, target, clients, node):
+    """Returns how many responses were not whole."""
+    peers = [connected(address) for _ in range(clients)]
+    for peer in peers:
+        peer.sendall(request(target))
+    broken = sum(not is_whole(read_to_end(peer)) for peer in peers)
+    os.kill(node, signal.SIGSTOP)
+    for peer in peers:
+        peer.close()
+    os.kill(node, signal.SIGCONT)
+    return broken
+
+
 def unread(address, target, count):
     with connected(address, READ) as peer:
         peer.sendall(request(target) + b"x" * count)
@@ -105,16 +123,18 @@ def main():
     if sys.argv[2] == "unread":
         unread(address, sys.argv[3], int(sys.argv[4]))
         return
-    before = closed(address)
-    broken = flood(address, sys.argv[3], int(sys.argv[4]), int(sys.argv[5]))
+    before, target, clients, last = closed(address), sys.argv[3], int(sys.argv[4]), int(sys.argv[5])
+    is_together = sys.argv[2] == "together"
+    broken = together(address, target, clients, last) if is_together else flood(address, target, clients, last)
+    requests = clients if is_together else last
     # The node may read a moment later that the last ones have gone.
     end = time.monotonic() + 5
-    while (after := closed(address))["complete"] - before["complete"] < int(sys.argv[5]) and time.monotonic() < end:
+    while (after := closed(address))["complete"] - before["complete"] < requests and time.monotonic() < end:
         time.sleep(0.05)
     counts = {cause: after[cause] - before[cause] for cause in after if cause not in ("complete", "peer")}
     complete = after["complete"] - before["complete"]
     rest = (f"{cause} {count}" for cause, count in counts.items())
-    print("broken", broken, "complete", complete >= int(sys.argv[5]), *rest)
+    print("broken", broken, "complete", complete >= requests, *rest)
 
 
 main()
