@@ -543,9 +543,10 @@ class Converter:
 
         A pair of which a date does not read is left out. If one has more than the other, the narrowest range counts."""
         sides = [several_of(draft.cells[it]) for it in DATES]
+        if not any(sum(dates.YEARS.search(it) is not None for it in cells) > 1 for cells in sides if len(cells) > 1):
+            return None
         found = [[dates.read(cell, bool(at), self.settings.order) for cell in cells] for at, cells in enumerate(sides)]
-        is_several = any(sum(dates.YEARS.search(cell) is not None for cell in cells) > 1 for cells in sides)
-        if not is_several or any(it.rule in IN_PAIRS for side in found for it in side):
+        if any(it.rule in IN_PAIRS for side in found for it in side):
             return None
         first, last = ([it.text for it in side] for side in found)
         is_read = None not in first + last
