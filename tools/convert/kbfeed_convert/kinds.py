@@ -12,6 +12,8 @@ def read(cell: str, has_issn: bool, has_isbn: bool, default: str) -> tuple[str |
     `default` is the kind of records without a type. A book with an ISSN alone stays a book: that ISSN is the number of
     its series."""
     kind = KINDS.get(folded(cell))
+    if kind == "offline":
+        return None, "a type that is not online"
     if kind == "neither" and not has_issn and not has_isbn:
         return None, "a type that is neither serial nor book"
     rule = "a type in other words"
@@ -23,3 +25,8 @@ def read(cell: str, has_issn: bool, has_isbn: bool, default: str) -> tuple[str |
     if kind == "serial" and has_isbn and not has_issn:
         return "monograph", "the identifiers decide the type"
     return kind, rule
+
+
+def is_offline(cell: str) -> bool:
+    """Returns whether a type is that of something that nobody reads online."""
+    return KINDS.get(folded(cell)) == "offline"

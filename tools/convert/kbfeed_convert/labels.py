@@ -16,6 +16,8 @@ from .texts import TABLES, folded, remembered, word_set, words
 OWN = ("other_identifier", "coverage", "volumes", "embargo_days", "embargo_months", "embargo_years", "recent_months",
        "recent_years", "gaps", "open_access", "embargo_unit", "embargo_sign", "medium", "first_month", "first_day",
        "last_month", "last_day")
+# The labels of columns that may be there several times, with numbers.
+NUMBERED = ("coverage", "date_first_issue_online", "date_last_issue_online")
 PARTS = (("first_month", "first_day"), ("last_month", "last_day"))
 IDENTIFIERS = ("print_identifier", "online_identifier", "other_identifier")
 # The characters of the longest label.
@@ -24,12 +26,16 @@ LONGEST = 200
 NEAR = SURE = 0.9
 # The share of the cells of a column of dates that have to be dates.
 MOST = 0.5
+# The columns of single years that a list has at least.
+LEAST_YEARS = 3
 SYNONYMS = {key.replace(" ", ""): label for key, label in words("labels").items()}
 WORDS = {name: [folded(it) for it in many] for name, many in TABLES["words"].items()}
 ADDRESS = re.compile(r"\s*https?://", re.I)
 # The first character of the scripts without spaces, and the letters below which a word of others has to be whole.
 IDEOGRAPHS, SHORT = "\u3000", 3
 OWN_WORDS, PUBLISHED_WORDS = word_set("own", "words"), word_set("published", "words")
+# Words in the labels of columns that have a part of the coverage each.
+APART = word_set("own", "apart")
 OWN_STATEMENTS = OWN_WORDS | word_set("own", "statements")
 # A list with such a label has free titles alone.
 FREE = word_set("free_lists", "labels")
@@ -68,6 +74,9 @@ def label(cell: str) -> str | None:
         if (all(any(has_word(it, text, tokens) for it in group.split("|")) for group in rule["all"])
                 and not any(has_word(it, text, tokens) for it in rule.get("none", []))):
             return str(rule["label"])
+    if (numbered := re.fullmatch(r"(\D*[^\W\d]\D*?) ?[1-9]", text)) and (found := label(numbered[1])) in NUMBERED:
+        # `Coverage 2`
+        return found
     # A label of the standard with a letter too many, too few or wrong.
     near = difflib.get_close_matches(name, strict.LABELS, 1, NEAR) if "_" in name else []
     return near[0] if near else None
@@ -160,6 +169,8 @@ class Columns:
                 del places[1:]
             if len(places) > 1:
                 self.twice.append(name)
+        # The columns in which a mark says that a range is held, with the range of the header.
+        self.marks: list[tuple[int, str, str]] = []
         self.is_free = any(folded(cell) in FREE for cell in header)
 
     def unused(self) -> list[str]:
@@ -266,7 +277,8 @@ class Columns:
         stated = [place for place in self.guess_dates(records, lambda *it: is_statement(*it) or is_date(*it))
                   if any(is_statement(self.header[place], it) for cells in records for it in cells[place:place + 1])]
         own = [it for it in stated if is_own(self.header[it])]
-        if len(stated) == 1 or len(stated) == 2 and len(own) == 1:
+        is_apart = all(APART & {*folded(self.header[it]).split()} for it in stated)
+        if len(stated) == 1 or len(stated) == 2 and len(own) == 1 or stated and is_apart:
             for place in sorted(stated, key=lambda it: it in own):
                 self.give(place, "coverage")
             return ", ".join(self.header[it] for it in stated)
@@ -275,6 +287,18 @@ class Columns:
             return ""
         first = self.give(found[0], "date_first_issue_online")
         return f"{first}, {self.give(found[1], 'date_last_issue_online')}"
+
+    def find_marks(self, records: list[list[str]], range_of: Callable[[str], tuple[str, str] | None],
+                   is_mark: Callable[[str], bool]) -> None:
+        """Finds the columns whose headers are ranges, as `1995` or `Archive (1869-1995)`, and whose cells are marks."""
+        found = []
+        for place, header in self.left_over():
+            filled = [it for cells in records for it in cells[place:place + 1] if it.strip()]
+            if filled and all(map(is_mark, filled)) and (ends := range_of(header)):
+                found.append((place, *ends))
+        if len(found) >= LEAST_YEARS or any(first != last for _, first, last in found):
+            self.marks = sorted(found, key=lambda it: it[1:])
+            self.left_out |= {self.header[it[0]].strip() for it in found}
 
     def guess_own(self, records: list[list[str]], is_statement: Callable[[str, str], bool]) -> str:
         """Gives the label of coverage to the column that has statements of the library's own, beside those of all."""

@@ -79,9 +79,9 @@ class Shortcut:
     def __init__(self, converter: Converter):
         settings, places = converter.settings, converter.columns.places
         self.is_open = not (
-            converter.several or converter.cited or converter.status or converter.years or converter.columns.is_free
-            or settings.constants or settings.replaced or settings.unwrapped or converter.chooser.choices
-            or converter.chooser.where or any(it in places for it in OWN))
+            converter.several or converter.cited or converter.status or converter.columns.marks or converter.numbered
+            or converter.columns.is_free or settings.constants or settings.replaced or settings.unwrapped
+            or converter.chooser.choices or converter.chooser.where or any(it in places for it in OWN))
         self.converter, self.width = converter, converter.width
         self.first_cell = converter.header[0] if converter.header else ""
         at = {label: place for place, label in enumerate(strict.LABELS)}

@@ -123,6 +123,8 @@ def guessed_columns(text: io.TextIOWrapper, shape: form.Form, columns: labels.Co
         found["embargo"] = columns.guess(cells, "embargo_info", unused.is_embargo)
     if "publication_title" not in columns.places:
         found["titles"] = columns.guess_title(cells)
+    if "coverage" not in columns.places and not any(it in columns.places for it in DATES):
+        columns.find_marks(cells, unused.range_of, unused.is_mark)
     columns.keep_dates(cells, lambda cell: bool(dates.YEARS.search(cell)))
     return [f"no label says which column has the {what}: it is guessed to be {header!r}"
             for what, header in found.items() if header]
@@ -261,7 +263,9 @@ def form_warnings(shape: form.Form, shown: str, columns: labels.Columns, order: 
     elif shape.separator != "tab":
         warnings.append(f"{shape.separator} in place of tab")
     for label in columns.twice:
-        how = "the numbers of all count" if label in NUMBERS else "the first with a value counts"
+        is_joined = label == "coverage" and not any(labels.is_own(columns.header[it]) for it in columns.places[label])
+        how = "the numbers of all count" if label in NUMBERS else \
+            "all count" if is_joined else "the first with a value counts"
         warnings.append(f"several columns are {label}: {how}")
     if not order.fixed and len(order.seen) > 1:
         warnings.append("some dates have the day first, and some the month: only their year counts. A map decides it")

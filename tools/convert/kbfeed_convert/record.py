@@ -9,7 +9,7 @@ from . import coverage, dates, form, identifiers, jsonlist, kinds, strict, unuse
 from .choosing import Chooser
 from .coverage import Range
 from .identifiers import Number
-from .labels import PARTS, WORDS, Columns, has_word, rank
+from .labels import PARTS, WORDS, Columns, has_word, is_own, rank
 from .texts import folded, forget, plain, word_set
 from .tokens import MEANINGS, NONE
 
@@ -29,12 +29,11 @@ TEXTS = [it for it in strict.LABELS if it not in OWN_RULE]
 LONG = 2_000
 # The characters of the longest date that reads as it is.
 DATE = len("2001-12-31")
-# The columns of single years that a list has at least.
-LEAST_YEARS = 3
 # More rows of one record are not made: a cell of numbers beside a cell of ranges multiply.
 MOST_ROWS = 1_000
 
 
+VOLUME_YEAR = re.compile(r"\s*([0-9]{1,4}) ?/ ?([0-9]{4})\s*")
 # `12 (1990)`
 NUMBER_FIRST = re.compile(r"\s*[0-9]{1,4} ?\([^()0-9]*[0-9]{4}[^()0-9]*\)\W*")
 # The words of an access that is free.
@@ -141,11 +140,13 @@ class Converter:
                                               else self.width for label in strict.LABELS))
         # The columns with the dates of citations, beside those of full text.
         self.cited = [(at, end_of(header)) for at, header in columns.left_over()
-                      if {*folded(header).split()} & CITED and any(it in places for it in DATES) and not self.is_kbart]
-        # The columns of single years, in which a mark says that the year is held.
-        years = [(at, header.strip()) for at, header in columns.left_over() if dates.YEARS.fullmatch(header.strip())]
-        self.years = years if len(years) >= LEAST_YEARS and not self.is_kbart else []
+                      if {*folded(header).split()} & CITED and any(it in places for it in (*DATES, "coverage"))
+                      and not self.is_kbart]
         self.groups = groups(columns) if not self.is_kbart else []
+        # The dates with a volume before the year, by their headers.
+        self.numbered = {label for label in DATES for place in places.get(label, [])[:1] if not self.is_kbart
+                         and {*WORDS["volume"]} & (said := {*folded(columns.header[place]).split()})
+                         and {*WORDS["calendar"]} & said and not any(it in places for it in VOLUMES)}
         self.has_parts = any(name in places for pair in PARTS for name in pair) and not self.is_kbart
         # The columns of a status, in which an end may be: `Cancelled, access until 2017`.
         self.status = [at for at, header in columns.left_over()
@@ -189,7 +190,8 @@ class Converter:
         kind, pairs = self.decided(draft, before)
         if not kind:
             word = draft.cells["publication_type"].strip()[:100]
-            why = f"the type {word!r} is neither a serial nor a book, and the record has no number"
+            why = f"the type {word!r} is not online" if kinds.is_offline(word) else \
+                f"the type {word!r} is neither a serial nor a book, and the record has no number"
             return Outcome([], "OtherType", why, [])
         ranges = [Range(draft.cells[DATES[0]], draft.cells[DATES[1]])]
         if kind == "serial":
@@ -335,7 +337,9 @@ class Converter:
     def sided(self, draft: Draft, found: Sides, cells: list[str]) -> Sides:
         """Returns numbers on the sides that words beside them say, as `2434-561X (online)`, or a record's medium."""
         said = {number: side for cell in cells for number, side in identifiers.sides(cell)}
-        medium = identifiers.side_of(self.columns.cell(draft.fields, "medium"))
+        kind = draft.cells["publication_type"]
+        medium = identifiers.side_of(self.columns.cell(draft.fields, "medium")
+                                     or ("" if folded(kind) in kinds.KINDS else kind))
         if medium and not said and not (found.print and found.online):
             said = dict.fromkeys([*found.print, *found.online], medium)
         if not said:
@@ -420,9 +424,17 @@ class Converter:
             draft.note("notes", note, GAP_NOT_READ)
         return said.gaps
 
+    def stated_cell(self, fields: list[str]) -> str:
+        """Returns the coverage in one cell. Of several columns all count, unless one is the library's own."""
+        places = self.columns.places.get("coverage", [])
+        if len(places) < 2 or any(is_own(self.columns.header[it]) for it in places) or self.chooser.choices:
+            return self.columns.cell(fields, "coverage")
+        cells = [fields[it].strip() for it in sorted(places) if it < len(fields)]
+        return "; ".join(dict.fromkeys(it for it in cells if it))
+
     def held(self, draft: Draft) -> list[Range]:
         """Returns the range of each row: several if a coverage in one cell has gaps, none if nothing of it reads."""
-        cell = self.columns.cell(draft.fields, "coverage") if "coverage" in self.columns.places else ""
+        cell = self.stated_cell(draft.fields)
         statement = self.read(cell) if folded(cell) not in dates.NONE else None
         if statement and not any(draft.cells[it].strip() for it in DATES):
             return self.stated(draft, cell, statement)
@@ -454,6 +466,8 @@ class Converter:
         for at, label in self.cited:
             for cell in draft.fields[at:at + 1]:
                 has_year = has_year or dates.YEARS.search(cell) is not None
+                if not label and (said := self.read(cell)).ranges and "coverage" in self.columns.places:
+                    found = {DATES[0]: said.ranges[0].first, DATES[1]: said.ranges[-1].last}
                 if label and label not in found:
                     found[label] = dates.read(cell, label == DATES[1], self.settings.order).text or ""
         return Range(*(found.get(it, "") for it in DATES)) if has_year else None
@@ -480,6 +494,11 @@ class Converter:
         """Returns the range of the two columns of dates."""
         for at, label in enumerate(DATES):
             cell = draft.cells[label]
+            if label in self.numbered and (parts := VOLUME_YEAR.fullmatch(cell)):
+                # `12/1995` below `Volume/Year`
+                draft.put(label, parts[2], "a number beside a date")
+                draft.put(VOLUMES[at], parts[1], "a number beside a date")
+                continue
             if label in self.several and len(given := self.columns.filled(draft.fields, label)) > 1:
                 draft.note(label, " | ".join(given), SEVERAL)
             found = dates.read(cell, bool(at), self.settings.order)
@@ -507,16 +526,15 @@ class Converter:
         return None
 
     def marked(self, draft: Draft) -> list[Range] | None:
-        """Returns the ranges of the years that are marked, each in its own column, or None if there are no such columns
-        or the record has dates."""
-        if not self.years or any(draft.cells[it].strip() for it in DATES):
+        """Returns the ranges that are marked, each in its own column, or None if there are no such columns."""
+        if not self.columns.marks:
             return None
         found: list[Range] = []
-        for at, year in sorted(self.years, key=lambda it: it[1]):
+        for at, first, last in self.columns.marks:
             if values.YES_NO.get(folded(draft.fields[at] if at < len(draft.fields) else "")) == "yes":
-                is_next_year = found and int(found[-1].last) + 1 == int(year)
-                found[-1:] = [found[-1]._replace(last=year)] if is_next_year else [*found[-1:], Range(year, year)]
-        draft.changes.append(Change("coverage", "", coverage.shown(found), "a mark for each year"))
+                is_next_one = bool(found) and dates.outside(found[-1].last, True) == first
+                found[-1:] = [found[-1]._replace(last=last)] if is_next_one else [*found[-1:], Range(first, last)]
+        draft.changes.append(Change("coverage", "", coverage.shown(found), "a mark for each range"))
         return found
 
     def grouped(self, draft: Draft) -> list[Range] | None:

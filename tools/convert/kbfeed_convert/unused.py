@@ -70,6 +70,19 @@ def is_dated_issue(cell: str) -> bool:
     return folded(cell) in dates.OPEN or dates.YEARS.search(cell) is not None and not cell.strip().isdecimal()
 
 
+def range_of(header: str) -> tuple[str, str] | None:
+    """Returns the first and the last date of a header that is a range, perhaps in brackets, or None."""
+    inside = re.search(r"\(([^()]*[0-9]{4}[^()]*)\)", header)
+    found = coverage.read(inside[1] if inside else header, "")
+    one = found.ranges[0] if len(found.ranges) == 1 and not found.unread and not found.embargo else None
+    return (one.first, one.last) if one and one.has_dates() else None
+
+
+def is_mark(cell: str) -> bool:
+    """Returns whether a cell says yes or no by a sign or a word. A digit may be a count."""
+    return folded(cell) in values.YES_NO and not cell.strip().isdecimal()
+
+
 def is_range(first: str, last: str) -> bool:
     """Returns whether the years of a first and a last date may be those of a range."""
     begins, ends = dates.YEARS.findall(first), dates.YEARS.findall(last)
