@@ -52,6 +52,9 @@ OUTSIDE = [re.compile(rf"(?:{'|'.join(sorted(TABLES['dates'][it], key=len, rever
 # A volume and its year, with a number above those of months.
 VOLUME_NOTATION = re.compile(rf"(?<![0-9./-])(?:1[3-9]|[2-9][0-9]|[1-9][0-9][0-9])\.{YEAR}(?![0-9./])")
 DAY = datetime.timedelta(days=1)
+# The number of a day in a spreadsheet: those of 1927 to 2036 have five digits.
+SERIAL = re.compile("[1-4][0-9]{4}")
+FIRST_SERIAL = datetime.date(1899, 12, 30)
 
 NOT_READ = "a date that does not read is open"
 UNDECIDED = "day and month are not decided: the narrower"
@@ -156,6 +159,8 @@ def published(cell: str, order: str) -> str:
 
 def by_numbers(now: str, is_last: bool, order: str) -> Read | None:
     """Reads a date of numbers alone."""
+    if SERIAL.fullmatch(now):
+        return Read((FIRST_SERIAL + int(now) * DAY).isoformat(), "a day as a number of a spreadsheet")
     if found := DAY_FIRST.fullmatch(now):
         one, sign, two, year = int(found[1]), found[2], int(found[3]), int(found[4])
         if sign == "." or one > 12 >= two or one == two:
