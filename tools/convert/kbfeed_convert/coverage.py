@@ -430,7 +430,7 @@ class Reader:
             self.is_between = True
         elif "and" in means and self.is_between and point.has_date() and self.left is None:
             self.connect(at)
-        elif "and" in means and point.has_date() and self.has_date_ahead(at + 1):
+        elif "and" in means and point.has_date() and (self.has_date_ahead(at + 1) or self.is_month_next(at + 1)):
             self.end_piece()
         elif means & {"after", "before"}:
             if point.is_empty() and self.is_date_next(at + 1):
@@ -459,6 +459,11 @@ class Reader:
         elif not means or means <= {"open", "number", "unit", "recent", "current", "ago", "embargo", "volume", "issue"}:
             self.leave(token)
         return at + 1
+
+    def is_month_next(self, at: int) -> bool:
+        """Returns whether a month is at a place, and its day and its year are behind it: `and January 1, 2003`."""
+        rest = [it for it in self.tokens[at:at + 5] if it.text not in (".", ",")]
+        return len(rest) > 2 and "month" in rest[0].meanings and rest[1].kind == "int" and rest[2].kind == "year"
 
     def is_date_next(self, at: int) -> bool:
         """Returns whether a date is at a place, perhaps behind a day and a month."""
@@ -545,6 +550,8 @@ class Reader:
         """Returns whether a comma or such a sign ends a range: what is before it is whole, and a date follows."""
         if self.tokens[at].text == ":" and self.point.is_empty():
             return False
+        if self.point.has_date() and self.is_month_next(at + 1):
+            return True
         following = self.ahead(at + 1, ",;|&")
         if any(is_negation(it) for it in following[:4]) and self.has_date_ahead(at + 1):
             return True

@@ -42,6 +42,7 @@ FREE = word_set("access", "F")
 ENDS = {*WORDS["first"], *WORDS["last"], *WORDS["calendar"]}
 # What is between the dates of one cell, and the rules by which it may have two.
 PART_END = re.compile(r"[|;\r\n｜；]+")
+SIGNS = re.compile(r"[|;,\r\n｜；，]")
 IN_PAIRS = {"two years in a date", "a range in one cell"}
 # The rules by which a date was found beside other texts.
 IN_TEXTS = {"the name of a month", "a date in a text", "a year in a text"}
@@ -540,6 +541,8 @@ class Converter:
     def grouped(self, draft: Draft) -> list[Range] | None:
         """Returns a range for each group of columns with dates, as those of an archive and of what is current, or None
         if the record has only one."""
+        if not self.groups:
+            return None
         found = []
         for places in self.groups:
             cells = [draft.fields[it] if 0 <= it < len(draft.fields) else "" for it in places]
@@ -560,6 +563,8 @@ class Converter:
         """Returns the ranges of two columns of dates that have several each, as `1975|1985` and `1980|`, or None.
 
         A pair of which a date does not read is left out. If one has more than the other, the narrowest range counts."""
+        if not SIGNS.search(draft.cells[DATES[0]] + draft.cells[DATES[1]]):
+            return None
         sides = [several_of(draft.cells[it]) for it in DATES]
         if not any(sum(dates.YEARS.search(it) is not None for it in cells) > 1 for cells in sides if len(cells) > 1):
             return None
