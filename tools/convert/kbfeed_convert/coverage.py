@@ -349,6 +349,11 @@ class Reader:
             self.leave(token)
             self.is_spoilt = True
             return
+        if self.is_behind_numbers(at):
+            # `v.1-v.10 1990-1999`
+            self.end_range()
+            self.date(token, at)
+            return
         if token.kind == "my":
             parts = re.split("[./-]", token.text)
             number, year, last = int(parts[0]), parts[1], found[1][:4]
@@ -378,6 +383,13 @@ class Reader:
             (point.volume if point.volume == [""] else point.issue).clear()
         point.dates.append(found)
         point.date_at = point.count
+
+    def is_behind_numbers(self, at: int) -> bool:
+        """Returns whether the range of dates that begins at a place is behind one of numbers."""
+        rest = self.tokens[at + 1:at + 3]
+        return (self.left is not None and not self.left.has_date() and bool(self.left.volume)
+                and not self.point.has_date() and bool(self.point.volume) and self.depth == 0
+                and len(rest) == 2 and self.is_connector(rest[0]) and rest[1].kind in DATES)
 
     def has_issue_behind(self, at: int) -> bool:
         """Returns whether an issue follows a date, as in `1.1990,2`: the number before the year is a volume."""
@@ -449,6 +461,10 @@ class Reader:
                 and self.tokens[at - 1].kind in ("int", "pair"):
             # `193O` is not a number.
             self.leave(token)
+        elif "not" in means and self.left is not None and point.has_date() and self.is_date_next(at + 1):
+            # `1990 to 1999 without 1995`
+            self.end_range()
+            self.is_missing = True
         elif "not" in means:
             self.is_negated = True
         elif "lesser" in means:

@@ -49,6 +49,9 @@ COUNTED = re.compile(r"\(? ?\bcurrent(?: year| date)? ?(?:-|minus|less) ?([0-9]{
 COUNTED_UNITS = re.compile(r"\b(?:present|today|now|date) ?(?:minus|less) ?([0-9]{1,3}) ?(year|yr|month|week|day)s?\b")
 # `1995-01-01/2004-12-31`, and `after 12 months`.
 INTERVAL = re.compile(r"(?<=[0-9]{4}-[0-9]{2}-[0-9]{2})/(?=[0-9]{4}-)")
+# `9999-12-31` is no end, and `pre-2000` is before a year.
+FOREVER = re.compile(r"(?<![0-9])9999(?:[-/.]12[-/.]31)?(?![0-9])")
+AROUND = re.compile(r"\b(?:pre|post)-(?=[0-9]{4}(?![0-9]))")
 AFTER = re.compile(r"\bafter (?=(?:an? |the |first |initial )?[0-9]{1,3}[ -]?(?:day|week|month|year))")
 LAST_YEAR = re.compile(r"(?<=[-o] )(?:the )?(?:last|previous|prior) year\b")
 # An ending in brackets, as of `year(s)`, and one with an apostrophe, as of `1995'ten`.
@@ -91,7 +94,8 @@ def simplified(cell: str) -> str:
     text = DAY_MONTH.sub(lambda it: f"{it[1]} {it[2]} " if it[2] in MONTHS else it[0], text)
     text = MONTH_YEAR.sub(lambda it: f"{it[1]} " if it[1] in MONTHS else it[0], text)
     text = YEAR_MONTH.sub(lambda it: f"{it[1]} {it[2]}" if it[2] in MONTHS else it[0], text)
-    text = INTERVAL.sub(" - ", text)
+    text = FOREVER.sub("present", INTERVAL.sub(" - ", text.replace("post-cancel", "postcancel")))
+    text = AROUND.sub(lambda it: "before " if it[0] == "pre-" else "after ", text)
     if "year" in text or "month" in text or "current" in text:
         text = COUNTED_UNITS.sub(r"\1 \2 ago", AFTER.sub("embargo ", text))
         text = LAST_YEAR.sub("1 year ago", COUNTED.sub(lambda it: f" {it[1]} {it[2] or 'year'} ago", text))
