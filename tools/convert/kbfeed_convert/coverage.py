@@ -531,6 +531,9 @@ class Reader:
             self.depth = max(0, self.depth - 1)
             if self.is_missing or self.left is not None and self.left.is_empty():
                 self.end_piece()
+        elif text == "/" and self.is_cut_date(at):
+            self.leave(token)
+            self.is_spoilt = True
         elif text == "+" and self.point.has_date():
             self.open_end()
         elif text not in KNOWN and not self.is_paired(at):
@@ -538,6 +541,12 @@ class Reader:
             self.leave(token)
             self.is_spoilt = True
         return at + 1
+
+    def is_cut_date(self, at: int) -> bool:
+        """Returns whether a slash is between a day and a month and a year that does not read, as in `12/31/196?`."""
+        around = self.tokens[max(at - 1, 0):at + 2]
+        return (len(around) == 3 and around[0].kind == "pair" and around[2].kind == "int" and not around[1].is_apart
+                and not around[2].is_apart)
 
     def is_paired(self, at: int) -> bool:
         """Returns whether a sign is one of the brackets in `<2001>`."""

@@ -9,7 +9,7 @@ from typing import Any, Callable, NamedTuple
 
 from . import coverage, dates, kinds, labels, strict, values, volumes
 from .form import Record
-from .record import (DATE, DATES, IN_PAIRS, ISSUES, LONG, NUMBERS, PUBLISHED, VOLUMES, WIDENING, Converter,
+from .record import (DATE, DATES, IN_PAIRS, ISSUES, LONG, NUMBERS, PUBLISHED, SIGNS, VOLUMES, WIDENING, Converter,
                      has_number_beside, has_year_beside)
 from .report import change_text
 from .texts import SIZE
@@ -172,7 +172,7 @@ def kind(cell: str, default: str) -> Cell | None:
 
 def date(label: str, is_last: bool, order: str, cell: str) -> Cell | None:
     """Reads a date, if the reader takes the same from it as before, or took nothing."""
-    if len(cell) > DATE:
+    if len(cell) > DATE or SIGNS.search(cell):
         return None
     found = dates.read(cell, is_last, order)
     text = found.text or ""

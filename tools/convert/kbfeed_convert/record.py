@@ -566,7 +566,8 @@ class Converter:
         if not SIGNS.search(draft.cells[DATES[0]] + draft.cells[DATES[1]]):
             return None
         sides = [several_of(draft.cells[it]) for it in DATES]
-        if not any(sum(dates.YEARS.search(it) is not None for it in cells) > 1 for cells in sides if len(cells) > 1):
+        if not any(sum(len(re.findall("[0-9]", it)) > 2 for it in cells) > 1 for cells in sides):
+            # Three digits may be a spoilt year.
             return None
         found = [[dates.read(cell, bool(at), self.settings.order) for cell in cells] for at, cells in enumerate(sides)]
         if any(it.rule in IN_PAIRS for side in found for it in side):
