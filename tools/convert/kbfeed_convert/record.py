@@ -36,6 +36,9 @@ MOST_ROWS = 1_000
 VOLUME_YEAR = re.compile(r"\s*([0-9]{1,4}) ?/ ?([0-9]{4})\s*")
 # `12 (1990)`
 NUMBER_FIRST = re.compile(r"\s*[0-9]{1,4} ?\([^()0-9]*[0-9]{4}[^()0-9]*\)\W*")
+# `v.54(2)`, and brackets behind a volume with anything but the number of an issue, as `(Suppl)` and `(2-3)`.
+NUMBER = re.compile(r"([^\W\d]+)?[. ]*[0-9]{1,4} ?(\((?![^()]*[0-9]{4})[^()]*\))?")
+PART_OF_VOLUME = re.compile(r"(?<=[0-9])\((?![0-9]+\)|[^()]*[0-9]{4})[^()]*\)")
 # The words of an access that is free.
 FREE = word_set("access", "F")
 # The words of the two ends of a range in headers.
@@ -566,8 +569,7 @@ class Converter:
         if not SIGNS.search(draft.cells[DATES[0]] + draft.cells[DATES[1]]):
             return None
         sides = [several_of(draft.cells[it]) for it in DATES]
-        if not any(sum(len(re.findall("[0-9]", it)) > 2 for it in cells) > 1 for cells in sides):
-            # Three digits may be a spoilt year.
+        if not any(len(dated(cells)) > 1 for cells in sides):
             return None
         found = [[dates.read(cell, bool(at), self.settings.order) for cell in cells] for at, cells in enumerate(sides)]
         if any(it.rule in IN_PAIRS for side in found for it in side):
@@ -590,10 +592,13 @@ class Converter:
         return [it for it in narrow if not it.is_reversed()][-1:] if end or is_read else []
 
     def numbers_beside(self, draft: Draft, cell: str, at: int) -> None:
-        """Puts the volume and the issue that are beside a date, as in `v.23 n.1 (Jan 1996)`, if no column has them."""
-        said = self.read(cell)
+        """Puts the volume and the issue that are beside a date, as in `v.23 n.1 (Jan 5, 1996)`, if no column has them,
+        and the day of that date."""
+        said = self.read(PART_OF_VOLUME.sub("", cell))
         if said.unread or len(said.ranges) != 1:
             return
+        if said.ranges[0][at].startswith(draft.cells[DATES[at]]):
+            draft.put(DATES[at], said.ranges[0][at], "a day beside a number")
         for labels, numbers in ((VOLUMES, said.ranges[0][2:4]), (ISSUES, said.ranges[0][4:6])):
             if numbers[at] and labels[at] not in self.columns.places:
                 draft.put(labels[at], numbers[at], "a number beside a date")
@@ -679,6 +684,21 @@ def several_of(cell: str) -> list[str]:
     if len(parts) == 1 and "," in parts[0] and not re.search("[^0-9,./ -]", parts[0]):
         return [it.strip() for it in parts[0].split(",")]
     return parts
+
+
+def dated(parts: list[str]) -> list[str]:
+    """Returns the parts of a cell that may be dates: three digits may be a spoilt year. Beside a date, `v.54(2)` and
+    `v.2014` are none."""
+    found = [it for it in parts if len(re.findall("[0-9]", it)) > 2]
+    bare = [it for it in found if not is_number(it)]
+    return bare or [it for it in found if dates.YEARS.search(it)]
+
+
+def is_number(part: str) -> bool:
+    """Returns whether a part of a cell is a volume with its word, or with its issue in brackets."""
+    found = NUMBER.fullmatch(part)
+    return found is not None and bool(MEANINGS.get(folded(found[1]), NONE) & {"volume", "issue"} if found[1]
+                                      else found[2])
 
 
 def has_number_beside(cell: str, rule: str) -> bool:
