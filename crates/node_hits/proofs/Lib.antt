@@ -17,6 +17,7 @@ pub mod AskedRows
 pub mod LooksPlaced
 pub mod TitlesAsked
 pub mod LinksKept
+pub mod HitsMade
 pub mod SoleHits
 pub mod SfxStructure
 pub mod SfxFound

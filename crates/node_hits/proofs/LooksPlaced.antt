@@ -1,12 +1,11 @@
 -- A search finds the same at the places of a query's identifiers as in the rows that have them.
-use Rattle.std.proofs.Common.{◌≡◌, ◌+◌, ◌-◌, ℕ, zero, suc, Bool, true, false, List, [], ◌∷◌, ◌++◌, Option, Some, None, refl, sym, ap, ◌∙◌, arith, length, map, take, append_assoc}
+use Rattle.std.proofs.Common.{◌≡◌, ◌+◌, ◌-◌, ℕ, zero, suc, Bool, true, false, List, [], ◌∷◌, ◌++◌, Option, Some, None, refl, sym, ap, ◌∙◌, arith, length, map, append_assoc}
 use Rattle.std.specs.Prelude.{◌≤◌, ◌&&◌, not, if◌then◌else◌, filter, nat_le, option_map, slice_get}
 use Rattle.std.specs.List.{cons_option, enumerate_from, filter_map}
 use Rattle.std.specs.Option.{option_and_then}
 use Rattle.std.proofs.lemmas.Bool.Decides.{nat_tests}
 use Rattle.std.proofs.lemmas.List.{take_all}
 use Rattle.feed_answer.specs.Today.{TodayValue}
-use Rattle.feed_dates.specs.declared.day_range.DayRange.{DayRange}
 use Rattle.feed_kbart.specs.HoldingsValue.{HoldingsValue}
 use Rattle.feed_kbart.specs.Identifiers.{kind}
 use Rattle.feed_kbart.specs.Places.{place_by, places_by}

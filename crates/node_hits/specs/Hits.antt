@@ -17,7 +17,7 @@ use Rattle.feed_answer.specs.HitValue.{HitValue}
 use Rattle.feed_answer.specs.QueryValue.{QueryValue}
 use Rattle.feed_answer.specs.declared.grade.Grade.{Grade}
 use Rattle.feed_answer.specs.declared.grade.Grade.TheVariants.{Inside, Overlap, Untested}
-use Rattle.node_site.specs.Articles.{article_link}
+use Rattle.node_site.specs.Articles.{CitedLinksValue, article_link, with_title_id}
 use Rattle.node_site.specs.Held.{library_has}
 use Rattle.node_site.specs.Notes.{note_on}
 use Rattle.node_site.specs.Packages.{package_place}
@@ -25,7 +25,7 @@ use Rattle.node_site.specs.Proxies.{PrefixValue, is_direct, prefix_for, through}
 use Rattle.node_site.specs.Requests.{CitedTitleValue}
 use Rattle.node_site.specs.Site as site_file
 use Rattle.node_site.specs.Hosts.{is_link}
-use Rattle.node_hits.specs.Searches.{SearchValue, compared, is_dated, is_first_as, whole_titles, with_title_id}
+use Rattle.node_hits.specs.Searches.{SearchValue, compared, is_dated, is_first_as, whole_titles}
 use Rattle.node_hits.specs.declared.search.Scope.{Scope}
 use Rattle.node_hits.specs.declared.search.Scope.TheVariants.{Hits, Dated, Others}
 
@@ -101,11 +101,20 @@ leads_to_article scope availability row = is_for_hits scope && (is_open_or_unkno
 abbrev pub cited_in : SearchValue → RowValue → CitedTitleValue
 cited_in search row = with_title_id row.title_id search.cited
 
+-- the link to the article that a query cites in a row of this release, if it has a known length
+abbrev pub article_if : Option ℕ → site_file.SiteValue → CitedTitleValue → Name → RowValue → Option (List ℕ)
+article_if None site cited name row = None
+article_if (Some len) site cited name row = article_link site name.package_name row.url (is_free row) (with_title_id row.title_id cited)
+
 -- the link to the article that a query cites in a row of this release, if the row leads to it
 abbrev pub article_of : site_file.SiteValue → SearchValue → Availability → Name → RowValue → Option (List ℕ)
 article_of site search availability name row =
     if leads_to_article search.scope availability row then article_link site name.package_name row.url (is_free row) (cited_in search row)
     else None
+
+-- the links of a site for a search
+abbrev pub links_of : site_file.SiteValue → SearchValue → CitedLinksValue
+links_of site search = record { site = site; cited = with_title_id [] search.cited }
 
 -- a hit of this release, for the readers of a library, today
 abbrev pub release_hit : site_file.SiteValue → TodayValue → SearchValue → Name → HitValue → ReleaseHitValue
@@ -236,8 +245,11 @@ link_with rank url = record { rank = rank; url = url }
 abbrev pub link_url : LinkValue → List ℕ
 link_url link = link.url
 
+abbrev pub own_link : ReleaseHitValue → LinkValue
+own_link found = link_with (rank_of found) (link_text found)
+
 abbrev pub link_of : ReleaseHitValue → Option LinkValue
-link_of found = if is_link (link_text found) then Some (link_with (rank_of found) (link_text found)) else None
+link_of found = if is_link (link_text found) then Some (own_link found) else None
 
 -- the one of higher rank; of equals the first
 abbrev pub better : Option LinkValue → Option LinkValue → Option LinkValue

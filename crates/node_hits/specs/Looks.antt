@@ -1,5 +1,5 @@
 -- The rows that a search looks at, and what it finds in them.
-use Rattle.std.specs.Prelude.{ℕ, ◌+◌, ◌-◌, ◌/◌, ◌&&◌, nat_le, Bool, true, false, if◌then◌else◌, List, [], ◌∷◌, Option, Some, None, filter, length, map, take}
+use Rattle.std.specs.Prelude.{ℕ, ◌+◌, ◌-◌, ◌/◌, ◌&&◌, nat_le, Bool, true, false, if◌then◌else◌, List, [], ◌∷◌, Option, Some, None, length, map, take}
 use Rattle.std.specs.List.{filter_map}
 use Rattle.feed_answer.specs.Today.{TodayValue}
 use Rattle.feed_kbart.specs.Places.{places_by}

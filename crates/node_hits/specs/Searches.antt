@@ -21,10 +21,6 @@ pub record SearchValue : Type 0 where
   pub is_book_first : Bool
   pub cited : CitedTitleValue
 
--- a citation, for a row with this `title_id`
-abbrev pub with_title_id : List ℕ → CitedTitleValue → CitedTitleValue
-with_title_id id cited = record cited { title_id = id }
-
 -- the same query in another scope
 abbrev pub in_scope : Scope → SearchValue → SearchValue
 in_scope scope search = record search { scope = scope }

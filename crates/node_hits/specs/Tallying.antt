@@ -1,5 +1,5 @@
 -- How a tally is made, one release after another.
-use Rattle.std.specs.Prelude.{ℕ, ◌+◌, ◌-◌, ◌<◌, ◌≤◌, ◌&&◌, ◌||◌, nat_lt, Bool, true, false, if◌then◌else◌, List, [], ◌∷◌, ◌++◌, Option, None, fold}
+use Rattle.std.specs.Prelude.{ℕ, ◌+◌, ◌-◌, ◌<◌, ◌≤◌, ◌&&◌, ◌||◌, nat_lt, Bool, true, false, if◌then◌else◌, List, [], ◌∷◌, ◌++◌, Option, Some, None, fold}
 use Rattle.std.specs.Prelude.{insert, length, option_map, reverse, take}
 use Rattle.node_hits.specs.Hits.{LinkValue, ReleaseHitValue, better, is_open, link_of, link_url, rank_of}
 use Rattle.std.specs.List.Sorted.{IsNonDecreasingBy, IsPartitionPoint}
@@ -20,6 +20,11 @@ with_shown shown found =
     if nat_lt 0 shown.places && nat_lt 0 (shown.bytes - text_size found)
     then record { hits = shown.hits ++ found ∷ []; places = shown.places - 1; bytes = shown.bytes - text_size found }
     else record { hits = shown.hits; places = 0; bytes = shown.bytes }
+
+-- a rank is above that of a link, if there is one
+abbrev pub is_above : ℕ → Option LinkValue → Bool
+is_above rank None = true
+is_above rank (Some link) = nat_lt link.rank rank
 
 -- with the link of one hit more
 abbrev pub with_link : Option LinkValue → ReleaseHitValue → Option LinkValue

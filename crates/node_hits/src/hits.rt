@@ -1,9 +1,8 @@
 //! A hit of a query, with its release, its availability and its links.
-ghost use Rattle.std.specs.Prelude.{◌≡◌, ◌-◌, IfOk, false, option_map};
-ghost use Rattle.std.specs.Bool.{OnFalse};
+ghost use Rattle.std.specs.Prelude.{◌≡◌, ◌-◌, [], IfOk, length, option_map};
 ghost use Rattle.std.specs.Cow.{cow_slice_items};
-ghost use Rattle.std.specs.Rc.{rc_slice_items};
 ghost use Rattle.feed_answer.specs.HitValue.{hit_of};
+ghost use Rattle.node_site.specs.Articles.{with_title_id};
 ghost use Rattle.node_site.specs.Held.{library_has};
 ghost use Rattle.node_site.specs.Hosts.{is_link};
 ghost use Rattle.node_site.specs.Packages.{package_place};
@@ -12,10 +11,11 @@ ghost use Rattle.feed_kbart.specs.Identifiers.{kind};
 ghost use Rattle.node_hits.specs.Hits.{days_asked, holds_day, holds_days, is_certain, is_found, is_held};
 ghost use Rattle.node_hits.specs.Hits.{article_of, article_text, is_for_hits, is_held_dated, is_open};
 ghost use Rattle.node_hits.specs.Hits.{is_open_or_unknown, is_readable, leads_to_article, may_be_full_text};
-ghost use Rattle.node_hits.specs.Hits.{link_text, name_text, page_text, rank_of, release_hit};
+ghost use Rattle.node_hits.specs.Hits.{link_text, links_of, name_text, page_text, rank_of, release_hit};
 ghost use Rattle.node_hits.specs.Searches.{whole_titles};
 
 use crate::coverage_grade::is_dated;
+use crate::lookup::Lookup;
 use crate::rank::{is_abstracts, is_free, is_full_text, is_word, rank_by};
 use crate::search::{Scope, Search};
 use feed_answer::{Availability, Grade, Hit, Query, Today, availability_of};
@@ -23,13 +23,12 @@ use feed_dates::DayRange;
 use feed_kbart::{Holdings, Kind, Row};
 use feed_names::ReleaseName;
 use node_site::{
-    Prefix, SiteFile, SiteLinks, again, is_direct, left_beside, library_has, may_be_link, note_on,
-    shared, through,
+    CitedLinks, Prefix, SiteFile, again, article_link, is_direct, is_link, left_beside,
+    library_has, may_be_link, note_on, through,
 };
 use std::alloc::{AllocError, Global};
 use std::borrow::CowSlice;
 use std::marker::Model;
-use std::rc::RcSlice;
 
 /// A release among those of a library, on a day.
 #[derive(Clone, Copy)]
@@ -42,19 +41,21 @@ pub struct LibraryRelease<'a> {
 
 /// A hit, its release, the days that are asked for of it, how those lie in the days that are open to readers, its
 /// links, the note for readers, the place of its package in the order of the site, whether the library has all the days
-/// that are asked for, and whether it is a book that comes before its series. The link to its page, the note, and
-/// whether the library has all days, are computed when they are asked for: most hits of a long answer are only counted.
+/// that are asked for, and whether it is a book that comes before its series. The links, the note, and whether the
+/// library has all days, are computed when they are asked for: most hits of a long answer are only counted.
 #[derive(Drop)]
 pub struct ReleaseHit<'a> {
     site: &'a SiteFile,
     name: &'a ReleaseName,
     row: &'a Row,
+    lookup: &'a Lookup<'a>,
     asked: Option<DayRange>,
     grade: Grade,
     availability: Availability,
     // The prefix of the link to its page.
     prefix: Option<Prefix<'a>>,
-    article: Option<RcSlice<u8>>,
+    // The bytes of the link to the article, if there is one.
+    article: Option<usize>,
     place: usize,
     is_first: bool,
     // Computed once, since it is compared with those of many other hits.
@@ -62,10 +63,9 @@ pub struct ReleaseHit<'a> {
 }
 
 impl<'a> Model for ReleaseHit<'a> {
-    ghost use Rattle.std.specs.Prelude.{◌≡◌, [], option_map, unwrap_or};
-    ghost use Rattle.std.specs.Rc.{rc_slice_items};
+    ghost use Rattle.std.specs.Prelude.{◌≡◌, [], length, option_map, unwrap_or};
     ghost use Rattle.node_site.specs.Notes.{note_on};
-    ghost use Rattle.node_hits.specs.Hits.{ReleaseHitValue, holds_days, rank_by};
+    ghost use Rattle.node_hits.specs.Hits.{ReleaseHitValue, article_if, holds_days, rank_by};
 
     ghost Value = { ReleaseHitValue };
 
@@ -75,14 +75,15 @@ impl<'a> Model for ReleaseHit<'a> {
       asked = f.asked;
       availability = f.availability;
       prefix = f.prefix;
-      article = option_map rc_slice_items f.article;
+      article = article_if f.article f.site.now f.lookup.now.cited f.name.now f.row.now;
       note = unwrap_or (note_on f.site.now f.name.now.package_name f.row.now.title_id) [];
       place = f.place;
       is_held_whole = holds_days f.site.now f.name.now f.row.now f.asked;
       is_first = f.is_first;
     } };
 
-    ghost invariant = { λ f. f.rank ≡ rank_by f.is_first f.availability f.grade f.row.now f.place };
+    ghost invariant = { λ f. (f.rank ≡ rank_by f.is_first f.availability f.grade f.row.now f.place)
+        × (f.article ≡ option_map length (article_if f.article f.site.now f.lookup.now.cited f.name.now f.row.now)) };
 }
 
 impl<'a> ReleaseHit<'a> {
@@ -91,23 +92,22 @@ impl<'a> ReleaseHit<'a> {
         alloc: Global,
         release: &LibraryRelease<'a>,
         site_place: usize,
-        search: &mut Search<'_>,
-        links: &mut SiteLinks<'a>,
+        search: &Search<'a>,
+        links: &mut CitedLinks<'a>,
         hit: &Hit<'a>,
     ) -> Result<ReleaseHit<'a>, AllocError>
         requires place { site_place ≡ package_place release.now.site.now release.now.name.now.package_name }
-        requires of { links.old ≡ release.now.site.now }
-        ensures same { search.new ≡ search.old }
-        ensures site { links.new ≡ links.old }
+        requires of { links.old ≡ links_of release.now.site.now search.now }
+        ensures same { links.new ≡ links.old }
         ensures hit { IfOk result (λ found. found
-            ≡ release_hit release.now.site.now release.now.today.now search.old release.now.name.now
+            ≡ release_hit release.now.site.now release.now.today.now search.now release.now.name.now
             (hit_of hit.now)) }
     {
         let (site, name, row) = (release.site, release.name, hit.row);
         let (first, last) = (row.first_day(), row.last_day());
         let days = search.days();
         let availability = availability_of(release.today, row.embargo(), first, last, days);
-        let article = article_of(alloc, search, links, availability, name, row)?;
+        let article = article_len(alloc, search, links, availability, name, row)?;
         let is_direct = is_direct(site, name.package(), is_free(row));
         let prefix = links.prefix_for(alloc, row.url(), is_direct)?;
         let kind = row.kind();
@@ -116,6 +116,7 @@ impl<'a> ReleaseHit<'a> {
             site,
             name,
             row,
+            lookup: search.lookup(),
             asked: days_asked(kind, days),
             grade: hit.grade,
             availability,
@@ -128,31 +129,57 @@ impl<'a> ReleaseHit<'a> {
     }
 
     /// Returns the same hit again.
-    pub(crate) fn again(&self) -> Result<ReleaseHit<'a>, AllocError>
-        ensures { IfOk result (λ found. found ≡ self.now) }
+    pub(crate) fn again(&self) -> ReleaseHit<'a>
+        ensures { result ≡ self.now }
     {
-        Ok(ReleaseHit {
+        ReleaseHit {
             site: self.site,
             name: self.name,
             row: self.row,
+            lookup: self.lookup,
             asked: self.asked,
             grade: self.grade,
             availability: self.availability,
             prefix: again(&self.prefix),
-            article: shared(&self.article)?,
+            article: self.article,
             place: self.place,
             is_first: self.is_first,
             rank: self.rank,
-        })
+        }
+    }
+
+    /// Returns how many bytes the link to the article has, if there is one.
+    pub(crate) fn article_len(&self) -> usize
+        ensures { result ≡ length (article_text self.now) }
+    {
+        self.article.unwrap_or(0)
+    }
+
+    // Returns the link to the article, if there is one.
+    fn article(&self, alloc: Global) -> Result<Option<Vec<u8>>, AllocError>
+        ensures { IfOk result (λ link. option_map (λ text. text.items) link ≡ self.now.article) }
+    {
+        match self.article {
+            Some(_) => {
+                let cited = self.lookup.cited(self.row.title_id());
+                let (id, url) = (self.name.package(), self.row.url());
+                article_link(alloc, self.site, id, url, is_free(self.row), &cited)
+            }
+            None => Ok(None),
+        }
     }
 
     /// Returns the link to the article, or nothing.
-    pub fn article_text(&self) -> &[u8]
-        ensures { result.now ≡ article_text self.now }
+    ///
+    /// # Errors
+    ///
+    /// Running out of memory.
+    pub fn article_text(&self, alloc: Global) -> Result<Vec<u8>, AllocError>
+        ensures { IfOk result (λ text. text.items ≡ article_text self.now) }
     {
-        match &self.article {
-            Some(link) => link,
-            None => b"",
+        match self.article(alloc)? {
+            Some(link) => Ok(link),
+            None => Ok(Vec::new(alloc)),
         }
     }
 
@@ -164,23 +191,27 @@ impl<'a> ReleaseHit<'a> {
     }
 
     /// Returns the link of the hit: to the article, or else to its page.
-    pub fn link<'s>(&'s self, alloc: Global) -> Result<CowSlice<'s, u8, Global>, AllocError>
+    pub fn link(&self, alloc: Global) -> Result<CowSlice<'a, u8, Global>, AllocError>
         ensures { IfOk result (λ link. cow_slice_items link ≡ link_text self.now) }
     {
-        match &self.article {
-            Some(link) => Ok(CowSlice::Borrowed(link)),
+        match self.article(alloc)? {
+            Some(link) => Ok(CowSlice::Owned(link)),
             None => self.page(alloc),
         }
     }
 
-    /// Returns false only if the link of the hit is not safe. Does not write it.
-    pub(crate) fn may_have_link(&self) -> bool
-        ensures { OnFalse result (is_link (link_text self.now) ≡ false) }
+    /// Returns whether the link of the hit is safe. Does not write that to the article.
+    pub(crate) fn has_link(&self, alloc: Global) -> Result<bool, AllocError>
+        ensures { IfOk result (λ is_safe. is_safe ≡ is_link (link_text self.now)) }
     {
-        match &self.article {
-            Some(_) => true,
-            None => may_be_link(&self.prefix, self.row.url()),
+        if self.article.is_some() {
+            return Ok(true);
         }
+        if !may_be_link(&self.prefix, self.row.url()) {
+            return Ok(false);
+        }
+        let page = self.page(alloc)?;
+        Ok(is_link(&page))
     }
 
     /// Returns how many of some bytes are left beside the link to the page of the hit.
@@ -302,22 +333,23 @@ fn leads_to_article(scope: Scope, availability: Availability, row: &Row) -> bool
     is_for_hits(scope) && (is_open_or_unknown(availability) && may_be_full_text(row))
 }
 
-// Returns the link to the cited article in a row, if the row leads to it.
-fn article_of(
+// Returns how many bytes the link to the cited article has in a row, if the row leads to it and has one.
+fn article_len(
     alloc: Global,
-    search: &mut Search<'_>,
-    links: &mut SiteLinks<'_>,
+    search: &Search<'_>,
+    links: &mut CitedLinks<'_>,
     availability: Availability,
     name: &ReleaseName,
     row: &Row,
-) -> Result<Option<RcSlice<u8>>, AllocError>
-    ensures same { search.new ≡ search.old }
-    ensures site { links.new ≡ links.old }
-    ensures link { IfOk result (λ link. option_map rc_slice_items link
-        ≡ article_of links.old search.old availability name.now row.now) }
+) -> Result<Option<usize>, AllocError>
+    requires { links.old.cited ≡ with_title_id [] search.now.cited }
+    ensures same { links.new ≡ links.old }
+    ensures len { IfOk result (λ len. len
+        ≡ option_map length (article_of links.old.site search.now availability name.now row.now)) }
 {
     if leads_to_article(search.scope(), availability, row) {
-        search.article_link(alloc, links, name, row)
+        let (id, url) = (name.package(), row.url());
+        links.article_len(alloc, id, url, is_free(row), row.title_id())
     } else {
         Ok(None)
     }

@@ -203,10 +203,11 @@ fn put_object(out: &mut Vec<u8>, end: &[u8], found: &ReleaseHit<'_>) -> Result<(
     let row = found.row();
     let words = embargo_words(*out.allocator(), row.embargo())?;
     let page = found.page(*out.allocator())?;
+    let article = found.article_text(*out.allocator())?;
     put_release_members(out, found.name())?;
     put_grade_members(out, found)?;
     put_row_members(out, row, &page)?;
-    put_access_members(out, row, &words, found.article_text(), found.note(), end)
+    put_access_members(out, row, &words, &article, found.note(), end)
 }
 
 fn put_objects(out: &mut Vec<u8>, end: &[u8], hits: &[RankedHit<'_>]) -> Result<(), AllocError>

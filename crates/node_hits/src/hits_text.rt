@@ -2,6 +2,7 @@
 ghost use Rattle.std.specs.Prelude.{◌≡◌, ◌≤◌, ◌++◌, OnOk, drop, true};
 ghost use Rattle.std.specs.List.{flat_map};
 ghost use Rattle.feed_names.specs.ReleaseName.{text_of};
+ghost use Rattle.node_hits.specs.Hits.{links_of};
 ghost use Rattle.node_hits.specs.HitsText.{cut_head_line, release_head_line, release_hit_line, release_text};
 ghost use Rattle.node_hits.specs.Looks.{release_found};
 ghost use Rattle.node_hits.specs.Tallying.{tally_from, with_release};
@@ -14,7 +15,7 @@ use feed_answer::{write_head, write_hit};
 use feed_bytes::put_all;
 use feed_names::ReleaseName;
 use node_response::Fragment;
-use node_site::SiteLinks;
+use node_site::CitedLinks;
 use std::alloc::{AllocError, Global};
 
 #[tactic(auto, unfolding(crate::specs::HitsText::cut_head_line))]
@@ -89,16 +90,15 @@ pub fn put_release<'a>(
     out: &mut Vec<u8>,
     tally: &mut Tally<'a>,
     release: &LibraryRelease<'a>,
-    search: &mut Search<'_>,
-    links: &mut SiteLinks<'a>,
+    search: &Search<'a>,
+    links: &mut CitedLinks<'a>,
     shares: Shares,
 ) -> Result<(), AllocError>
     requires rows { shares.rows ≤ 10000 }
-    requires site { links.old ≡ release.now.site.now }
-    ensures same { search.new ≡ search.old }
+    requires site { links.old ≡ links_of release.now.site.now search.now }
     ensures kept { links.new ≡ links.old }
     ensures tally { OnOk result (tally.new
-        ≡ with_release tally.old (release_found shares release.now.site.now release.now.today.now search.old
+        ≡ with_release tally.old (release_found shares release.now.site.now release.now.today.now search.now
         release.now.name.now release.now.holdings.now.rows)) }
     ensures text { OnOk result (out.new.items
         ≡ out.old.items ++ release_text (tally_from tally.old) (tally_from tally.new) release.now.name.now) }

@@ -88,7 +88,7 @@ fn first_isbn(alloc: Global, isbns: &[Isbn]) -> Result<Vec<u8>, AllocError>
 impl<'q> Lookup<'q> {
     ghost use Rattle.std.specs.Prelude.{option_copied};
     ghost use Rattle.node_hits.specs.Lookups.{search_of};
-    ghost use Rattle.node_hits.specs.Searches.{with_title_id};
+    ghost use Rattle.node_site.specs.Articles.{with_title_id};
 
     /// Returns the lookup for a query with this citation, with its date as it is understood.
     pub(crate) fn of(

@@ -1,26 +1,21 @@
 //! A search for the hits of a query, for the titles whose date is covered, or for those of other dates.
-ghost use Rattle.std.specs.Prelude.{◌≡◌, IfOk, option_map, true};
-ghost use Rattle.std.specs.Rc.{rc_slice_items};
+ghost use Rattle.std.specs.Prelude.{◌≡◌, option_map, true};
 ghost use Rattle.feed_answer.specs.HitValue.{hit_of};
 ghost use Rattle.feed_answer.specs.Places.{hit_at};
 ghost use Rattle.feed_answer.specs.QueryValue.{QueryValue};
-ghost use Rattle.node_site.specs.Articles.{article_link};
-ghost use Rattle.node_hits.specs.Hits.{cited_in, is_free};
+ghost use Rattle.node_hits.specs.Hits.{links_of};
 ghost use Rattle.node_hits.specs.Searches.{asked_hit_at, compared, in_scope, is_asked_at, is_first_as};
 ghost use Rattle.node_hits.specs.Searches.{whole_titles, without_volume};
 ghost use Rattle.node_hits.specs.declared.search.Scope.TheVariants as scope;
 
 use crate::coverage_grade::{asked_grade, dated_grade};
 use crate::lookup::Lookup;
-use crate::rank::is_free;
 use feed_answer::{Grade, Hit, Query};
 use feed_dates::DayRange;
 use feed_kbart::{Kind, Row};
-use feed_names::ReleaseName;
-use node_site::{ArticleAddresses, SiteLinks, article_link};
-use std::alloc::{AllocError, Global};
+use node_site::{CitedLinks, SiteFile};
+use std::alloc::Global;
 use std::marker::Model;
-use std::rc::RcSlice;
 
 /// Which rows of the titles that a query names are searched for.
 #[derive(Clone, Copy)]
@@ -38,19 +33,14 @@ pub enum Scope {
 pub struct Search<'a> {
     lookup: &'a Lookup<'a>,
     scope: Scope,
-    // The addresses of articles that were made for the citation.
-    addresses: ArticleAddresses,
 }
 
 impl<'a> Model for Search<'a> {
-    ghost use Rattle.node_site.specs.Articles.{AreMade, without_row};
     ghost use Rattle.node_hits.specs.Searches.{SearchValue, in_scope};
 
     ghost Value = { SearchValue };
 
     ghost view = { λ s. in_scope s.scope s.lookup.now };
-
-    ghost invariant = { λ s. AreMade (without_row s.lookup.now.cited) s.addresses };
 }
 
 // Returns the row at a place with its grade, if it exists and matches. Does not compare its identifiers.
@@ -84,35 +74,32 @@ fn title_at<'r>(rows: &'r [Row], place: u32) -> Option<Hit<'r>>
 
 impl<'a> Search<'a> {
     /// Returns the search for the hits of a query.
-    pub fn of(alloc: Global, lookup: &'a Lookup<'a>) -> Search<'a>
+    pub fn of(lookup: &'a Lookup<'a>) -> Search<'a>
         ensures { result ≡ lookup.now }
     {
         Search {
             lookup,
             scope: lookup.scope(),
-            addresses: ArticleAddresses::new(alloc),
         }
     }
 
     /// Returns the search for the rows that cover the date of a query, and do not have its volume.
-    pub fn dated(alloc: Global, lookup: &'a Lookup<'a>) -> Search<'a>
+    pub fn dated(lookup: &'a Lookup<'a>) -> Search<'a>
         ensures { result ≡ in_scope scope.Dated lookup.now }
     {
         Search {
             lookup,
             scope: Scope::Dated,
-            addresses: ArticleAddresses::new(alloc),
         }
     }
 
     /// Returns the search for all other rows of the titles that a query names, whatever its date and its volume are.
-    pub fn others(alloc: Global, lookup: &'a Lookup<'a>) -> Search<'a>
+    pub fn others(lookup: &'a Lookup<'a>) -> Search<'a>
         ensures { result ≡ in_scope scope.Others lookup.now }
     {
         Search {
             lookup,
             scope: Scope::Others,
-            addresses: ArticleAddresses::new(alloc),
         }
     }
 
@@ -123,30 +110,18 @@ impl<'a> Search<'a> {
         self.lookup.query()
     }
 
-    /// Returns the link to the article that the query cites in a row of a release, if the site has one.
-    pub(crate) fn article_link(
-        &mut self,
-        alloc: Global,
-        links: &mut SiteLinks<'_>,
-        name: &ReleaseName,
-        row: &Row,
-    ) -> Result<Option<RcSlice<u8>>, AllocError>
-        ensures same { self.new ≡ self.old }
-        ensures site { links.new ≡ links.old }
-        ensures link { IfOk result (λ link. option_map rc_slice_items link
-            ≡ article_link links.old name.now.package_name row.now.url (is_free row.now) (cited_in self.old row.now)) }
+    /// Returns what is looked up.
+    pub(crate) fn lookup(&self) -> &'a Lookup<'a>
+        ensures { in_scope self.now.scope result.now ≡ self.now }
     {
-        let cited = self.lookup.cited(row.title_id());
-        let (id, url) = (name.package(), row.url());
-        article_link(
-            alloc,
-            links,
-            id,
-            url,
-            is_free(row),
-            &cited,
-            &mut self.addresses,
-        )
+        self.lookup
+    }
+
+    /// Returns the links of a site for the search.
+    pub fn links(&self, alloc: Global, site: &'a SiteFile) -> CitedLinks<'a>
+        ensures { result ≡ links_of site.now self.now }
+    {
+        CitedLinks::new(alloc, site, self.lookup.cited(b""))
     }
 
     /// Returns which rows are searched for.

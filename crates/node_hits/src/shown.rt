@@ -53,7 +53,7 @@ fn bytes_after(bytes: usize, found: &ReleaseHit<'_>) -> usize
         .saturating_sub(row.depth().len())
         .saturating_sub(row.embargo().len())
         .saturating_sub(row.access().len())
-        .saturating_sub(found.article_text().len())
+        .saturating_sub(found.article_len())
         .saturating_sub(found.note().len())
 }
 
@@ -123,7 +123,7 @@ impl<'a> Shown<'a> {
         }
         let bytes = bytes_beside(self.bytes, left);
         if bytes > 0 {
-            self.hits.push(found.again()?)?;
+            self.hits.push(found.again())?;
             self.places -= 1;
             self.bytes = bytes;
         } else {

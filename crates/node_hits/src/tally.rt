@@ -1,10 +1,11 @@
 //! The tally of a query's hits: how many there are, the first ones, those of the highest ranks, and the best link.
 //! It is made release by release.
-ghost use Rattle.std.specs.Prelude.{◌≡◌, ◌≤◌, ◌&&◌, ◌∷◌, List, Option, IfOk, OnOk, map, option_copied, true};
+ghost use Rattle.std.specs.Prelude.{◌≡◌, ◌≤◌, ◌&&◌, ◌∷◌, List, Option, IfOk, OnOk, map, option_map, true};
+ghost use Rattle.std.specs.Cow.{cow_slice_items};
 ghost use Rattle.std.specs.List.{AllPass};
 ghost use Rattle.feed_answer.specs.Places.{hit_at};
 ghost use Rattle.node_site.specs.Packages.{package_place};
-ghost use Rattle.node_hits.specs.Hits.{ReleaseHitValue};
+ghost use Rattle.node_hits.specs.Hits.{ReleaseHitValue, links_of};
 ghost use Rattle.node_hits.specs.Looks.{are_fitting, fitting, hit_found, looks_at, release_found};
 ghost use Rattle.node_hits.specs.Searches.{compared, is_asked_at};
 ghost use Rattle.node_hits.specs.Tallies.{left_out, outcome_of, shows_all, sole_link};
@@ -20,8 +21,9 @@ use crate::shown::{Shown, bytes_left};
 use crate::text_room::{TextRoom, text_looks};
 use crate::top::Top;
 use feed_names::ReleaseName;
-use node_site::{SearchOutcome, SiteLinks, package_place};
+use node_site::{CitedLinks, SearchOutcome, package_place};
 use std::alloc::{AllocError, Global};
+use std::borrow::CowSlice;
 use std::marker::Model;
 
 /// The tally of the hits of a query so far.
@@ -33,7 +35,7 @@ pub struct Tally<'a> {
     count: usize,
     shown: Shown<'a>,
     top: Top<'a>,
-    links: Links,
+    links: Links<'a>,
 }
 
 impl<'a> Model for Tally<'a> {
@@ -118,17 +120,28 @@ impl<'a> Tally<'a> {
     }
 
     /// Returns the link of the hit with the highest rank that has one; of equals the first.
-    pub fn best_link(&self) -> Option<&[u8]>
-        ensures { option_copied result ≡ (tally_from self.now).best }
+    ///
+    /// # Errors
+    ///
+    /// Running out of memory.
+    pub fn best_link(&self, alloc: Global) -> Result<Option<CowSlice<'a, u8, Global>>, AllocError>
+        ensures { IfOk result (λ link. option_map cow_slice_items link ≡ (tally_from self.now).best) }
     {
-        self.links.best()
+        self.links.best(alloc)
     }
 
     /// Returns the same of the hits that are open to readers.
-    pub fn best_open_link(&self) -> Option<&[u8]>
-        ensures { option_copied result ≡ (tally_from self.now).best_open }
+    ///
+    /// # Errors
+    ///
+    /// Running out of memory.
+    pub fn best_open_link(
+        &self,
+        alloc: Global,
+    ) -> Result<Option<CowSlice<'a, u8, Global>>, AllocError>
+        ensures { IfOk result (λ link. option_map cow_slice_items link ≡ (tally_from self.now).best_open) }
     {
-        self.links.best_open()
+        self.links.best_open(alloc)
     }
 
     /// Returns the outcome of the search, by which the links of a library are shown.
@@ -148,17 +161,19 @@ impl<'a> Tally<'a> {
 
     /// Returns the link of the sole hit, if no release may have more, there is only one, a reader may be sent there
     /// without a choice, and it has a link.
-    pub fn sole_link(&self) -> Option<&[u8]>
-        ensures { option_copied result ≡ sole_link (tally_from self.now) }
+    ///
+    /// # Errors
+    ///
+    /// Running out of memory.
+    pub fn sole_link(&self, alloc: Global) -> Result<Option<CowSlice<'a, u8, Global>>, AllocError>
+        ensures { IfOk result (λ link. option_map cow_slice_items link ≡ sole_link (tally_from self.now)) }
     {
         if !self.is_whole || self.count != 1 {
-            return None;
+            return Ok(None);
         }
-        let (found, _) = self.shown().split_first()?;
-        if found.is_certain() {
-            self.best_link()
-        } else {
-            None
+        match self.shown() {
+            [found, ..] if found.is_certain() => self.best_link(alloc),
+            _ => Ok(None),
         }
     }
 
@@ -183,25 +198,24 @@ impl<'a> Tally<'a> {
         release: &LibraryRelease<'a>,
         site_place: usize,
         place: u32,
-        search: &mut Search<'_>,
-        links: &mut SiteLinks<'a>,
+        search: &Search<'a>,
+        links: &mut CitedLinks<'a>,
         room: &mut TextRoom,
     ) -> Result<(), AllocError>
         requires of { site_place ≡ package_place release.now.site.now release.now.name.now.package_name }
-        requires site { links.old ≡ release.now.site.now }
-        requires asked { is_asked_at search.old.query release.now.holdings.now.rows place ≡ true }
-        ensures same { search.new ≡ search.old }
+        requires site { links.old ≡ links_of release.now.site.now search.now }
+        requires asked { is_asked_at search.now.query release.now.holdings.now.rows place ≡ true }
         ensures kept { links.new ≡ links.old }
         ensures hits { OnOk result ((more : List (Option ReleaseHitValue))
             → with_hits self.new (fitting room.new.left more)
             ≡ with_hits self.old (fitting room.old.left
-            (hit_found release.now.site.now release.now.today.now search.old release.now.name.now
-            (hit_at (compared search.old) release.now.holdings.now.rows place) ∷ more))) }
+            (hit_found release.now.site.now release.now.today.now search.now release.now.name.now
+            (hit_at (compared search.now) release.now.holdings.now.rows place) ∷ more))) }
         ensures whole { OnOk result ((more : List (Option ReleaseHitValue))
             → (room.new.is_enough && are_fitting room.new.left more)
             ≡ (room.old.is_enough && are_fitting room.old.left
-            (hit_found release.now.site.now release.now.today.now search.old release.now.name.now
-            (hit_at (compared search.old) release.now.holdings.now.rows place) ∷ more))) }
+            (hit_found release.now.site.now release.now.today.now search.now release.now.name.now
+            (hit_at (compared search.now) release.now.holdings.now.rows place) ∷ more))) }
     {
         let Some(hit) = search.hit_at(release.holdings.rows(), place) else {
             return Ok(());
@@ -226,20 +240,19 @@ impl<'a> Tally<'a> {
         release: &LibraryRelease<'a>,
         site_place: usize,
         places: &[u32],
-        search: &mut Search<'_>,
-        links: &mut SiteLinks<'a>,
+        search: &Search<'a>,
+        links: &mut CitedLinks<'a>,
         texts: usize,
     ) -> Result<bool, AllocError>
         requires of { site_place ≡ package_place release.now.site.now release.now.name.now.package_name }
-        requires site { links.old ≡ release.now.site.now }
-        requires asked { AllPass (is_asked_at search.old.query release.now.holdings.now.rows) places.now }
-        ensures same { search.new ≡ search.old }
+        requires site { links.old ≡ links_of release.now.site.now search.now }
+        requires asked { AllPass (is_asked_at search.now.query release.now.holdings.now.rows) places.now }
         ensures kept { links.new ≡ links.old }
         ensures hits { OnOk result (self.new
-            ≡ with_hits self.old (fitting texts (looks_at release.now.site.now release.now.today.now search.old
+            ≡ with_hits self.old (fitting texts (looks_at release.now.site.now release.now.today.now search.now
             release.now.name.now release.now.holdings.now.rows places.now))) }
         ensures whole { IfOk result (λ is_whole. is_whole
-            ≡ are_fitting texts (looks_at release.now.site.now release.now.today.now search.old
+            ≡ are_fitting texts (looks_at release.now.site.now release.now.today.now search.now
             release.now.name.now release.now.holdings.now.rows places.now)) }
     {
         let mut room = TextRoom::new(texts);
@@ -267,16 +280,15 @@ impl<'a> Tally<'a> {
         &mut self,
         alloc: Global,
         release: &LibraryRelease<'a>,
-        search: &mut Search<'_>,
-        links: &mut SiteLinks<'a>,
+        search: &Search<'a>,
+        links: &mut CitedLinks<'a>,
         shares: Shares,
     ) -> Result<(), AllocError>
         requires rows { shares.rows ≤ 10000 }
-        requires site { links.old ≡ release.now.site.now }
-        ensures same { search.new ≡ search.old }
+        requires site { links.old ≡ links_of release.now.site.now search.now }
         ensures kept { links.new ≡ links.old }
         ensures added { OnOk result (self.new
-            ≡ with_release self.old (release_found shares release.now.site.now release.now.today.now search.old
+            ≡ with_release self.old (release_found shares release.now.site.now release.now.today.now search.now
             release.now.name.now release.now.holdings.now.rows)) }
     {
         let site_place = package_place(release.site, release.name.package());

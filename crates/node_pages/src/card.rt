@@ -1,6 +1,7 @@
 //! The cards of hits.
 ghost use Rattle.std.specs.Prelude.{◌≡◌, ◌++◌, IfOk, OnOk};
 ghost use Rattle.node_templates.specs.Pages.{page_text};
+ghost use Rattle.node_hits.specs.Hits.{article_text};
 ghost use Rattle.node_pages.specs.Cards.{card_parts, card_with, cards, fit_class, fit_text, grade_text, is_compared};
 ghost use Rattle.node_pages.specs.Cards.{limit_words, title_shown, unmatched_text};
 
@@ -113,7 +114,7 @@ fn title_shown<'a>(title: &'a [u8], cited: &[u8]) -> &'a [u8]
     if title == cited { b"" } else { title }
 }
 
-// Writes the card of a hit that has this limit, this link to its page, this host and this coverage.
+// Writes the card of a hit that has this limit, these links to the article and to its page, this host and coverage.
 #[tactic(auto, unfolding(crate::specs::Cards::card_with))]
 fn put_card_with(
     out: &mut Vec<u8>,
@@ -122,15 +123,16 @@ fn put_card_with(
     fit: Fit,
     found: &ReleaseHit<'_>,
     limit: &[u8],
+    article: &[u8],
     page: &[u8],
     host: &[u8],
     coverage: &[u8],
 ) -> Result<(), AllocError>
+    requires { article.now ≡ article_text found.now }
     ensures { OnOk result (out.new.items
         ≡ out.old.items
         ++ page_text site.now (card_with site.now cited.now fit found.now limit.now page.now host.now coverage.now)) }
 {
-    let article = found.article_text();
     put_page(
         out,
         site,
@@ -167,11 +169,12 @@ fn put_card(
         ≡ out.old.items ++ page_text site.now (card_parts site.now cited.now fit found.now)) }
 {
     let limit = limit_words(*out.allocator(), site, found)?;
+    let article = found.article_text(*out.allocator())?;
     let page = found.page(*out.allocator())?;
     let host = shown_host(*out.allocator(), found.row().url())?;
     let coverage = coverage_words(*out.allocator(), site, found.row())?;
     put_card_with(
-        out, site, cited, fit, found, &limit, &page, &host, &coverage,
+        out, site, cited, fit, found, &limit, &article, &page, &host, &coverage,
     )
 }
 

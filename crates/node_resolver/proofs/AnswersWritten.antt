@@ -5,7 +5,8 @@ use Rattle.feed_answer.specs.Today.{TodayValue}
 use Rattle.feed_openurl.specs.declared.fault.OpenUrlFault.{OpenUrlFault}
 use Rattle.node_site.specs.Site as site_file
 use Rattle.node_hits.specs.Lookups.{asked_of}
-use Rattle.node_hits.specs.Searches.{SearchValue, with_title_id}
+use Rattle.node_hits.specs.Searches.{SearchValue}
+use Rattle.node_site.specs.Articles.{with_title_id}
 use Rattle.node_hits.specs.Sfx.{sfx_reply}
 use Rattle.node_site.specs.Requests.{CitedTitleValue}
 use Rattle.node_request.specs.SfxQueries.{sfx_options_in}

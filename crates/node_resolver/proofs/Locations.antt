@@ -8,7 +8,8 @@ use Rattle.std.proofs.lemmas.List.Elements.{All-nil, All-weaker}
 use Rattle.std.proofs.lemmas.List.Sums.{AllPass-from_list_all}
 use Rattle.httparse.specs.Grammar.{RequestHead, is_uri_byte}
 use Rattle.feed_http_heads.specs.Requests.{lacks_host, is_get, is_head}
-use Rattle.node_hits.specs.Searches.{SearchValue, with_title_id}
+use Rattle.node_hits.specs.Searches.{SearchValue}
+use Rattle.node_site.specs.Articles.{with_title_id}
 use Rattle.feed_openurl.specs.declared.fault.OpenUrlFault.{OpenUrlFault}
 use Rattle.node_request.specs.Representations.{accepted_representation, representation_of}
 use Rattle.node_request.specs.Routes.{package_in, route_of, is_unsupported_method}

@@ -14,7 +14,8 @@ use Rattle.node_hits.specs.Shares.{shares_of}
 use Rattle.node_hits.specs.declared.shares.Shares.{Shares}
 use Rattle.node_hits.specs.AnswerJson.{answer_json}
 use Rattle.node_hits.specs.QueryFacts.{ask_of}
-use Rattle.node_hits.specs.Searches.{SearchValue, in_scope, with_title_id}
+use Rattle.node_hits.specs.Searches.{SearchValue, in_scope}
+use Rattle.node_site.specs.Articles.{with_title_id}
 use Rattle.node_hits.specs.declared.search.Scope.TheVariants as scope
 use Rattle.node_hits.specs.HitsText.{release_text}
 use Rattle.node_hits.specs.Sfx.{sfx_reply}

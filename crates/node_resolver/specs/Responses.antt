@@ -5,7 +5,8 @@ use Rattle.httparse.specs.Grammar.{RequestHead}
 use Rattle.feed_http_heads.specs.Fields.{values_named, has_any}
 use Rattle.feed_http_heads.specs.Targets.{origin_form}
 use Rattle.feed_http_heads.specs.Requests.{lacks_host, is_get, is_head}
-use Rattle.node_hits.specs.Searches.{SearchValue, with_title_id}
+use Rattle.node_hits.specs.Searches.{SearchValue}
+use Rattle.node_site.specs.Articles.{with_title_id}
 use Rattle.feed_openurl.specs.declared.fault.OpenUrlFault.{OpenUrlFault}
 use Rattle.feed_answer.specs.Today.{TodayValue}
 use Rattle.feed_model.specs.History.{History}

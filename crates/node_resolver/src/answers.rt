@@ -1,5 +1,6 @@
 //! Counts the hits of a query in the active releases on a day, and writes the body that lists them.
 ghost use Rattle.std.specs.Prelude.{◌≡◌, ◌≤◌, ◌++◌, IfOk, OnOk};
+ghost use Rattle.node_hits.specs.Hits.{links_of};
 ghost use Rattle.node_hits.specs.Tallying.{no_hits, with_release, with_releases};
 ghost use Rattle.node_request.specs.declared.representation.Representation.TheVariants.{Json, Html, Fragment, Sfx};
 ghost use Rattle.node_resolver.specs.Answers.{also_beside, answers_body, found_among, found_by, has_both, is_placed};
@@ -16,7 +17,7 @@ use node_hits::{
 };
 use node_pages::{Tallies, put_hits_fragment, put_hits_page};
 use node_request::{Representation, sfx_options_in};
-use node_site::SiteLinks;
+use node_site::CitedLinks;
 use std::alloc::{AllocError, Global};
 
 fn add_release<'a>(
@@ -24,17 +25,16 @@ fn add_release<'a>(
     tally: &mut Tally<'a>,
     context: &Context<'a>,
     active: &ActiveRelease<'a>,
-    search: &mut Search<'_>,
-    links: &mut SiteLinks<'a>,
+    search: &Search<'a>,
+    links: &mut CitedLinks<'a>,
     shares: Shares,
 ) -> Result<(), AllocError>
     requires rows { shares.rows ≤ 10000 }
-    requires site { links.old ≡ context.now.site.library }
-    ensures same { search.new ≡ search.old }
+    requires site { links.old ≡ links_of context.now.site.library search.now }
     ensures kept { links.new ≡ links.old }
     ensures added { OnOk result (tally.new
         ≡ with_release tally.old
-        (release_in shares context.now.site.library context.now.actives.today search.old active.now)) }
+        (release_in shares context.now.site.library context.now.actives.today search.now active.now)) }
 {
     let release = LibraryRelease {
         site: context.library(),
@@ -49,17 +49,17 @@ fn add_release<'a>(
 fn tally_by<'a>(
     alloc: Global,
     context: &Context<'a>,
-    mut search: Search<'_>,
+    search: &Search<'a>,
     shares: Shares,
 ) -> Result<Tally<'a>, AllocError>
     requires { shares.rows ≤ 10000 }
     ensures { IfOk result (λ tally. tally
-        ≡ with_releases no_hits (found_by shares search.entry (sited_in context.now))) }
+        ≡ with_releases no_hits (found_by shares search.now (sited_in context.now))) }
 {
     let mut tally = Tally::new(alloc);
-    let mut links = SiteLinks::new(context.library());
+    let mut links = search.links(alloc, context.library());
     for active in context.actives {
-        let (search, links) = (&mut search, &mut links);
+        let links = &mut links;
         add_release(alloc, &mut tally, context, active, search, links, shares)?;
     }
     Ok(tally)
@@ -69,7 +69,7 @@ fn tally_by<'a>(
 pub(crate) fn tally_among<'a>(
     alloc: Global,
     context: &Context<'a>,
-    lookup: &Lookup<'_>,
+    lookup: &'a Lookup<'a>,
     shares: Shares,
 ) -> Result<Tally<'a>, AllocError>
     requires shares { shares ≡ shares_in lookup.now (sited_in context.now) }
@@ -77,7 +77,7 @@ pub(crate) fn tally_among<'a>(
     ensures { IfOk result (λ tally. tally
         ≡ with_releases no_hits (found_among lookup.now (sited_in context.now))) }
 {
-    tally_by(alloc, context, Search::of(alloc, lookup), shares)
+    tally_by(alloc, context, &Search::of(lookup), shares)
 }
 
 fn has_both(query: &Query) -> bool
@@ -97,7 +97,7 @@ fn is_placed(query: &Query) -> bool
 fn also_beside<'a>(
     alloc: Global,
     context: &Context<'a>,
-    lookup: &Lookup<'_>,
+    lookup: &'a Lookup<'a>,
     shares: Shares,
 ) -> Result<Tally<'a>, AllocError>
     requires shares { shares ≡ shares_in lookup.now (sited_in context.now) }
@@ -106,7 +106,7 @@ fn also_beside<'a>(
         ≡ with_releases no_hits (also_beside lookup.now (sited_in context.now))) }
 {
     if has_both(lookup.query()) {
-        tally_by(alloc, context, Search::dated(alloc, lookup), shares)
+        tally_by(alloc, context, &Search::dated(lookup), shares)
     } else {
         Ok(Tally::new(alloc))
     }
@@ -117,7 +117,7 @@ fn also_beside<'a>(
 fn others_beside<'a>(
     alloc: Global,
     context: &Context<'a>,
-    lookup: &Lookup<'_>,
+    lookup: &'a Lookup<'a>,
     shares: Shares,
     count: usize,
 ) -> Result<Tally<'a>, AllocError>
@@ -127,7 +127,7 @@ fn others_beside<'a>(
         ≡ with_releases no_hits (others_beside count lookup.now (sited_in context.now))) }
 {
     if count == 0 && is_placed(lookup.query()) {
-        tally_by(alloc, context, Search::others(alloc, lookup), shares)
+        tally_by(alloc, context, &Search::others(lookup), shares)
     } else {
         Ok(Tally::new(alloc))
     }
@@ -148,8 +148,8 @@ fn put_texts(
         context.now.actives.actives) }
 {
     let mut tally = Tally::new(alloc);
-    let mut search = Search::of(alloc, lookup);
-    let mut links = SiteLinks::new(context.library());
+    let search = Search::of(lookup);
+    let mut links = search.links(alloc, context.library());
     for active in context.actives {
         let release = LibraryRelease {
             site: context.library(),
@@ -157,7 +157,7 @@ fn put_texts(
             name: active.name(),
             holdings: active.holdings(),
         };
-        let (search, links) = (&mut search, &mut links);
+        let (search, links) = (&search, &mut links);
         put_release(alloc, out, &mut tally, &release, search, links, shares)?;
     }
     Ok(())
@@ -190,7 +190,7 @@ fn put_page<'a>(
     out: &mut Vec<u8>,
     query: &ReceivedOpenUrl<'_>,
     context: &Context<'a>,
-    lookup: &Lookup<'_>,
+    lookup: &'a Lookup<'a>,
     shares: Shares,
     hits: Tally<'a>,
 ) -> Result<(), AllocError>
@@ -229,7 +229,7 @@ fn put_fragment<'a>(
     out: &mut Vec<u8>,
     query: &ReceivedOpenUrl<'_>,
     context: &Context<'a>,
-    lookup: &Lookup<'_>,
+    lookup: &'a Lookup<'a>,
     shares: Shares,
     hits: Tally<'a>,
 ) -> Result<(), AllocError>
@@ -253,7 +253,7 @@ pub(crate) fn put_counted<'a>(
     out: &mut Vec<u8>,
     query: &ReceivedOpenUrl<'_>,
     context: &Context<'a>,
-    lookup: &Lookup<'_>,
+    lookup: &'a Lookup<'a>,
     shares: Shares,
     hits: Tally<'a>,
 ) -> Result<(), AllocError>

@@ -32,7 +32,7 @@ use crate::context::Context;
 use crate::request::ReaderRequest;
 use crate::shares::shares_among;
 use crate::status::put_status;
-use crate::targets::{copied, target_in};
+use crate::targets::{owned, target_in};
 use crate::validators::{preflight_status, tag_to, validated_response};
 use feed_answer::Today;
 use feed_http_heads::Request;
@@ -69,7 +69,7 @@ fn counted_response<'a>(
     status: Status,
     query: &ReceivedOpenUrl<'_>,
     context: &Context<'a>,
-    lookup: &Lookup<'_>,
+    lookup: &'a Lookup<'a>,
     shares: Shares,
     hits: Tally<'a>,
 ) -> Result<Response, AllocError>
@@ -97,7 +97,8 @@ fn sole_response(
 {
     let shares = shares_among(alloc, context, lookup)?;
     let hits = tally_among(alloc, context, lookup, shares)?;
-    match copied(alloc, hits.sole_link())? {
+    let sole = hits.sole_link(alloc)?;
+    match owned(alloc, sole)? {
         Some(link) => Ok(Response::redirect(alloc, link)),
         None => counted_response(alloc, Status::Good, query, context, lookup, shares, hits),
     }

@@ -1,18 +1,23 @@
 //! The address to which `/go` redirects.
-ghost use Rattle.std.specs.Prelude.{◌≡◌, IfOk, option_copied, option_map};
+ghost use Rattle.std.specs.Prelude.{◌≡◌, IfOk, option_map};
+ghost use Rattle.std.specs.Cow.{cow_slice_items};
 ghost use Rattle.node_hits.specs.Tallying.{tally_from};
 ghost use Rattle.node_resolver.specs.Responses.{closed_target, first_address, library_target, target_in};
 
 use node_hits::{Lookup, Tally};
 use node_site::{LibraryLink, LinkUse, SearchOutcome, SiteFile, library_links};
 use std::alloc::{AllocError, Global};
+use std::borrow::CowSlice;
 
-/// Returns a copy of a link, if there is one.
-pub(crate) fn copied(alloc: Global, link: Option<&[u8]>) -> Result<Option<Vec<u8>>, AllocError>
-    ensures { IfOk result (λ copy. option_map (λ text. text.items) copy ≡ option_copied link.entry) }
+/// Returns a link of its own, if there is one.
+pub(crate) fn owned(
+    alloc: Global,
+    link: Option<CowSlice<'_, u8, Global>>,
+) -> Result<Option<Vec<u8>>, AllocError>
+    ensures { IfOk result (λ own. option_map (λ text. text.items) own ≡ option_map cow_slice_items link.entry) }
 {
     match link {
-        Some(link) => Ok(Some(Vec::from_slice(alloc, link)?)),
+        Some(link) => Ok(Some(link.into_owned(alloc)?)),
         None => Ok(None),
     }
 }
@@ -53,7 +58,10 @@ fn closed_target(
 {
     match library_target(alloc, site, hits.outcome(), lookup)? {
         Some(link) => Ok(Some(link)),
-        None => copied(alloc, hits.best_link()),
+        None => {
+            let best = hits.best_link(alloc)?;
+            owned(alloc, best)
+        }
     }
 }
 
@@ -67,7 +75,8 @@ pub(crate) fn target_in(
     ensures { IfOk result (λ address. option_map (λ text. text.items) address
         ≡ target_in site.now lookup.now (tally_from hits.now)) }
 {
-    match copied(alloc, hits.best_open_link())? {
+    let best = hits.best_open_link(alloc)?;
+    match owned(alloc, best)? {
         Some(link) => Ok(Some(link)),
         None => closed_target(alloc, site, lookup, hits),
     }

@@ -153,7 +153,7 @@ pub and_right : (a b : Bool) → (a && b) ≡ true → b ≡ true
 and_right true b h = h
 and_right false b h = cc
 
-host_kept : (fore y : List ℕ) → is_front fore ≡ true → host_behind (after_scheme (fore ++ y)) ≡ host_behind (after_scheme fore)
+pub host_kept : (fore y : List ℕ) → is_front fore ≡ true → host_behind (after_scheme (fore ++ y)) ≡ host_behind (after_scheme fore)
 host_kept fore y h =
     let long : 8 < length fore = grind (arith, nat_tests, and_left (nat_lt 8 (length fore)) (is_link fore && has_end (after_scheme fore)) h) in
     let ends = and_right (is_link fore) (has_end (after_scheme fore)) (and_right (nat_lt 8 (length fore)) (is_link fore && has_end (after_scheme fore)) h) in
@@ -164,7 +164,7 @@ host_begins begin text b h = ap (λ (t : List ℕ). host_behind (after_scheme t)
 
 -- ---- no backslash
 
-abbrev Lacks : List ℕ → Type 0
+abbrev pub Lacks : List ℕ → Type 0
 Lacks text = has_byte 92 text ≡ false
 
 pub lacks_either : (c d : Bool) → c ≡ false → d ≡ false → (c || d) ≡ false
@@ -175,7 +175,7 @@ pub lacks_parts : (c d : Bool) → (c || d) ≡ false → (c ≡ false) × (d �
 lacks_parts false d h = (refl, h)
 lacks_parts true d h = cc
 
-lacks-append : (xs ys : List ℕ) → Lacks xs → Lacks ys → Lacks (xs ++ ys)
+pub lacks-append : (xs ys : List ℕ) → Lacks xs → Lacks ys → Lacks (xs ++ ys)
 lacks-append [] ys one other = other
 lacks-append (b ∷ rest) ys one other =
     let (here, more) = lacks_parts (b == 92) (has_byte 92 rest) one in
@@ -184,7 +184,7 @@ lacks-append (b ∷ rest) ys one other =
 plain_lacks : (b : ℕ) → is_plain b ≡ true → (b == 92) ≡ false
 plain_lacks b h = grind (arith, nat_tests)
 
-plain_text_lacks : (text : List ℕ) → All (λ b. is_plain b ≡ true) text → Lacks text
+pub plain_text_lacks : (text : List ℕ) → All (λ b. is_plain b ≡ true) text → Lacks text
 plain_text_lacks [] h = refl
 plain_text_lacks (b ∷ rest) h =
     let here : is_plain b ≡ true = h 0 0 (omega arith) in
@@ -200,7 +200,7 @@ either_lacks : (c : Bool) (x y : List ℕ) → Lacks x → Lacks y → Lacks (if
 either_lacks true x y one other = one
 either_lacks false x y one other = other
 
-filled_lacks : (cited : CitedTitleValue) (is_open : Bool) (name rest : List ℕ) → Lacks rest → Lacks (filled_from cited is_open name rest)
+pub filled_lacks : (cited : CitedTitleValue) (is_open : Bool) (name rest : List ℕ) → Lacks rest → Lacks (filled_from cited is_open name rest)
 filled_lacks cited true name [] h = refl
 filled_lacks cited false name [] h = refl
 filled_lacks cited true name (b ∷ rest) h =
@@ -213,7 +213,7 @@ filled_lacks cited false name (b ∷ rest) h =
     either_lacks (b == 123) _ _ (filled_lacks cited true [] rest more)
     (lacks_either (b == 92) (has_byte 92 (filled_from cited false name rest)) here (filled_lacks cited false name rest more))
 
-host_is : (text : List ℕ) → Lacks text → host_of text ≡ host_behind (after_scheme text)
+pub host_is : (text : List ℕ) → Lacks text → host_of text ≡ host_behind (after_scheme text)
 unfolding host_of
 host_is text h = rw h
 
@@ -221,7 +221,7 @@ some_lacks : (c : Bool) (o : Option (List ℕ)) → is_some (if c then None else
 some_lacks true o h = cc
 some_lacks false o h = refl
 
-link_lacks : (url : List ℕ) → is_link url ≡ true → Lacks url
+pub link_lacks : (url : List ℕ) → is_link url ≡ true → Lacks url
 unfolding host_of
 link_lacks url h =
     some_lacks (has_byte 92 url) (host_behind (after_scheme url))
@@ -247,11 +247,3 @@ and_assoc false b c = refl
 pub and_true : (a : Bool) → (a && true) ≡ a
 and_true true = refl
 and_true false = refl
-
-pub or_assoc : (a b c : Bool) → ((a || b) || c) ≡ (a || (b || c))
-or_assoc true b c = refl
-or_assoc false b c = refl
-
-pub or_false : (a : Bool) → (a || false) ≡ a
-or_false true = refl
-or_false false = refl

@@ -1,6 +1,6 @@
 -- The index of a holdings file finds its rows.
 use Rattle.std.proofs.Common.{◌≡◌, ◌≢◌, ℕ, zero, suc, ◌+◌, ◌-◌, ◌<◌, ◌≤◌, ◌⊎◌, inl, inr, Bool, true, false, not, ◌&&◌, ◌==◌, if◌then◌else◌, List, [], ◌∷◌, Option, Some, None, Result, Ok, Err}
-use Rattle.std.proofs.Common.{Contains, length, get_or, map, max, MatchResult, Ordering, Less, Equal, Greater, refl, sym, ap, subst, ◌∙◌, arith, leb, nat_lt, sum_by}
+use Rattle.std.proofs.Common.{Contains, length, get_or, map, max, MatchResult, Less, Equal, Greater, refl, sym, ap, subst, ◌∙◌, arith, leb, nat_lt, sum_by}
 use Rattle.std.specs.Cmp.Lexicographic.{bytes_decides, nat_list_eq_equiv}
 use Rattle.std.specs.List.Sorted.{IsBinarySearchResult, IsPartitionPoint}
 use Rattle.std.specs.Str.{bytes_eq}

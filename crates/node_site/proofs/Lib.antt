@@ -23,4 +23,6 @@ pub mod SitesKept
 pub mod HoldingsRead
 pub mod OnListed
 pub mod HoldingsSteps
-pub mod RowFields
+pub mod RowSizes
+pub mod LinksFit
+pub mod SizesMade

@@ -1,10 +1,10 @@
 -- The links to articles, and those of a library.
-use Rattle.std.proofs.Common.{◌≡◌, ℕ, ◌+◌, ◌&&◌, Bool, true, false, List, [], ◌∷◌, ◌++◌, Option, Some, None, option_map, if◌then◌else◌, refl, sym, ap, ◌∙◌}
+use Rattle.std.proofs.Common.{◌≡◌, ℕ, ◌&&◌, Bool, true, false, List, [], ◌∷◌, ◌++◌, Option, Some, None, option_map, if◌then◌else◌, refl, sym, ap, ◌∙◌}
 use Rattle.std.specs.List.{cons_option, list_all}
 use Rattle.std.specs.Option.{option_and_then}
 use Rattle.percent_encoding.proofs.PercentLemmas.{round_trip}
 use Rattle.percent_encoding.specs.declared.ascii_set.TheConstants.{NON_ALPHANUMERIC}
-use Rattle.node_site.specs.Articles.{article_address, article_link, article_template}
+use Rattle.node_site.specs.Articles.{article_link, article_template, template_link}
 use Rattle.node_site.specs.Fields.{field_named}
 use Rattle.node_site.specs.Hosts.{is_link}
 use Rattle.node_site.specs.LibraryLinks.{LibraryLinkValue, is_used, library_links, made_links, request_rules, with_label}
@@ -90,14 +90,14 @@ module _ (site : SiteValue) (id url : List ℕ) (is_free : Bool) (cited : CitedT
   of_whole template false has whole is = cc
 
   of_template : (o : Option (List ℕ)) → article_template site id url ≡ o
-      → option_and_then linked (option_and_then (article_address cited) o) ≡ Some link → IsArticleLink site id url is_free cited link
+      → option_and_then (template_link site cited (is_direct site id is_free)) o ≡ Some link → IsArticleLink site id url is_free cited link
   of_template None has is = cc
   of_template (Some template) has is = of_whole template (gives_all cited template) has refl is
 
   is_of : IsArticleLink site id url is_free cited link
-      → option_and_then linked (option_and_then (article_address cited) (article_template site id url)) ≡ Some link
+      → option_and_then (template_link site cited (is_direct site id is_free)) (article_template site id url) ≡ Some link
   is_of is =
-      ap (λ (o : Option (List ℕ)). option_and_then linked (option_and_then (article_address cited) o)) is.has_template
+      ap (option_and_then (template_link site cited (is_direct site id is_free))) is.has_template
       ∙ ap (λ (b : Bool). option_and_then linked (if b then Some (filled cited is.template) else None)) is.is_whole
       ∙ ap if_link (sym is.goes) ∙ ap (λ (b : Bool). if b then Some link else None) is.is_safe
 

@@ -22,8 +22,8 @@ use Rattle.node_site.specs.Faults.{MisfitValue, PlaceValue, at_key, at_table, da
 use Rattle.node_site.specs.Faults.{list_fault, missing_fault, or_misfit, order_fault, place_of, row_fault, rows_fault, section_fault, single_fault, table_fault, text_flaw, twice_fault, value_flaw}
 use Rattle.node_site.specs.Faults.{reason_of}
 use Rattle.node_site.specs.Indexes.{count_in, count_of, first_place_in}
-use Rattle.node_site.specs.Site.{PackageValue, first_day, holding_of, last_day, link_of, or_empty, package_of, platform_of, row_or, rows_in, rows_of, site_of, text_in, texts_in, texts_of}
-use Rattle.node_site.specs.Site.{title_of}
+use Rattle.node_site.specs.Site.{PackageValue, SiteValue, first_day, holding_of, last_day, link_of, or_empty, package_of, platform_of, row_or, rows_in, rows_of, site_of, text_in, texts_in, texts_of}
+use Rattle.node_site.specs.Site.{title_of, with_listing}
 use Rattle.node_site.proofs.FirstRows.{counted}
 use Rattle.node_site.proofs.Replaced.{text_is}
 use Rattle.node_site.specs.Valid.{IsSite, fits, is_forward, is_holding, is_link_rule, is_package_rule, is_platform_rule, is_title_rule}
@@ -350,4 +350,23 @@ site_is_valid doc fine = record {
   packages = rows_in_fit (codes "package") part.Package package_of is_package_rule package_fits doc (get_member (codes "package") doc) fine refl refl refl;
   titles = rows_in_fit (codes "title") part.Title title_of is_title_rule title_fits doc (get_member (codes "title") doc) fine refl refl refl;
   links = rows_in_fit (codes "link") part.Link link_of is_link_rule link_fits doc (get_member (codes "link") doc) fine refl refl refl;
+}
+
+-- a holdings file leaves the texts of a site as they are
+pub listed_is_valid : (text : List ℕ) (site : SiteValue) → IsSite site → IsSite (with_listing text site)
+listed_is_valid text site valid = record {
+  name = valid.name;
+  language = valid.language;
+  color = valid.color;
+  help = valid.help;
+  contact = valid.contact;
+  request = valid.request;
+  holdings = valid.holdings;
+  replaced = valid.replaced;
+  prefix = valid.prefix;
+  except = valid.except;
+  platforms = valid.platforms;
+  packages = valid.packages;
+  titles = valid.titles;
+  links = valid.links;
 }

@@ -1,13 +1,10 @@
 //! The links to articles, and to what a DOI names.
 ghost use Rattle.std.specs.Prelude.{◌≡◌, ◌++◌, codes, IfOk, option_copied, option_map};
-ghost use Rattle.std.specs.Option.{option_and_then};
-ghost use Rattle.std.specs.Rc.{rc_slice_items};
-ghost use Rattle.node_site.specs.Articles.{AreMade, article_address, article_link, article_template, doi_link};
-ghost use Rattle.node_site.specs.Articles.{package_article, platform_article, without_row};
+ghost use Rattle.node_site.specs.Articles.{article_address, article_link, article_template, doi_link};
+ghost use Rattle.node_site.specs.Articles.{package_article, platform_article, template_link};
 ghost use Rattle.node_site.specs.Proxies.{is_direct, is_proxied_package, proxied, through};
 ghost use Rattle.node_site.specs.Requests.{if_link};
 
-use crate::article_addresses::ArticleAddresses;
 use crate::cited::CitedTitle;
 use crate::filling::{Filling, if_link};
 use crate::hosts::host_of;
@@ -17,7 +14,6 @@ use crate::prefixes::Prefix;
 use crate::site_file::SiteFile;
 use crate::site_links::SiteLinks;
 use std::alloc::{AllocError, Global};
-use std::rc::RcSlice;
 
 fn package_article<'a>(site: &'a SiteFile, id: &[u8]) -> Option<&'a str>
     ensures { option_copied result ≡ package_article site.now id.now }
@@ -37,8 +33,8 @@ fn platform_article<'a>(site: &'a SiteFile, host: &[u8]) -> Option<&'a str>
     }
 }
 
-// Returns the template for the articles of a row: that of its package, or else that of the platform of its URL.
-fn article_template<'a>(site: &'a SiteFile, id: &[u8], url: &[u8]) -> Option<&'a str>
+/// Returns the template for the articles of a row: that of its package, or else that of the platform of its URL.
+pub(crate) fn article_template<'a>(site: &'a SiteFile, id: &[u8], url: &[u8]) -> Option<&'a str>
     ensures { option_copied result ≡ article_template site.now id.now url.now }
 {
     if let Some(template) = package_article(site, id) {
@@ -86,116 +82,17 @@ pub(crate) fn safe_link(
     Ok(if_link(link.into_owned(alloc)?))
 }
 
-fn slice_of(address: &Option<Vec<u8>>) -> Option<&[u8]>
-    ensures { option_copied result ≡ option_map (λ text. text.items) address.now }
-{
-    match address {
-        Some(address) => Some(address),
-        None => None,
-    }
-}
-
-// Returns the safe link to an address, if there is an address.
-fn link_if_any(
+// Returns the address of the cited article by a template, if the citation has every name of it.
+fn address_of(
     alloc: Global,
-    links: &mut SiteLinks<'_>,
-    address: Option<&[u8]>,
-    is_direct: bool,
-) -> Result<Option<RcSlice<u8>>, AllocError>
-    ensures same { links.new ≡ links.old }
-    ensures link { IfOk result (λ link. option_map rc_slice_items link
-        ≡ option_and_then (λ address. if_link (proxied links.old address is_direct)) (option_copied address.entry)) }
-{
-    match address {
-        Some(address) => links.link_to(alloc, address, is_direct),
-        None => Ok(None),
-    }
-}
-
-// Returns the address of the cited article by a template, if the citation has every name of it, and keeps it if it
-// suits all rows.
-fn new_link(
-    alloc: Global,
-    links: &mut SiteLinks<'_>,
     cited: &CitedTitle<'_>,
     template: &[u8],
-    is_direct: bool,
-    addresses: &mut ArticleAddresses,
-) -> Result<Option<RcSlice<u8>>, AllocError>
-    requires { AreMade (without_row cited.now) addresses.old }
-    ensures same { links.new ≡ links.old }
-    ensures made { AreMade (without_row cited.now) addresses.new }
-    ensures link { IfOk result (λ link. option_map rc_slice_items link
-        ≡ option_and_then (λ address. if_link (proxied links.old address is_direct))
-        (article_address cited.now template.now)) }
+) -> Result<Option<Vec<u8>>, AllocError>
+    ensures { IfOk result (λ address. option_map (λ text. text.items) address
+        ≡ article_address cited.now template.now) }
 {
     let filling = Filling::of(alloc, cited, template)?;
-    let names_row = filling.names_row;
-    let address = filling.address();
-    let link = link_if_any(alloc, links, slice_of(&address), is_direct)?;
-    addresses.keep(alloc, template, address, names_row)?;
-    Ok(link)
-}
-
-// Returns the link to the cited article by a template.
-fn template_link(
-    alloc: Global,
-    links: &mut SiteLinks<'_>,
-    cited: &CitedTitle<'_>,
-    template: &[u8],
-    is_direct: bool,
-    addresses: &mut ArticleAddresses,
-) -> Result<Option<RcSlice<u8>>, AllocError>
-    requires { AreMade (without_row cited.now) addresses.old }
-    ensures same { links.new ≡ links.old }
-    ensures made { AreMade (without_row cited.now) addresses.new }
-    ensures link { IfOk result (λ link. option_map rc_slice_items link
-        ≡ option_and_then (λ address. if_link (proxied links.old address is_direct))
-        (article_address cited.now template.now)) }
-{
-    if let Some(made) = addresses.find(template) {
-        return link_if_any(alloc, links, slice_of(&made.address), is_direct);
-    }
-    new_link(alloc, links, cited, template, is_direct, addresses)
-}
-
-/// Returns the link to the cited article in a row of a package. It is there if the package, or else the platform of the
-/// row's URL, has a template and the citation each name in it, and if it has at most 8,000 bytes. It goes through a
-/// proxy as the link to the row does. An address that suits all rows is kept with those that were made for the
-/// citation, and made once. So is the last link: rows with the same address share it.
-///
-/// # Errors
-///
-/// Running out of memory.
-#[tactic(auto, unfolding(crate::specs::Articles::article_link))]
-pub fn article_link(
-    alloc: Global,
-    links: &mut SiteLinks<'_>,
-    id: &[u8],
-    url: &[u8],
-    is_free: bool,
-    cited: &CitedTitle<'_>,
-    addresses: &mut ArticleAddresses,
-) -> Result<Option<RcSlice<u8>>, AllocError>
-    requires { AreMade (without_row cited.now) addresses.old }
-    ensures same { links.new ≡ links.old }
-    ensures made { AreMade (without_row cited.now) addresses.new }
-    ensures link { IfOk result (λ link. option_map rc_slice_items link
-        ≡ article_link links.old id.now url.now is_free cited.now) }
-{
-    let site = links.site();
-    let Some(template) = article_template(site, id, url) else {
-        return Ok(None);
-    };
-    let is_direct = is_direct(site, id, is_free);
-    template_link(
-        alloc,
-        links,
-        cited,
-        template.as_bytes(),
-        is_direct,
-        addresses,
-    )
+    Ok(filling.address(cited.title_id))
 }
 
 // Returns the link to an address as a page has it, if that is safe.
@@ -212,6 +109,50 @@ fn page_link(
     let mut links = SiteLinks::new(site);
     let prefix = links.prefix_for(alloc, address, is_direct)?;
     safe_link(alloc, &prefix, address)
+}
+
+// Returns the link to the cited article by a template.
+#[tactic(auto, unfolding(crate::specs::Proxies::proxied))]
+fn template_link(
+    alloc: Global,
+    site: &SiteFile,
+    cited: &CitedTitle<'_>,
+    is_direct: bool,
+    template: &[u8],
+) -> Result<Option<Vec<u8>>, AllocError>
+    ensures { IfOk result (λ link. option_map (λ text. text.items) link
+        ≡ template_link site.now cited.now is_direct template.now) }
+{
+    match address_of(alloc, cited, template)? {
+        Some(address) => page_link(alloc, site, &address, is_direct),
+        None => Ok(None),
+    }
+}
+
+/// Returns the link to the cited article in a row of a package. It exists if the package, or else the platform of the
+/// row's URL, has a template and the citation each name in it, and if it has at most 8,000 bytes. It goes through a
+/// proxy as the link to the row does.
+///
+/// # Errors
+///
+/// Running out of memory.
+#[tactic(auto, unfolding(crate::specs::Articles::article_link))]
+pub fn article_link(
+    alloc: Global,
+    site: &SiteFile,
+    id: &[u8],
+    url: &[u8],
+    is_free: bool,
+    cited: &CitedTitle<'_>,
+) -> Result<Option<Vec<u8>>, AllocError>
+    ensures { IfOk result (λ link. option_map (λ text. text.items) link
+        ≡ article_link site.now id.now url.now is_free cited.now) }
+{
+    let Some(template) = article_template(site, id, url) else {
+        return Ok(None);
+    };
+    let is_direct = is_direct(site, id, is_free);
+    template_link(alloc, site, cited, is_direct, template.as_bytes())
 }
 
 fn doi_address(alloc: Global, doi: &[u8]) -> Result<Vec<u8>, AllocError>

@@ -1,6 +1,7 @@
 //! A citation, and its parts by the names that templates have for them.
 ghost use Rattle.std.specs.Prelude.{◌≡◌, ◌++◌, IfOk, OnOk, drop, take};
 ghost use Rattle.std.specs.List.{flat_map};
+ghost use Rattle.node_site.specs.Articles.{row_part};
 ghost use Rattle.node_site.specs.Requests.{citation_query, field_text, if_short, is_step, key_of, pair_text, part_of};
 ghost use Rattle.node_site.specs.Requests.{part_pair, part_value, without_hyphens, without_step};
 
@@ -190,6 +191,14 @@ fn without_step(alloc: Global, text: Vec<u8>) -> Vec<u8>
     } else {
         text
     }
+}
+
+/// Returns the part of a template that a row with this `title_id` gives.
+pub(crate) fn row_part(title_id: &[u8]) -> &[u8]
+    ensures { result.now ≡ row_part title_id.now }
+{
+    let text = if_short(title_id);
+    if is_step(text) { b"" } else { text }
 }
 
 /// Returns the part of this name.

@@ -1,28 +1,29 @@
 //! Fills templates: each name in braces is replaced by the part of a citation.
-ghost use Rattle.std.specs.Prelude.{◌≡◌, ◌++◌, ◌∷◌, ◌&&◌, ◌||◌, [], false, true, IfOk, List, ℕ, OnOk, option_map};
-ghost use Rattle.std.specs.List.{list_all, list_any};
-ghost use Rattle.node_site.specs.Articles.{depends_on_row, is_row_name};
-ghost use Rattle.node_site.specs.Requests.{filled, filled_from, gives, gives_all, if_link, is_given, names_from};
-ghost use Rattle.node_site.specs.Requests.{part_text};
+ghost use Rattle.std.specs.Prelude.{◌≡◌, ◌+◌, ◌++◌, ◌∷◌, ◌&&◌, ◌||◌, [], false, true, IfOk, List, ℕ, OnOk, count_by};
+ghost use Rattle.std.specs.Prelude.{if◌then◌else◌, option_map};
+ghost use Rattle.std.specs.List.{list_all};
+ghost use Rattle.node_site.specs.Articles.{gives_others, is_given_or_row, is_row_name, row_names};
+ghost use Rattle.node_site.specs.Requests.{filled, filled_from, if_link, is_given, names_from, part_text};
 
-use crate::cited::{CitedTitle, part_of};
+use crate::cited::{CitedTitle, part_of, row_part};
 use crate::field::Field;
 use crate::hosts::is_link;
 use crate::links::encoded;
 use std::alloc::{AllocError, Global};
 
-/// A link that is being made, whether all its parts are given so far, whether one is that of a row, and the name that
-/// was read in an open brace.
+/// A link that is being made, whether all its parts but that of a row are given so far, how often it has the part of a
+/// row, and the name that was read in an open brace.
 #[derive(Drop)]
 pub(crate) struct Filling {
     pub(crate) link: Vec<u8>,
     pub(crate) is_whole: bool,
-    pub(crate) names_row: bool,
+    pub(crate) row_names: usize,
     name: Vec<u8>,
     is_open: bool,
 }
 
-fn is_given(part: &[u8]) -> bool
+/// Returns whether a part of a template is given.
+pub(crate) fn is_given(part: &[u8]) -> bool
     ensures { result ≡ is_given part.now }
 {
     match part {
@@ -45,14 +46,14 @@ impl Filling {
     fn new(alloc: Global) -> Filling
         ensures link { result.link.items ≡ [] }
         ensures whole { result.is_whole ≡ true }
-        ensures row { result.names_row ≡ false }
+        ensures row { result.row_names ≡ 0 }
         ensures name { result.name.items ≡ [] }
         ensures closed { result.is_open ≡ false }
     {
         Filling {
             link: Vec::new(alloc),
             is_whole: true,
-            names_row: false,
+            row_names: 0,
             name: Vec::new(alloc),
             is_open: false,
         }
@@ -64,35 +65,43 @@ impl Filling {
         ensures link { OnOk result (self.new.link.items
             ≡ self.old.link.items ++ part_text cited.now self.old.name.items) }
         ensures whole { OnOk result (self.new.is_whole
-            ≡ (self.old.is_whole && gives cited.now self.old.name.items)) }
-        ensures row { OnOk result (self.new.names_row ≡ (self.old.names_row || is_row_name self.old.name.items)) }
+            ≡ (self.old.is_whole && is_given_or_row cited.now self.old.name.items)) }
+        ensures row { OnOk result (self.new.row_names
+            ≡ self.old.row_names + (if is_row_name self.old.name.items then 1 else 0)) }
         ensures name { OnOk result (self.new.name.items ≡ []) }
         ensures closed { OnOk result (self.new.is_open ≡ false) }
     {
         let part = part_of(alloc, cited, &self.name)?;
         let text = encoded(alloc, &part)?;
         self.link.extend_from_slice(text.as_bytes())?;
-        self.is_whole = self.is_whole && is_given(&part);
-        self.names_row = self.names_row || is_row_name(&self.name);
+        if is_row_name(&self.name) {
+            let Some(count) = self.row_names.checked_add(1) else {
+                return Err(AllocError);
+            };
+            self.row_names = count;
+        } else {
+            self.is_whole = self.is_whole && is_given(&part);
+        }
         self.name.clear();
         self.is_open = false;
         Ok(())
     }
 
     // Adds a byte of the template.
-    #[tactic(auto, using(crate::proofs::Fillings::and_assoc, crate::proofs::Fillings::or_assoc))]
+    #[tactic(auto, using(crate::proofs::Fillings::and_assoc))]
     fn add(&mut self, alloc: Global, cited: &CitedTitle<'_>, byte: u8) -> Result<(), AllocError>
         ensures link { OnOk result ((rest : List ℕ) →
             self.new.link.items ++ filled_from cited.now self.new.is_open self.new.name.items rest
             ≡ self.old.link.items ++ filled_from cited.now self.old.is_open self.old.name.items (byte ∷ rest)) }
         ensures whole { OnOk result ((rest : List ℕ) →
-            (self.new.is_whole && list_all (gives cited.now) (names_from self.new.is_open self.new.name.items rest))
+            (self.new.is_whole
+            && list_all (is_given_or_row cited.now) (names_from self.new.is_open self.new.name.items rest))
             ≡ (self.old.is_whole
-            && list_all (gives cited.now) (names_from self.old.is_open self.old.name.items (byte ∷ rest)))) }
+            && list_all (is_given_or_row cited.now) (names_from self.old.is_open self.old.name.items (byte ∷ rest)))) }
         ensures row { OnOk result ((rest : List ℕ) →
-            (self.new.names_row || list_any is_row_name (names_from self.new.is_open self.new.name.items rest))
-            ≡ (self.old.names_row
-            || list_any is_row_name (names_from self.old.is_open self.old.name.items (byte ∷ rest)))) }
+            self.new.row_names + count_by is_row_name (names_from self.new.is_open self.new.name.items rest)
+            ≡ self.old.row_names
+            + count_by is_row_name (names_from self.old.is_open self.old.name.items (byte ∷ rest))) }
     {
         if self.is_open {
             if byte == b'}' {
@@ -109,15 +118,15 @@ impl Filling {
     }
 
     /// Fills a template.
-    #[tactic(auto, using(crate::proofs::Fillings::and_true, crate::proofs::Fillings::or_false))]
+    #[tactic(auto, using(crate::proofs::Fillings::and_true))]
     pub(crate) fn of(
         alloc: Global,
         cited: &CitedTitle<'_>,
         template: &[u8],
     ) -> Result<Filling, AllocError>
         ensures link { IfOk result (λ filling. filling.link.items ≡ filled cited.now template.now) }
-        ensures whole { IfOk result (λ filling. filling.is_whole ≡ gives_all cited.now template.now) }
-        ensures row { IfOk result (λ filling. filling.names_row ≡ depends_on_row template.now) }
+        ensures whole { IfOk result (λ filling. filling.is_whole ≡ gives_others cited.now template.now) }
+        ensures row { IfOk result (λ filling. filling.row_names ≡ row_names template.now) }
     {
         let mut filling = Filling::new(alloc);
         for byte in template {
@@ -128,13 +137,21 @@ impl Filling {
 }
 
 impl Filling {
-    ghost use Rattle.std.specs.Prelude.{if◌then◌else◌, Some, None};
+    ghost use Rattle.std.specs.Prelude.{◌==◌, Some, None};
+    ghost use Rattle.node_site.specs.Articles.{row_part};
 
-    /// Returns the address that was made, if all its parts are given.
-    pub(crate) fn address(self) -> Option<Vec<u8>>
-        ensures { option_map (λ text. text.items) result ≡ (if self.is_whole then Some self.link.items else None) }
+    /// Returns the address that was made, if all its parts are given, and that of a row with this `title_id` if it has
+    /// one.
+    pub(crate) fn address(self, title_id: &[u8]) -> Option<Vec<u8>>
+        ensures { option_map (λ text. text.items) result
+            ≡ (if self.is_whole && ((self.row_names == 0) || is_given (row_part title_id.now))
+            then Some self.link.items else None) }
     {
-        if self.is_whole { Some(self.link) } else { None }
+        if self.is_whole && (self.row_names == 0 || is_given(row_part(title_id))) {
+            Some(self.link)
+        } else {
+            None
+        }
     }
 }
 

@@ -3,12 +3,13 @@
 //! which a site may replace.
 #![tactic(auto)]
 
-mod article_addresses;
+mod article_sizes;
 mod articles;
 mod bytes;
 mod cells;
 mod checks;
 mod cited;
+mod cited_links;
 mod column;
 mod cuts;
 mod domains;
@@ -58,9 +59,9 @@ mod title_places;
 mod urls;
 mod values;
 
-pub use article_addresses::ArticleAddresses;
 pub use articles::{article_link, doi_link, is_direct};
 pub use cited::{CitedTitle, citation_query};
+pub use cited_links::CitedLinks;
 pub use column::Column;
 pub use fault::ValueFault;
 pub use held::{library_has, may_hold};
@@ -86,7 +87,6 @@ pub use position::Position;
 pub use prefixes::{Prefix, again};
 pub use site_fault::{KeyFault, SiteFault};
 pub use site_file::{SITE_LIMIT, SiteFile};
-pub use site_links::{SiteLinks, shared};
 pub use sites::{SITES_LIMIT, Sites, SitesFault};
 pub use text_table::{TEXTS, Text};
 pub use text_words::is_name;

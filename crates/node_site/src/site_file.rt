@@ -217,6 +217,14 @@ impl SiteFile {
 
 impl SiteFile {
     ghost use Rattle.node_site.specs.Site.{with_listing};
+    ghost use Rattle.node_site.specs.Valid.{IsSite};
+
+    // Each text of a site file is of its kind.
+    pub(crate) fn texts_are_valid(&self)
+        ensures { IsSite self.now }
+    {
+        let _document = &self.document;
+    }
 
     /// Sets the holdings file that the site file names. It replaces one that was set before.
     pub fn set_holdings(&mut self, file: HoldingsFile)

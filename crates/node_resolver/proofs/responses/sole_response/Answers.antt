@@ -12,7 +12,7 @@ use Rattle.node_resolver.proofs.responses.sole_response.Goals as goal
 pub returns-in-Some : goal.returns-in-Some
 returns-in-Some c = c.redirect.ensures ∙ linked (λ t. t.items) c.in_ok-link.field-0 (sole_link (tally_among c.args.lookup.now (sited_in c.args.context.now))) c.in-Some.link
     (hits_response status.Good c.args.query.now.representation c.args.query.now.text.now (sited_in c.args.context.now) c.args.lookup.now)
-    (c.in_ok-link.ensures ∙ c.sole_link.ensures ∙ sole_made c.args.lookup.now (sited_in c.args.context.now) c.in_ok-hits.hits c.in_ok-hits.ensures)
+    (c.in_ok-link.ensures ∙ c.in_ok-sole.ensures ∙ sole_made c.args.lookup.now (sited_in c.args.context.now) c.in_ok-hits.hits c.in_ok-hits.ensures)
     c.in-Some.is
 
 pub returns-in-None : goal.returns-in-None
@@ -21,6 +21,6 @@ returns-in-None c = IfOk-weaker c.counted_response.result _
     (hits_response status.Good c.args.query.now.representation c.args.query.now.text.now (sited_in c.args.context.now) c.args.lookup.now))
     (λ reply is. is ∙ unlinked (λ t. t.items) c.in_ok-link.field-0 (sole_link (tally_among c.args.lookup.now (sited_in c.args.context.now)))
     (hits_response status.Good c.args.query.now.representation c.args.query.now.text.now (sited_in c.args.context.now) c.args.lookup.now)
-    (c.in_ok-link.ensures ∙ c.sole_link.ensures ∙ sole_made c.args.lookup.now (sited_in c.args.context.now) c.in_ok-hits.hits c.in_ok-hits.ensures)
+    (c.in_ok-link.ensures ∙ c.in_ok-sole.ensures ∙ sole_made c.args.lookup.now (sited_in c.args.context.now) c.in_ok-hits.hits c.in_ok-hits.ensures)
     c.in-None.is)
     c.counted_response.ensures
