@@ -11,6 +11,7 @@ pub mod Articles
 pub mod Merged
 pub mod PlacesAsked
 pub mod ShareBounds
+pub mod ShownBounds
 pub mod HitsFound
 pub mod Added
 pub mod AskedRows

@@ -1,5 +1,5 @@
 -- The laws of redirects and of hits in JSON.
-use Rattle.std.specs.Prelude.{◌≡◌, ◌↔◌, ◌⊎◌, ◌<◌, ◌≤◌, ◌^◌, ◌/◌, max, min, ℕ, List, [], ◌∷◌, Option, Some, true, false, All, sum, sum_by}
+use Rattle.std.specs.Prelude.{◌≡◌, ◌↔◌, ◌⊎◌, ◌<◌, ◌≤◌, ◌^◌, ◌/◌, max, min, ℕ, List, [], ◌∷◌, Some, true, false, All, length, sum, sum_by}
 use Rattle.std.specs.List.{Contains, list_all}
 use Rattle.std.specs.List.Sorted.{IsStrictlyIncreasing}
 use Rattle.json.specs.Json.{document, array}
@@ -30,7 +30,7 @@ use Rattle.node_hits.specs.declared.shares.Shares.{Shares}
 use Rattle.node_hits.specs.HitsJson.{hits_json, item_values}
 use Rattle.node_hits.specs.Searches.{SearchValue, compared}
 use Rattle.node_hits.specs.Ranks.{IsBestLink, IsPreferred}
-use Rattle.node_hits.specs.Tallies.{TallyValue, counted, sole_link, tally_of, text_limit, text_size}
+use Rattle.node_hits.specs.Tallies.{TallyValue, counted, first_within, shown_limit, sole_link, tally_of, text_limit, text_size}
 use Rattle.node_hits.specs.Tallying.{no_hits, with_releases, tally_from}
 
 -- a redirect goes to a URL of `http` or `https` in visible ASCII, within the limit of a link
@@ -112,6 +112,12 @@ HitsAreFound = (shares : Shares) (site : site_file.SiteValue) (today : TodayValu
     (found : ReleaseHitValue) → Contains (looks_in shares site today search name rows) (Some found)
     → Contains (release_found shares site today search name rows).hits found
     ⊎ ((0 < text_looks found.hit.row) × ((release_found shares site today search name rows).is_whole ≡ false))
+
+-- whatever the lists, the site and the query are, a response shows at most 1,000 hits, and their texts, the links to them and to
+-- the article among these, have fewer than 524,288 bytes in all.
+abbrev pub ShownHitsAreBounded : Type 0
+ShownHitsAreBounded = (hits : List ReleaseHitValue)
+    → (length (first_within shown_limit text_limit hits) ≤ 1000) × (sum_by text_size (first_within shown_limit text_limit hits) < 524288)
 
 -- a release that is whole has exactly the hits of the core that are searched for and that the library has, in their order
 abbrev pub WholeIsOfAnswer : Type 0

@@ -2,7 +2,8 @@
 ghost use Rattle.node_hits.specs.Laws.{AnswerIsJson, ArticlesComeFirst, BestLinkRanksHighest, BooksComeFirst};
 ghost use Rattle.node_hits.specs.Laws.{EachHasShare, HitsAreFound, HitsAreJson};
 ghost use Rattle.node_hits.specs.Laws.{LinksAreProxied, LooksAreAtPlaces, RanksInOrder};
-ghost use Rattle.node_hits.specs.Laws.{RedirectsToLink, SoleLinkIsOfSoleHit, TallyTellsOfHits, WholeIsOfAnswer};
+ghost use Rattle.node_hits.specs.Laws.{RedirectsToLink, ShownHitsAreBounded, SoleLinkIsOfSoleHit};
+ghost use Rattle.node_hits.specs.Laws.{TallyTellsOfHits, WholeIsOfAnswer};
 
 /// The URL of a redirect is one of `http` or `https` in at most 8,000 bytes of visible ASCII, so no byte of a file can
 /// end a line of a response's head.
@@ -61,6 +62,12 @@ pub fn each_has_share()
 /// not whole.
 pub fn hits_are_found()
     ensures { HitsAreFound }
+{}
+
+/// A response shows at most 1,000 hits. Their texts and links have fewer than 524,288 bytes in all, whatever the lists,
+/// the site and the query are.
+pub fn shown_hits_are_bounded()
+    ensures { ShownHitsAreBounded }
 {}
 
 /// A release that is whole has exactly the hits of the core that are searched for and that the library has, in their
