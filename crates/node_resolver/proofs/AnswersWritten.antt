@@ -25,17 +25,24 @@ use Rattle.node_hits.specs.QueryFacts.{QueryFactsValue, ask_of}
 use Rattle.node_hits.specs.Tallies.{TallyValue, sole_link, tally_of}
 use Rattle.node_hits.specs.Tallying.{RunningValue, with_release, with_releases, no_hits, tally_from}
 use Rattle.node_hits.proofs.Tallies.{tally_is}
-use Rattle.node_resolver.specs.Answers.{Sited, also_among, also_beside, release_in, shares_in, found_among, others_among, others_beside, tally_among, texts_behind, answers_body}
+use Rattle.node_resolver.specs.Answers.{Sited, also_beside, answers_body, body_by, found_among, found_by, others_beside, release_in, shares_in, sited_by, tally_among, texts_behind}
 use Rattle.node_resolver.specs.AnswerTexts.{texts_from}
 use Rattle.node_resolver.specs.Responses.{query_response, target_in, target_of}
 use Rattle.node_pages.specs.Fragments.{hits_fragment}
 use Rattle.node_pages.specs.HitsPage.{hits_page}
 
+-- the tallies of an answer's other parts
+abbrev pub also_among : SearchValue → Sited → TallyValue
+also_among search actives = tally_of (also_beside search actives)
+
+abbrev pub others_among : SearchValue → Sited → TallyValue
+others_among search actives = tally_of (others_beside (tally_among search actives).count search actives)
+
 abbrev after : List FoundValue → RunningValue
 after founds = with_releases no_hits founds
 
 texts_are : (shares : Shares) (site : site_file.SiteValue) (today : TodayValue) (search : SearchValue) (earlier : List FoundValue) (actives : List ActiveValue)
-    → texts_from shares site today search (after earlier) actives ≡ texts_behind shares site today search earlier actives
+    → texts_from shares site today search (after earlier) actives ≡ texts_behind earlier (found_by shares search (sited_by site today actives))
 texts_are shares site today search earlier [] = refl
 texts_are shares site today search earlier (active ∷ actives) =
     let own : FoundValue = release_in shares site today search active in
@@ -48,10 +55,10 @@ texts_are shares site today search earlier (active ∷ actives) =
 pub text_written : (representation : Representation) (text : List ℕ) (shares : Shares) (search : SearchValue) (actives : Sited) (old new : List ℕ) → representation ≡ Text
     → shares ≡ shares_in search actives → new ≡ old ++ texts_from shares actives.library actives.today search no_hits actives.actives
     → new ≡ old ++ answers_body representation text search actives
-unfolding answers_body
+unfolding body_by
 text_written representation text shares search actives old new chosen shared is =
     is ∙ ap (λ t. old ++ t) (texts_are shares actives.library actives.today search [] actives.actives)
-    ∙ ap (λ (s : Shares). old ++ texts_behind s actives.library actives.today search [] actives.actives) shared
+    ∙ ap (λ (s : Shares). old ++ texts_behind [] (found_by s search actives)) shared
     ∙ ap (λ (r : Representation). old ++ answers_body r text search actives) (sym chosen)
 
 pub json_written : (ask : QueryFactsValue) (search : SearchValue) (actives : Sited) (running also : RunningValue) (old new : List ℕ)
@@ -67,7 +74,7 @@ json_written ask search actives running also old new made beside is =
 pub json_answered : (representation : Representation) (text : List ℕ) (ask : QueryFactsValue) (search : SearchValue) (actives : Sited) (old new : List ℕ)
     → representation ≡ Json → ask ≡ ask_of text → new ≡ old ++ answer_json ask [] (tally_among search actives) (also_among search actives)
     → new ≡ old ++ answers_body representation text search actives
-unfolding answers_body
+unfolding body_by
 json_answered representation text ask search actives old new chosen read is =
     is ∙ ap (λ (a : QueryFactsValue). old ++ answer_json a [] (tally_among search actives) (also_among search actives)) read
     ∙ ap (λ (r : Representation). old ++ answers_body r text search actives) (sym chosen)
@@ -100,7 +107,7 @@ pub page_answered : (representation : Representation) (text : List ℕ) (ask : Q
     → representation ≡ Html → ask ≡ ask_of text
     → new ≡ old ++ hits_page actives.library text ask (tally_among search actives) (also_among search actives) (others_among search actives)
     → new ≡ old ++ answers_body representation text search actives
-unfolding answers_body
+unfolding body_by
 page_answered representation text ask search actives old new chosen read is =
     is ∙ ap (λ (a : QueryFactsValue). old ++ hits_page actives.library text a (tally_among search actives) (also_among search actives) (others_among search actives)) read
     ∙ ap (λ (r : Representation). old ++ answers_body r text search actives) (sym chosen)
@@ -109,7 +116,7 @@ pub sfx_written : (options : SfxOptions) (text : List ℕ) (site : site_file.Sit
     (old new : List ℕ) → options ≡ sfx_options_in text → site ≡ actives.library → running ≡ with_releases no_hits (found_among search actives)
     → cited ≡ with_title_id [] search.cited → new ≡ old ++ sfx_reply options site (tally_from running) cited
     → new ≡ old ++ answers_body Sfx text search actives
-unfolding answers_body
+unfolding body_by
 sfx_written options text site search actives running cited old new read of made cites is =
     is ∙ ap (λ (o : SfxOptions). old ++ sfx_reply o site (tally_from running) cited) read
     ∙ ap (λ (s : site_file.SiteValue). old ++ sfx_reply (sfx_options_in text) s (tally_from running) cited) of
@@ -121,7 +128,7 @@ pub fragment_answered : (representation : Representation) (text : List ℕ) (ask
     → representation ≡ Fragment → ask ≡ ask_of text
     → new ≡ old ++ hits_fragment actives.library text ask (tally_among search actives) (also_among search actives) (others_among search actives)
     → new ≡ old ++ answers_body representation text search actives
-unfolding answers_body
+unfolding body_by
 fragment_answered representation text ask search actives old new chosen read is =
     is ∙ ap (λ (a : QueryFactsValue). old ++ hits_fragment actives.library text a (tally_among search actives) (also_among search actives) (others_among search actives)) read
     ∙ ap (λ (r : Representation). old ++ answers_body r text search actives) (sym chosen)

@@ -16,7 +16,7 @@ use Rattle.node_hits.specs.Looks.{FoundValue}
 use Rattle.node_hits.specs.Tallies.{counted, partial_name, text_size, first_within, shown_limit, text_limit, tally_of}
 use Rattle.node_hits.specs.declared.shares.Shares.{Shares}
 use Rattle.node_hits.proofs.LooksPlaced.{of_answer}
-use Rattle.node_resolver.specs.Answers.{sited_by, release_in, found_by, shares_in, texts_behind, answers_body}
+use Rattle.node_resolver.specs.Answers.{body_by, found_by, release_in, shares_in, sited_by, texts_behind}
 use Rattle.node_resolver.specs.Laws.{written_answer, WholeTextIsWritten}
 
 -- all hits of the list are shown
@@ -118,7 +118,7 @@ front_whole founds more whole all = record {
 texts_whole : (shares : Shares) (site : site_file.SiteValue) (today : TodayValue) (search : SearchValue) (earlier : List FoundValue) (actives : List ActiveValue)
     → all_whole (earlier ++ found_by shares search (sited_by site today actives)) ≡ true
     → AllShown shown_limit text_limit (counted (earlier ++ found_by shares search (sited_by site today actives)))
-    → texts_behind shares site today search earlier actives ≡ flat_map (written_answer site search) actives
+    → texts_behind earlier (found_by shares search (sited_by site today actives)) ≡ flat_map (written_answer site search) actives
 texts_whole shares site today search earlier [] whole all = refl
 texts_whole shares site today search earlier (active ∷ actives) whole all =
     let own : FoundValue = release_in shares site today search active in
@@ -127,11 +127,11 @@ texts_whole shares site today search earlier (active ∷ actives) whole all =
     let each : all_whole ((earlier ++ own ∷ []) ++ rest) ≡ true = rw (← joint) whole in
     let shown : AllShown shown_limit text_limit (counted ((earlier ++ own ∷ []) ++ rest)) = rw (← joint) all in
     let mine = (both own.is_whole (all_whole rest) (back_all earlier (own ∷ rest) whole)).0 in
-    ap (λ t. t ++ texts_behind shares site today search (earlier ++ own ∷ []) actives)
+    ap (λ t. t ++ texts_behind (earlier ++ own ∷ []) rest)
     (release_is site today search earlier own active.name (held_hits site search active.name (answer_of active.holdings (compared search)))
     (of_answer site today search active.name shares active.holdings mine) (front_whole earlier (own ∷ rest) whole all) (front_whole (earlier ++ own ∷ []) rest each shown))
     ∙ ap (λ t. written_answer site search active ++ t) (texts_whole shares site today search (earlier ++ own ∷ []) actives each shown)
 
 pub whole_text : WholeTextIsWritten
-unfolding answers_body
+unfolding body_by
 whole_text text search actives whole all = texts_whole (shares_in search actives) actives.library actives.today search [] actives.actives whole all

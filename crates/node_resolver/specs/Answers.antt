@@ -2,6 +2,7 @@
 use Rattle.std.specs.Prelude.{ℕ, ◌==◌, ◌&&◌, ◌||◌, Bool, if◌then◌else◌, List, [], ◌∷◌, ◌++◌, drop, length, map, take, is_some}
 use Rattle.std.specs.Str.{bytes_eq}
 use Rattle.feed_answer.specs.Today.{TodayValue}
+use Rattle.node_site.specs.Requests.{CitedTitleValue}
 use Rattle.node_site.specs.Site as site_file
 use Rattle.feed_answer.specs.QueryValue.{QueryValue}
 use Rattle.feed_releases.specs.Actives.{ActiveValue}
@@ -87,13 +88,6 @@ is_of package_name active = bytes_eq active.name.package_name package_name
 abbrev pub tally_among : SearchValue → Sited → TallyValue
 tally_among search actives = tally_of (found_among search actives)
 
--- the answers of releases as text, behind those in which this was found: the limits on what is shown are on all
-abbrev pub texts_behind : Shares → site_file.SiteValue → TodayValue → SearchValue → List FoundValue → List ActiveValue → List ℕ
-texts_behind shares site today search earlier [] = []
-texts_behind shares site today search earlier (active ∷ actives) =
-    release_text (tally_of earlier) (tally_of (earlier ++ release_in shares site today search active ∷ [])) active.name
-    ++ texts_behind shares site today search (earlier ++ release_in shares site today search active ∷ []) actives
-
 -- the query names a date and a volume, or one of them
 abbrev pub has_both : QueryValue → Bool
 has_both query = is_some query.days && is_some query.volume
@@ -105,26 +99,43 @@ is_placed query = is_some query.days || is_some query.volume
 abbrev pub also_beside : SearchValue → Sited → List FoundValue
 also_beside search actives = if has_both search.query then found_among (in_scope scope.Dated search) actives else []
 
-abbrev pub also_among : SearchValue → Sited → TallyValue
-also_among search actives = tally_of (also_beside search actives)
-
 -- the other rows of the same titles, for any date and volume, which a query that names a date or a volume has if it has no
 -- hits of its own
 abbrev pub others_beside : ℕ → SearchValue → Sited → List FoundValue
 others_beside count search actives =
     if (count == 0) && is_placed search.query then found_among (in_scope scope.Others search) actives else []
 
-abbrev pub others_among : SearchValue → Sited → TallyValue
-others_among search actives = tally_of (others_beside (tally_among search actives).count search actives)
+-- the answer to a query, before it is written: what the releases have of it, of the same titles for its date whatever the volume
+-- is, and of the same titles whatever date and volume are
+pub record AnswerValue : Type 0 where
+  pub found : List FoundValue
+  pub also : List FoundValue
+  pub others : List FoundValue
 
--- the body of an answer from these releases, for what this text asks; as text, an answer does not repeat the query
-unfoldable pub answers_body : Representation → List ℕ → SearchValue → Sited → List ℕ
-answers_body Text text search actives =
-    texts_behind (shares_in search actives) actives.library actives.today search [] actives.actives
-answers_body Json text search actives = answer_json (ask_of text) [] (tally_among search actives) (also_among search actives)
-answers_body Html text search actives =
-    hits_page actives.library text (ask_of text) (tally_among search actives) (also_among search actives) (others_among search actives)
-answers_body Fragment text search actives =
-    hits_fragment actives.library text (ask_of text) (tally_among search actives) (also_among search actives) (others_among search actives)
-answers_body Sfx text search actives =
-    sfx_reply (sfx_options_in text) actives.library (tally_among search actives) (with_title_id [] search.cited)
+abbrev pub answer_among : SearchValue → Sited → AnswerValue
+answer_among search actives = record {
+  found = found_among search actives;
+  also = also_beside search actives;
+  others = others_beside (tally_among search actives).count search actives;
+}
+
+-- the answers of releases as text, behind those in which this was found: the limits on what is shown are on all
+abbrev pub texts_behind : List FoundValue → List FoundValue → List ℕ
+texts_behind earlier [] = []
+texts_behind earlier (found ∷ more) =
+    release_text (tally_of earlier) (tally_of (earlier ++ found ∷ [])) found.name ++ texts_behind (earlier ++ found ∷ []) more
+
+-- the body of an answer for the readers of a library, for what this text asks; as text, an answer does not repeat the query
+unfoldable pub body_by : Representation → site_file.SiteValue → List ℕ → CitedTitleValue → AnswerValue → List ℕ
+body_by Text site text cited answer = texts_behind [] answer.found
+body_by Json site text cited answer = answer_json (ask_of text) [] (tally_of answer.found) (tally_of answer.also)
+body_by Html site text cited answer =
+    hits_page site text (ask_of text) (tally_of answer.found) (tally_of answer.also) (tally_of answer.others)
+body_by Fragment site text cited answer =
+    hits_fragment site text (ask_of text) (tally_of answer.found) (tally_of answer.also) (tally_of answer.others)
+body_by Sfx site text cited answer = sfx_reply (sfx_options_in text) site (tally_of answer.found) cited
+
+-- the same of the answer to a query from these releases
+abbrev pub answers_body : Representation → List ℕ → SearchValue → Sited → List ℕ
+answers_body representation text search actives =
+    body_by representation actives.library text (with_title_id [] search.cited) (answer_among search actives)
