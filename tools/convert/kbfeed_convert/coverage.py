@@ -116,10 +116,12 @@ class Point:
     """One end of a range, as its tokens are read."""
 
     def __init__(self) -> None:
-        # How many tokens it has, short words and full stops not counted, and the place of its date and of its months.
+        # How many tokens it has, short words and full stops not counted, the place of its date and of its months, and
+        # whether these are in brackets.
         self.count = 0
         self.date_at = 0
         self.month_at: list[int] = []
+        self.is_month_inside = False
         self.dates: list[tuple[str, str]] = []
         self.months: list[int] = []
         # Bare numbers with their place, and whether they are in brackets.
@@ -160,7 +162,8 @@ def end_of(point: Point) -> End | None:
     if point.months:
         for number in bare:
             beside = number[1] in (point.month_at[0] - 1, point.month_at[-1] + 1)
-            if beside and not number[2] and 1 <= int(number[0]) <= 31 and len(point.months) == 1:
+            is_apart = number[2] and not point.is_month_inside
+            if beside and not is_apart and 1 <= int(number[0]) <= 31 and len(point.months) == 1:
                 day, bare = int(number[0]), [it for it in bare if it is not number]
                 break
     volume, issue = list(point.volume), list(point.issue)
@@ -427,6 +430,7 @@ class Reader:
         elif "month" in means:
             point.months.append(int(MONTHS[token.text]))
             point.month_at.append(point.count)
+            point.is_month_inside = self.depth > 0
         elif means & {"except", "missing"}:
             self.missing(at)
         elif "all" in means:

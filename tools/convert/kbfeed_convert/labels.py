@@ -268,14 +268,19 @@ class Columns:
                 found.append(place)
         return found
 
-    def guess_coverage(self, records: list[list[str]], is_statement: Callable[[str, str], bool],
-                       is_date: Callable[[str, str], bool], is_range: Callable[[str, str], bool]) -> str:
+    def guess_coverage(self, records: list[list[str]], is_dated: Callable[[str, str], bool],
+                       is_statement: Callable[[str, str], bool], is_date: Callable[[str, str], bool],
+                       is_range: Callable[[str, str], bool]) -> str:
         """Gives labels to the only column without one that has coverage, or to the only two of dates, if none of some
-        records ends before it begins. Returns their headers, or nothing.
+        records ends before it begins. An embargo alone is coverage if no column has more. Returns their headers, or
+        nothing.
 
         A row without dates says that readers have everything, so a wrong guess is no wider than none."""
         stated = [place for place in self.guess_dates(records, lambda *it: is_statement(*it) or is_date(*it))
                   if any(is_statement(self.header[place], it) for cells in records for it in cells[place:place + 1])]
+        dated = [place for place in stated
+                 if any(is_dated(self.header[place], it) for cells in records for it in cells[place:place + 1])]
+        stated = dated or stated
         own = [it for it in stated if is_own(self.header[it])]
         is_apart = all(APART & {*folded(self.header[it]).split()} for it in stated)
         if len(stated) == 1 or len(stated) == 2 and len(own) == 1 or stated and is_apart:
@@ -304,6 +309,14 @@ class Columns:
         """Gives the label of coverage to the column that has statements of the library's own, beside those of all."""
         found = [it for it in self.guess_dates(records, is_statement) if is_own(self.header[it])]
         return self.give(found[0], "coverage") if len(found) == 1 else ""
+
+    def guess_apart(self, records: list[list[str]], is_statement: Callable[[str, str], bool]) -> str:
+        """Gives the label of coverage to the columns that have a part of it each, as `Current coverage` beside `Archive
+        coverage`. Returns their headers."""
+        if not all(APART & {*folded(self.header[it]).split()} for it in self.places["coverage"]):
+            return ""
+        found = [it for it in self.guess_dates(records, is_statement) if APART & {*folded(self.header[it]).split()}]
+        return ", ".join(self.give(it, "coverage") for it in found)
 
     def keep_dates(self, records: list[list[str]], is_date: Callable[[str], bool]) -> None:
         """Takes the label of a date from the columns without dates, such as `First Issue` beside `First Date`."""

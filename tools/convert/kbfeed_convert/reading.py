@@ -116,9 +116,11 @@ def guessed_columns(text: io.TextIOWrapper, shape: form.Form, columns: labels.Co
     if is_guessed and not any(it in columns.places for it in ("coverage", *DATES)):
         for label in PUBLISHED:
             columns.take_away(label, [it for it in cells if has_serials(columns, [it])], unused.is_statement)
-        found["coverage"] = columns.guess_coverage(cells, unused.is_statement, unused.is_date, unused.is_range)
+        found["coverage"] = columns.guess_coverage(cells, unused.is_dated, unused.is_statement, unused.is_date,
+                                                   unused.is_range)
     elif is_guessed and "coverage" in columns.places:
         found["library's own coverage"] = columns.guess_own(cells, unused.is_statement)
+        found["other coverage"] = columns.guess_apart(cells, unused.is_statement)
     if is_guessed and not any(it in columns.places for it in EMBARGOES):
         found["embargo"] = columns.guess(cells, "embargo_info", unused.is_embargo)
     if "publication_title" not in columns.places:

@@ -17,6 +17,8 @@ HELD, NOT_HELD, HELD_LABELS = (word_set("held", it) for it in ("yes", "no", "lab
 # The share of the cells that have to look like one kind, and how many different ones the report has.
 MOST = 0.5
 CELLS = 5
+# Of that many characters one may be a letter in a long cell of dates.
+FEW = 4
 # The beginnings of a list of lists or of objects in JSON, which is not used.
 NESTED = ("[{", "[[")
 
@@ -34,11 +36,16 @@ def cell_kind(cell: str) -> str:
     if dates.YEARS.search(cell) or re.search("[0-9]", cell):
         if (found := coverage.read(cell, "")) and not found.unread:
             return "embargo" if found.embargo and not found.ranges[0].has_dates() else "dates"
-        if dates.YEARS.search(cell) and dates.read(cell, False, "").rule != dates.NOT_READ and len(cell) < 20:
+        if dates.YEARS.search(cell) and dates.read(cell, False, "").rule != dates.NOT_READ and is_short(cell):
             return "dates"
         if values.is_embargo(values.embargo(cell)):
             return "embargo"
     return ""
+
+
+def is_short(cell: str) -> bool:
+    """Returns whether a cell has little but its dates: few characters, or few letters among them."""
+    return len(cell) < 20 or FEW * sum(map(str.isalpha, cell)) <= len(cell)
 
 
 def is_statement(header: str, cell: str) -> bool:
@@ -49,6 +56,11 @@ def is_statement(header: str, cell: str) -> bool:
         return False
     found = coverage.read(cell, "")
     return bool(found and not found.unread and (found.embargo or any(it.first != it.last for it in found.ranges)))
+
+
+def is_dated(header: str, cell: str) -> bool:
+    """Returns whether a cell is a statement that has a date, and no embargo alone."""
+    return is_statement(header, cell) and any(it.has_dates() for it in coverage.read(cell, "").ranges)
 
 
 def is_date(header: str, cell: str) -> bool:
