@@ -17,6 +17,8 @@ SAMPLE = 50
 EXPECTED = ("publication_title", "title_url")
 # The different cells that a column has at most that says which titles are held.
 HELD_CELLS = 10
+# The column of KBART lists of OCLC whose rows may be deletions.
+ACTION = "action"
 # The labels beside which no column of embargoes is guessed.
 EMBARGOES = ("embargo_info", "embargo_days", "embargo_months", "embargo_years")
 
@@ -134,10 +136,13 @@ def guessed_columns(text: io.TextIOWrapper, shape: form.Form, columns: labels.Co
 
 def held_titles(text: io.TextIOWrapper, shape: form.Form, columns: labels.Columns,
                 rules: mapping.Map) -> tuple[mapping.Map, list[str]]:
-    """Returns the rules with the condition of a column whose cells all say whether a title is held, as `Subscribed` and
-    `Not subscribed`, if the list has one, and a warning."""
-    places = [it for it, header in columns.left_over() if unused.label_kind(header) == "status"]
-    if shape.is_kbart or rules.where or not places:
+    """Returns the rules with a condition for each column with cells that say that a title is not held, as `Not
+    available`, or for the only one whose cells all say whether it is, by yes and no, and a warning for each."""
+    places = [it for it, header in columns.left_over() if unused.may_be_held(header)]
+    places += columns.places.get("access_type", [])
+    if shape.is_kbart:
+        places = [it for it, header in columns.left_over() if folded(header) == ACTION]
+    if any(mapping.place_of(shape.header, it) >= 0 for it in rules.where) or not places:
         return rules, []
     found: dict[int, set[str]] = {it: set() for it in places}
     text.seek(0)
@@ -145,15 +150,15 @@ def held_titles(text: io.TextIOWrapper, shape: form.Form, columns: labels.Column
         for place, cells in found.items():
             if len(cells) <= HELD_CELLS and any(map(str.strip, record.cells)):
                 cells.add(folded("".join(record.cells[place:place + 1])))
-    held = {it: values for it, cells in found.items()
-            if len(cells) <= HELD_CELLS and (values := unused.held_values(columns.header[it], cells))}
-    if len(held) != 1:
-        return rules, []
-    place, values = held.popitem()
-    header = columns.header[place].strip()
-    columns.left_out.add(header)
-    return (rules._replace(where={header: sorted(values)}),
-            [f"the column {header!r} says which titles are held: those with {' or '.join(map(repr, sorted(values)))}"])
+    few = {it: cells for it, cells in found.items() if len(cells) <= HELD_CELLS}
+    held = {it: values for it, cells in few.items() if (values := unused.others(cells))}
+    said = {it: values for it, cells in few.items() if (values := unused.held_values(columns.header[it], cells))}
+    held = said if len(said) == 1 and not held else held
+    columns.left_out |= {columns.header[it].strip() for it in held}
+    where = {columns.header[it].strip(): sorted(values) for it, values in held.items()}
+    return (rules._replace(where=where) if where else rules,
+            [f"the column {header!r} says which titles are held: those with {' or '.join(map(repr, values))}"
+             for header, values in where.items()])
 
 
 def has_serials(columns: labels.Columns, records: list[list[str]]) -> bool:

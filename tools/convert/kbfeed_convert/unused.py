@@ -13,7 +13,9 @@ SHOWN = {"dates": "dates", "embargo": "an embargo", "status": "a status"}
 LABELS = {kind: word_set("suspects", kind) for kind in KINDS}
 HARMLESS = word_set("suspects", "harmless")
 STATUS = word_set("suspects", "status_cells")
-HELD, NOT_HELD, HELD_LABELS = (word_set("held", it) for it in ("yes", "no", "labels"))
+HELD, NOT_HELD, HELD_LABELS, HELD_COLUMNS = (word_set("held", it) for it in ("yes", "no", "labels", "columns"))
+# The year in `Subscribed 2026`.
+YEAR_BEHIND = re.compile(" [0-9]{4}$")
 # The share of the cells that have to look like one kind, and how many different ones the report has.
 MOST = 0.5
 CELLS = 5
@@ -101,9 +103,20 @@ def is_range(first: str, last: str) -> bool:
     return not begins or not ends or min(begins) <= max(ends)
 
 
+def may_be_held(header: str) -> bool:
+    """Returns whether the cells of a column may say that a title is held, by its label."""
+    said = folded(header).split()
+    return label_kind(header) == "status" or any(it in HELD_COLUMNS or it.endswith("status") for it in said)
+
+
+def others(cells: set[str]) -> set[str]:
+    """Returns the cells of a column besides those that say that a title is not held, if it has both."""
+    return cells - NOT_HELD if cells & NOT_HELD else set()
+
+
 def held_values(header: str, cells: set[str]) -> set[str]:
     """Returns the cells of a column that say that a title is held, if all say that or the opposite, and some each."""
-    says_yes_no = folded(header) in HELD_LABELS
+    says_yes_no = YEAR_BEHIND.sub("", folded(header)) in HELD_LABELS
     said = {it: "yes" if it in HELD else "no" if it in NOT_HELD else values.YES_NO.get(it, "") if says_yes_no else ""
             for it in cells}
     return {it for it in cells if said[it] == "yes"} if {*said.values()} == {"yes", "no"} else set()
