@@ -638,6 +638,9 @@ class Reader:
         """Notes that a range is missing: the one that follows, or the one before in the same piece."""
         self.end_range()
         following = self.ahead(at + 1, ",;|)]")
+        if any(it.meanings & {"volume", "issue"} for it in following):
+            # `lacks v.3, 1968`
+            following = self.ahead(at + 1, ";|)]")
         if any(it.kind in DATES for it in following):
             self.is_missing = True
         elif 0 < self.piece < len(self.pieces):
@@ -709,6 +712,9 @@ class Reader:
             self.keep(one, two)
         elif bool(one.first) == bool(two.last):
             self.keep(one, two)
+        elif not one.first and int(two.last[:4]) - int(two.first[:4]) > 1:
+            # `v. 1-29 (1966-94)`
+            self.keep(one._replace(first=two.first), two)
         else:
             # One end has a date, and the other one only a number: that one is not known.
             self.unread.append("an end without a date")
@@ -756,7 +762,9 @@ class Reader:
                 whole = whole or hull(held)
                 held = [it for one in held for it in without(one, piece.range)]
             elif piece.range.has_dates():
-                held.append(piece.range)
+                # Of `1966-1994 [1970 incomplete]`, a part that does not read has no row of its own.
+                if not (self.unread and held and is_within([piece.range], held[-1])):
+                    held.append(piece.range)
             else:
                 self.unread.append("numbers without a date")
         for gap in gaps:

@@ -54,6 +54,10 @@ FOREVER = re.compile(r"(?<![0-9])9999(?:[-/.]12[-/.]31)?(?![0-9])")
 AROUND = re.compile(r"\b(?:pre|post)-(?=[0-9]{4}(?![0-9]))")
 AFTER = re.compile(r"\bafter (?=(?:an? |the |first |initial )?[0-9]{1,3}[ -]?(?:day|week|month|year))")
 LAST_YEAR = re.compile(r"(?<=[-o] )(?:the )?(?:last|previous|prior) year\b")
+# The mark of a series before a volume, as in `n.s. v.1` and `ser. 2, v.1`, and `[L=1968]`, which is lacking.
+SERIES = re.compile(r"\b(?:[no]\. ?[sf]\.|ser(?:ies?)?\.? ?[0-9]{1,2}(?=[:, ])) ?[:,]? ?"
+                    r"(?=(?:(?:v|vol|bd|t|jg|no|n)\.? ?)?[0-9])")
+LACKS = re.compile(r"(?<=[\[(])l ?= ?")
 # An ending in brackets, as of `year(s)`, and one with an apostrophe, as of `1995'ten`.
 ENDING = re.compile(r"\((?:s|es|e|en|n)\)")
 
@@ -99,6 +103,7 @@ def simplified(cell: str) -> str:
     if "year" in text or "month" in text or "current" in text:
         text = COUNTED_UNITS.sub(r"\1 \2 ago", AFTER.sub("embargo ", text))
         text = LAST_YEAR.sub("1 year ago", COUNTED.sub(lambda it: f" {it[1]} {it[2] or 'year'} ago", text))
+    text = LACKS.sub("lacks ", SERIES.sub("", text))
     if ">" in text or "→" in text:
         text = ARROW.sub("-", text)
     return dates.APART.sub(r"\1", ANNATA.sub("vol ", text).replace("t/m", "tot"))
