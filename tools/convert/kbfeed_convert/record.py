@@ -3,7 +3,7 @@ import datetime
 import itertools
 import operator
 import re
-from typing import NamedTuple
+from typing import NamedTuple, Sequence
 
 from . import coverage, dates, form, identifiers, jsonlist, kinds, strict, unused, values, volumes
 from .choosing import Chooser
@@ -156,6 +156,10 @@ class Converter:
         self.status = [at for at, header in columns.left_over()
                        if unused.label_kind(header) == "status" and not self.is_kbart
                        and not ENDS & {*folded(header).split()}]
+        # Whether the header of each column of numbers says that all of them are of its side, as `P-ISSN`.
+        self.sided_columns = [not self.is_kbart and bool(of := places.get(label, [])) and all(
+            has_word(side, text, frozenset(text.split())) for text in (folded(columns.header[it]) for it in of))
+            for label, side in zip(NUMBERS, ("print", "online"))]
         self.has_numbers_apart = bool({*NUMBERS} & {*self.several}) or "other_identifier" in places
 
     def convert(self, given: form.Record) -> Outcome:
@@ -247,7 +251,8 @@ class Converter:
         kind = before.kind if self.is_kbart and isinstance(before, strict.Row) else self.kind(draft, sides)
         if kind:
             self.note_unread(draft)
-        return kind, paired(*sides.of("issn" if kind == "serial" else "isbn"))
+        print_, online, further = sides.of("issn" if kind == "serial" else "isbn")
+        return kind, paired(print_, online, further, self.sided_columns)
 
     def is_settled(self, cells: Cells, before: strict.Row) -> bool:
         """Returns whether the reader's own rules decide the type and the identifiers of a row."""
@@ -737,10 +742,12 @@ def before_pair(row: strict.Row) -> tuple[str, str]:
     return row.print_identifier or "", row.online_identifier or ""
 
 
-def paired(print_: list[str], online: list[str], further: list[str]) -> list[tuple[str, str]]:
+def paired(print_: list[str], online: list[str], further: list[str],
+           is_sided: Sequence[bool] = (False, False)) -> list[tuple[str, str]]:
     """Returns the identifiers of each row.
 
-    A second number takes the other column if that is empty, or else a row of its own."""
+    A second number takes the other column if that is empty and the label of its own does not say that it is of that
+    side, as `is_sided` has it, or else a row of its own."""
     if not print_ and not online:
         print_ = further
     # A number that both columns have takes the column that is empty without it.
@@ -751,8 +758,8 @@ def paired(print_: list[str], online: list[str], further: list[str]) -> list[tup
     online = list(dict.fromkeys(it for it in online if it not in both))
     for number in both:
         (print_ if not print_ or online else online).append(number)
-    if len(print_) > 1 and not online:
+    if len(print_) > 1 and not online and not is_sided[0]:
         online = [print_.pop(1)]
-    elif len(online) > 1 and not print_:
+    elif len(online) > 1 and not print_ and not is_sided[1]:
         print_ = [online.pop(1)]
     return list(itertools.zip_longest(print_, online, fillvalue="")) or [("", "")]
