@@ -51,13 +51,15 @@ def is_short(cell: str) -> bool:
 
 
 def is_statement(header: str, cell: str) -> bool:
-    """Returns whether a cell is a whole statement of coverage: a range, an open beginning or end, or a moving wall.
+    """Returns whether a cell is a whole statement of coverage: a range, an open beginning or end, several dates, or a
+    moving wall.
 
     A column such as `Held` has a status by its label, but no status is a range."""
     if label_kind(header) == "harmless":
         return False
     found = coverage.read(cell, "")
-    return bool(found and not found.unread and (found.embargo or any(it.first != it.last for it in found.ranges)))
+    return bool(found and not found.unread and (found.embargo or len(found.ranges) > 1
+                                                or any(it.first != it.last for it in found.ranges)))
 
 
 def is_dated(header: str, cell: str) -> bool:
