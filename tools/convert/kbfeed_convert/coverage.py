@@ -643,6 +643,10 @@ class Reader:
             following = self.ahead(at + 1, ";|)]")
         if any(it.kind in DATES for it in following):
             self.is_missing = True
+        elif any(it.meanings & {"volume", "issue"} for it in following):
+            # `lacks v.3-5`: nobody knows their dates.
+            self.leave(self.tokens[at])
+            self.is_broken = True
         elif 0 < self.piece < len(self.pieces):
             self.pieces[self.piece:] = [it._replace(is_missing=True) for it in self.pieces[self.piece:]]
         else:

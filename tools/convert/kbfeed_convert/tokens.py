@@ -40,7 +40,7 @@ ANNATA = re.compile(r"\ba\. ?(?=[0-9]{1,3}(?![0-9]))")
 LINE_END = re.compile(r"[\r\n]+|<br ?/?>", re.I)
 # `01-Jan-1990`. An arrow is a dash, and the dash of `Jan-1990` is none, unless the month belongs to a year before it.
 DAY_MONTH = re.compile(r"(?<![0-9])([0-9]{1,2})-([^\W\d_]{3,9})\.?-(?=[0-9]{4}(?![0-9]))")
-ARROW = re.compile(r"-*>(?=\s|$|[0-9])|[→⇒➔]")
+ARROW = re.compile(r"-+>(?=\s|$|[0-9])|(?<=[0-9)\]]) ?>(?=\s|$|[0-9])|[→⇒➔]")
 MONTH_YEAR = re.compile(r"(?<![0-9]{4}[ ,:(])(?<![0-9]{4}, )(?<![^\W_])([^\W\d_]{3,9})\.?-(?=[0-9]{4}(?![0-9/-]))")
 YEAR_MONTH = re.compile(r"(?<![0-9/-])([0-9]{4})-([^\W\d_]{3,9})(?![^\W_]|\.? ?,? ?[0-9])")
 # Years that are counted from today's: `current year - 1`, and `to last year`.
@@ -58,6 +58,8 @@ LAST_YEAR = re.compile(r"(?<=[-o] )(?:the )?(?:last|previous|prior) year\b")
 SERIES = re.compile(r"\b(?:[no]\. ?[sf]\.|ser(?:ies?)?\.? ?[0-9]{1,2}(?=[:, ])) ?[:,]? ?"
                     r"(?=(?:(?:v|vol|bd|t|jg|no|n)\.? ?)?[0-9])")
 LACKS = re.compile(r"(?<=[\[(])l ?= ?")
+# The brackets of MARC around an end that is not known for certain, as in `v.1(1966)- <v.29(1994)>`.
+ANGLES = re.compile(r"<([^<>]{1,60})>")
 # An ending in brackets, as of `year(s)`, and one with an apostrophe, as of `1995'ten`.
 ENDING = re.compile(r"\((?:s|es|e|en|n)\)")
 
@@ -105,6 +107,7 @@ def simplified(cell: str) -> str:
         text = LAST_YEAR.sub("1 year ago", COUNTED.sub(lambda it: f" {it[1]} {it[2] or 'year'} ago", text))
     text = LACKS.sub("lacks ", SERIES.sub("", text))
     if ">" in text or "→" in text:
+        text = ANGLES.sub(lambda it: f" {it[1]} " if re.search("[0-9]", it[1]) else it[0], text)
         text = ARROW.sub("-", text)
     return dates.APART.sub(r"\1", ANNATA.sub("vol ", text).replace("t/m", "tot"))
 
