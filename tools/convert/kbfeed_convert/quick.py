@@ -156,8 +156,8 @@ def depth(cell: str) -> Cell:
 
 
 def access(cell: str) -> Cell | None:
-    """Reads the access. One with a year may widen the row."""
-    if has_year_beside(cell):
+    """Reads the access. One with a year may widen the row, and one may be a depth."""
+    if has_year_beside(cell) or values.depth(cell) == "abstracts":
         return None
     return changed("access_type", cell, values.access(cell), "the access in words")
 

@@ -299,6 +299,9 @@ class Converter:
         for label in [it for it in PUBLISHED if cells[it] and not self.is_kbart]:
             put(label, dates.published(cells[label], self.settings.order), "a date of publication")
         put("coverage_depth", values.depth(cells["coverage_depth"]), "the depth in words")
+        if not cells["coverage_depth"] and not self.is_kbart and values.depth(cells["access_type"]) == "abstracts":
+            # `Abstracts only` below `Access`
+            put("coverage_depth", "abstracts", "the depth in words")
         put("access_type", values.access(cells["access_type"]), "the access in words")
         if not cells["access_type"] and "open_access" in columns.places:
             put("access_type", values.open_access(columns.cell(draft.fields, "open_access")), "the access in words")
