@@ -1,7 +1,9 @@
 //! Reading a whole file: from bytes to holdings, to counts, or to the first reason why the file is bad.
-ghost use Rattle.std.specs.Prelude.{◌≡◌, ◌≤◌, ℕ, List, IfSome, Some, length};
+ghost use Rattle.std.specs.Io.KnownBytes.{Consumes, IsAtEnd};
+ghost use Rattle.std.specs.Prelude.{◌≡◌, ◌≤◌, ◌<◌, ℕ, List, IfErr, IfOk, IfSome, Some, length, take, vec_len};
 ghost use Rattle.feed_kbart.specs.Files.{IsCountOf, IsReadOf};
 ghost use Rattle.feed_kbart.specs.Kept.{IsBuilt, IsKeptOf};
+ghost use Rattle.feed_kbart.specs.declared.fault.KbartFault.TheVariants as fault;
 ghost use Rattle.feed_limits.specs.Limits.{file_limit};
 ghost use Rattle.feed_text.specs.Records.{records_of};
 
@@ -14,12 +16,49 @@ use crate::list_text::ListText;
 use crate::row_store::RowStore;
 use feed_limits::FILE_LIMIT;
 use feed_text::{Given, TextReader, check_text};
-use std::alloc::Global;
+use std::alloc::{AllocError, Global};
 use std::io::Read;
 use std::marker::Brand;
 
-// The number of bytes read at once. Each block has a reader of records of its own, which takes some 0.1 ms to make.
+// The sizes of the first block of bytes and of the largest. A block is filled before it is parsed, since each one has a
+// reader of records of its own, which takes some 0.1 ms to make. The first one is small, since most lists are.
+const FIRST_BLOCK: usize = 16_384;
+
 const BLOCK: usize = 262_144;
+
+const GROWTH: usize = 4;
+
+// Fills a block, or reads to the end. Returns the number of bytes read, which is the block's length unless the reader
+// has ended.
+fn fill<R: Read>(reader: &mut R, block: &mut [u8]) -> Result<usize, KbartFault>
+    ensures within { IfOk result (λ count. count ≤ length block.new) }
+    ensures bytes { IfOk result (λ count. Consumes (R.remaining reader.old) (R.remaining reader.new)
+        (take count block.new)) }
+    ensures end { IfOk result (λ count. count < length block.new → IsAtEnd (R.remaining reader.new)) }
+    ensures fault { IfErr result (λ why. why ≡ fault.Read) }
+{
+    let mut filled = 0;
+    while filled < block.len() {
+        match reader.read(&mut block[filled..]) {
+            Ok(0) => return Ok(filled),
+            Ok(count) => filled += count,
+            Err(_) => return Err(KbartFault::Read),
+        }
+    }
+    Ok(filled)
+}
+
+// Returns a block for the bytes after a full one.
+fn next_block(alloc: Global, block: Vec<u8>) -> Result<Vec<u8>, AllocError>
+    requires { 0 < vec_len block }
+    ensures { IfOk result (λ next. 0 < vec_len next) }
+{
+    let size = block.len();
+    if size >= BLOCK {
+        return Ok(block);
+    }
+    vec![in alloc; 0u8; (size * GROWTH).min(BLOCK)]
+}
 
 // Reads a list to its end.
 fn read_list<R: Read, K: KeepRows>(
@@ -30,17 +69,20 @@ fn read_list<R: Read, K: KeepRows>(
         → IsBuilt K.keeps (records_of text) result }
 {
     let mut list = ListText::new(alloc);
-    let mut block = vec![in alloc; 0u8; BLOCK]?;
+    let mut block = vec![in alloc; 0u8; FIRST_BLOCK]?;
     let mut total = 0;
     while total <= FILE_LIMIT {
-        match reader.read(&mut block) {
-            Ok(0) => return list.finish(alloc),
-            Ok(count) => {
-                list.add(alloc, &block[..count])?;
-                total += count;
-            }
-            Err(_) => return Err(KbartFault::Read),
+        let count = fill(reader, &mut block)?;
+        list.add(alloc, &block[..count])?;
+        total += count;
+        if count < block.len() {
+            return if total <= FILE_LIMIT {
+                list.finish(alloc)
+            } else {
+                Err(KbartFault::TooLong)
+            };
         }
+        block = next_block(alloc, block)?;
     }
     Err(KbartFault::TooLong)
 }
