@@ -1,10 +1,8 @@
 -- The labels, one by one.
-use Rattle.std.proofs.Common.{◌≡◌, ◌<◌, ◌+◌, ℕ, zero, suc, List, [], ◌∷◌, Option, Some, arith, false, length, refl}
+use Rattle.std.proofs.Common.{◌≡◌, ◌+◌, ℕ, List, [], ◌∷◌, Option, Some, arith, false, length, refl}
 use denote.Enum.Declared.{tag_of}
-use Rattle.csv.specs.Records.{field_at}
-use Rattle.feed_kbart.specs.Columns.{cell, column_of}
-use Rattle.feed_kbart.specs.Labels.{is_label, label_at, label_count, slot}
-use Rattle.feed_kbart.specs.Stored.{cells_of, in_order, stored_columns}
+use Rattle.feed_kbart.specs.Labels.{is_label, label_at, label_count}
+use Rattle.feed_kbart.specs.Stored.{in_order}
 use Rattle.feed_kbart.specs.contracts.label.Label.{the_type}
 use Rattle.feed_kbart.specs.declared.label.Label.{Label}
 use Rattle.feed_kbart.specs.declared.label.Label.TheVariants.{PublicationTitle, PrintIdentifier, OnlineIdentifier, DateFirstIssueOnline, NumFirstVolOnline}
@@ -38,29 +36,7 @@ placed = each_label (λ label. label_at (tag_of the_type label + 1) ≡ Some lab
 pub empty-label : (label : Label) → is_label label [] ≡ false
 empty-label = each_label (λ label. is_label label [] ≡ false) refl refl refl refl refl refl refl refl refl refl refl refl refl
 
--- the columns of stored cells
-pub stored_slot : (label : Label) → column_of stored_columns label ≡ Some (slot label)
-stored_slot = each_label (λ label. column_of stored_columns label ≡ Some (slot label)) refl refl refl refl refl refl refl refl refl refl refl refl refl
-
 -- the columns in order are all there are
 pub ordered : (columns : List (Option ℕ)) → length columns ≡ label_count → columns ≡ in_order (record { columns = columns })
 ordered (a ∷ b ∷ c ∷ d ∷ e ∷ f ∷ g ∷ h ∷ i ∷ j ∷ k ∷ l ∷ m ∷ []) long = refl
 ordered columns long = absurd (omega (arith, long))
-
--- a cell is at its place
-pub stored-cell : (place : ℕ) (cells : List (List ℕ)) → place < label_count → cell (Some place) (cells_of stored_columns cells) ≡ cell (Some place) cells
-unfolding field_at
-stored-cell zero cells within = refl
-stored-cell (suc zero) cells within = refl
-stored-cell (suc (suc zero)) cells within = refl
-stored-cell (suc (suc (suc zero))) cells within = refl
-stored-cell (suc (suc (suc (suc zero)))) cells within = refl
-stored-cell (suc (suc (suc (suc (suc zero))))) cells within = refl
-stored-cell (suc (suc (suc (suc (suc (suc zero)))))) cells within = refl
-stored-cell (suc (suc (suc (suc (suc (suc (suc zero))))))) cells within = refl
-stored-cell (suc (suc (suc (suc (suc (suc (suc (suc zero)))))))) cells within = refl
-stored-cell (suc (suc (suc (suc (suc (suc (suc (suc (suc zero))))))))) cells within = refl
-stored-cell (suc (suc (suc (suc (suc (suc (suc (suc (suc (suc zero)))))))))) cells within = refl
-stored-cell (suc (suc (suc (suc (suc (suc (suc (suc (suc (suc (suc zero))))))))))) cells within = refl
-stored-cell (suc (suc (suc (suc (suc (suc (suc (suc (suc (suc (suc (suc zero)))))))))))) cells within = refl
-stored-cell (suc (suc (suc (suc (suc (suc (suc (suc (suc (suc (suc (suc (suc place))))))))))))) cells within = absurd (omega (arith, within))

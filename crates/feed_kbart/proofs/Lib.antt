@@ -16,6 +16,7 @@ pub mod Columns
 pub mod Merging
 pub mod Ordered
 pub mod Listed
+pub mod RowContents
 pub mod Stored
 pub mod Wholes
 pub mod Drafts

@@ -1,6 +1,6 @@
 -- The cells that are read from a block are those that were stored.
-use Rattle.std.proofs.Common.{◌≡◌, ◌↔◌, ◌<◌, ◌+◌, ◌-◌, ◌∙◌, ℕ, zero, suc, true, false, ltb, eqb, List, [], ◌∷◌, ◌++◌, length, drop, get_or}
-use Rattle.std.proofs.Common.{Option, Some, None, option_map, refl, sym, ap, arith, append_assoc}
+use Rattle.std.proofs.Common.{◌≡◌, ◌↔◌, ◌<◌, ◌+◌, ◌-◌, ◌∙◌, ℕ, suc, true, false, ltb, eqb, List, [], ◌∷◌, ◌++◌, length, drop, get_or}
+use Rattle.std.proofs.Common.{Option, Some, None, refl, sym, ap, arith, append_assoc}
 use Rattle.std.specs.Int.{to_le_bytes, w32}
 use Rattle.std.specs.List.{All, flat_map}
 use Rattle.std.proofs.Math.Seq.{drop-append_seam, take-append_seam}
@@ -11,11 +11,11 @@ use Rattle.csv.specs.Records.{field_at}
 use Rattle.feed_kbart.specs.Columns.{field_of}
 use Rattle.feed_kbart.specs.Coverage.{kind_of}
 use Rattle.feed_kbart.specs.Rows.{row_of}
-use Rattle.feed_kbart.specs.Stored.{IsShort, cells_of, cut, days_at, kept_cells, row_at, row_with_cells, split_long, split_text, stored_columns, text_at, text_bytes, texts_in}
+use Rattle.feed_kbart.specs.Stored.{IsShort, cells_of, cut, kept_cells, row_at, row_with_cells, split_long, split_text, text_bytes, texts_in}
 use Rattle.feed_kbart.specs.declared.header.Columns.{Columns}
 use Rattle.feed_kbart.specs.declared.identifiers.Kind.{Kind}
 use Rattle.feed_kbart.specs.declared.identifiers.Kind.TheVariants as of
-use Rattle.feed_kbart.specs.declared.label.Label.TheVariants.{DateFirstIssueOnline, DateLastIssueOnline, PublicationType}
+use Rattle.feed_kbart.specs.declared.label.Label.TheVariants.{PublicationType}
 use Rattle.feed_kbart.proofs.Keeping.{row_of_kept}
 
 not_mark : (n : ℕ) → ltb n 255 ≡ true → eqb n 255 ≡ false
@@ -43,13 +43,6 @@ texts_stored (text ∷ texts) bytes short =
     let rest = texts_stored texts bytes (λ k d within. short (suc k) d (omega (arith, within))) in
     rw (append_assoc (text_bytes text) (flat_map text_bytes texts) bytes, first, rest) refl
 
--- the text at a place is that of the first texts
-pub text_of_texts : (n place : ℕ) (bytes : List ℕ) → place < n → field_at (texts_in n bytes) place ≡ Some (text_at place bytes)
-unfolding field_at texts_in text_at
-text_of_texts zero place bytes within = absurd (omega (arith, within))
-text_of_texts (suc n) zero bytes within = refl
-text_of_texts (suc n) (suc place) bytes within = text_of_texts n place (split_text bytes).1 (omega (arith, within))
-
 -- the row of the cells of a record is the row of the record
 pub row_of_cells : (columns : Columns) (number : ℕ) (fields : List (List ℕ)) → row_with_cells number (cells_of columns fields) ≡ row_of columns number fields
 unfolding field_at
@@ -70,26 +63,6 @@ row_stored before more columns number fields short =
     ∙ ap (row_at number) (drop-append_seam before (flat_map text_bytes cells ++ more))
     ∙ ap (row_with_cells number) (texts_stored cells more short)
     ∙ row_of_kept columns fields number
-
--- the days of a row are those of its cells
-module _ (number : ℕ) (cells : List (List ℕ)) where
-  pub first_day_of_cells : option_map (λ days. days.first) (days_at DateFirstIssueOnline cells) ≡ (row_with_cells number cells).first_day
-  first_day_of_cells = go (kind_of (field_of stored_columns PublicationType cells)) refl
-    where
-      go : (kind : Option Kind) → kind_of (field_of stored_columns PublicationType cells) ≡ kind
-          → option_map (λ days. days.first) (days_at DateFirstIssueOnline cells) ≡ (row_with_cells number cells).first_day
-      go None e = rw e refl
-      go (Some of.Serial) e = rw e refl
-      go (Some of.Book) e = rw e refl
-
-  pub last_day_of_cells : option_map (λ days. days.last) (days_at DateLastIssueOnline cells) ≡ (row_with_cells number cells).last_day
-  last_day_of_cells = go (kind_of (field_of stored_columns PublicationType cells)) refl
-    where
-      go : (kind : Option Kind) → kind_of (field_of stored_columns PublicationType cells) ≡ kind
-          → option_map (λ days. days.last) (days_at DateLastIssueOnline cells) ≡ (row_with_cells number cells).last_day
-      go None e = rw e refl
-      go (Some of.Serial) e = rw e refl
-      go (Some of.Book) e = rw e refl
 
 -- blocks have the same texts exactly if their first texts are the same, and those after them
 texts_split : (n : ℕ) (bytes : List ℕ) → texts_in (suc n) bytes ≡ (split_text bytes).0 ∷ texts_in n (split_text bytes).1

@@ -12,6 +12,7 @@ pub mod Runs
 pub mod Index
 pub mod Rows
 pub mod Stored
+pub mod RowCells
 pub mod RecordBytes
 pub mod RecordValue
 pub mod Store

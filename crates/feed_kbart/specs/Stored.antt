@@ -1,18 +1,13 @@
 -- The cells of a row in a block of bytes, each behind its length.
-use Rattle.std.specs.Prelude.{ℕ, zero, suc, ◌<◌, ◌^◌, ◌==◌, nat_lt, Bool, true, false, List, [], ◌∷◌, ◌++◌, length, take, drop, map, Option, Some, None, if◌then◌else◌}
+use Rattle.std.specs.Prelude.{ℕ, zero, suc, ◌<◌, ◌^◌, ◌==◌, nat_lt, Bool, true, false, List, [], ◌∷◌, ◌++◌, length, take, drop, map, Option, Some, if◌then◌else◌}
 use Rattle.std.specs.Int.{from_le_bytes, to_le_bytes, w32}
-use Rattle.feed_dates.specs.declared.day_range.DayRange.{DayRange}
 use Rattle.feed_bytes.specs.Trim.{trimmed}
-use Rattle.feed_kbart.specs.Columns.{cell, column_of, field_of}
-use Rattle.feed_kbart.specs.Coverage.{coverage_days, kind_of}
+use Rattle.feed_kbart.specs.Columns.{cell, column_of}
 use Rattle.feed_kbart.specs.Labels.{label_count, slot, stored_labels}
 use Rattle.feed_kbart.specs.RowValue.{RowValue}
 use Rattle.feed_kbart.specs.Rows.{row_of}
 use Rattle.feed_kbart.specs.declared.header.Columns.{Columns}
-use Rattle.feed_kbart.specs.declared.identifiers.Kind.{Kind}
 use Rattle.feed_kbart.specs.declared.identifiers.Kind.TheVariants as of
-use Rattle.feed_kbart.specs.declared.label.Label.{Label}
-use Rattle.feed_kbart.specs.declared.label.Label.TheVariants.{PublicationType}
 
 -- a length is one byte, or the byte 255 and four bytes, the lowest first
 abbrev pub length_bytes : ℕ → List ℕ
@@ -39,11 +34,6 @@ split_long _ = ([], [])
 abbrev pub split_text : List ℕ → List ℕ × List ℕ
 split_text [] = ([], [])
 split_text (n ∷ bytes) = if n == 255 then split_long bytes else cut n bytes
-
--- the text after so many others
-unfoldable pub text_at : ℕ → List ℕ → List ℕ
-text_at zero bytes = (split_text bytes).0
-text_at (suc place) bytes = text_at place (split_text bytes).1
 
 -- the first texts
 unfoldable pub texts_in : ℕ → List ℕ → List (List ℕ)
@@ -88,13 +78,3 @@ row_with_cells number cells = row_of stored_columns number cells
 -- the row whose cells are at the front of bytes
 abbrev pub row_at : ℕ → List ℕ → RowValue
 row_at number bytes = row_with_cells number (texts_in label_count bytes)
-
--- the days of a date by the kind of its row; those of a book are ignored
-abbrev pub days_by : Option Kind → List ℕ → Option DayRange
-days_by (Some of.Book) date = None
-days_by (Some of.Serial) date = coverage_days date
-days_by None date = coverage_days date
-
--- the days of the date in the cell of a label
-abbrev pub days_at : Label → List (List ℕ) → Option DayRange
-days_at label cells = days_by (kind_of (field_of stored_columns PublicationType cells)) (field_of stored_columns label cells)

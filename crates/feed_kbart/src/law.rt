@@ -1,8 +1,11 @@
 //! Laws of files, each stated as the contract of a function with an empty body.
 ghost use Rattle.std.specs.Prelude.{◌≡◌, ◌++◌, ℕ, List, []};
 ghost use Rattle.feed_kbart.specs.Files.{bad_of};
+ghost use Rattle.feed_kbart.specs.RowCells.{AreCellsOf, content_of};
+ghost use Rattle.feed_kbart.specs.RowValue.{RowValue, content};
 ghost use Rattle.feed_kbart.specs.Windows.{IsCut};
 ghost use Rattle.feed_kbart.specs.declared.fault.BadFile.TheVariants.{NoHeader};
+ghost use Rattle.feed_kbart.specs.declared.row_cells.RowCells.{RowCells};
 ghost use Rattle.feed_text.specs.Records.{records_of};
 
 /// A file without bytes has no header.
@@ -14,4 +17,9 @@ pub fn empty_file_is_bad()
 pub fn records_are_of_both_parts()
     ensures { (front back : List ℕ) → IsCut front back
         → records_of (front ++ back) ≡ records_of front ++ records_of back }
+{}
+
+/// The getters of a row return what its cells say.
+pub fn cells_are_getters()
+    ensures { (row : RowValue) (cells : RowCells) → content_of cells ≡ content row → AreCellsOf row cells }
 {}

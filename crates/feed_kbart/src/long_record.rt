@@ -4,6 +4,7 @@ ghost use Rattle.std.specs.declared.alloc.Global.{Global};
 
 use crate::header::Cells;
 use crate::label::LABEL_COUNT;
+use crate::row_cells::RowCells;
 use std::alloc::{AllocError, Global};
 use std::marker::Model;
 
@@ -28,6 +29,32 @@ impl LongRecord {
     {
         let cells = Box::new(alloc, cells)?;
         Ok(LongRecord { cells })
+    }
+}
+
+impl LongRecord {
+    ghost use Rattle.feed_kbart.specs.RowCells.{in_order};
+    ghost use Rattle.feed_kbart.specs.Stored.{cells_of, stored_columns};
+
+    /// Returns the cells.
+    pub(crate) fn cells(&self) -> RowCells<'_>
+        ensures { in_order result ≡ cells_of stored_columns self.now }
+    {
+        RowCells {
+            print_identifier: self.cell(Some(0)),
+            online_identifier: self.cell(Some(1)),
+            publication_type: self.cell(Some(2)),
+            date_first_issue_online: self.cell(Some(3)),
+            date_last_issue_online: self.cell(Some(4)),
+            num_first_vol_online: self.cell(Some(5)),
+            num_last_vol_online: self.cell(Some(6)),
+            title_id: self.cell(Some(7)),
+            title_url: self.cell(Some(8)),
+            publication_title: self.cell(Some(9)),
+            coverage_depth: self.cell(Some(10)),
+            embargo_info: self.cell(Some(11)),
+            access_type: self.cell(Some(12)),
+        }
     }
 }
 

@@ -1,13 +1,10 @@
 //! A row of a file: the holdings of one title.
 ghost use Rattle.std.specs.Prelude.{◌≡◌};
 ghost use Rattle.std.specs.Bool.{OnTrue};
-ghost use Rattle.feed_kbart.specs.Stored.{days_at};
 
-use crate::coverage::{read_days, read_kind, read_volumes};
 use crate::identifiers::Kind;
-use crate::label::Label;
+use crate::row_cells::RowCells;
 use crate::stored_record::StoredRecord;
-use feed_dates::DayRange;
 use feed_identifiers::{Isbn, Issn};
 use std::marker::Model;
 use std::mem::size_of;
@@ -16,7 +13,7 @@ use std::mem::size_of;
 /// absent column is empty. The dates and volumes of a book are ignored, so they are absent.
 ///
 /// A row shares its bytes with other rows of its file, and parses its identifiers, dates and volumes when they are
-/// asked for.
+/// asked for. `cells` finds all cells by one pass over its bytes, and each other getter is by it.
 #[derive(Debug, Drop)]
 pub struct Row {
     record: StoredRecord,
@@ -34,18 +31,9 @@ impl Model for Row {
     ghost view = { λ r. row_with_cells r.record.number r.record.cells };
 }
 
-// Returns the days of the date in a cell of a record. Those of a book are ignored.
-fn days_at(stored: &StoredRecord, label: Label) -> Option<DayRange>
-    ensures { result ≡ days_at label stored.now.cells }
-{
-    match read_kind(stored.cell(Label::PublicationType)) {
-        Some(Kind::Book) => None,
-        Some(Kind::Serial) | None => read_days(stored.cell(label)),
-    }
-}
-
 impl Row {
     ghost use Rattle.feed_kbart.specs.Identifiers.{kind, online_isbn, online_issn, print_isbn, print_issn};
+    ghost use Rattle.feed_kbart.specs.RowCells.{content_of};
     ghost use Rattle.feed_kbart.specs.RowValue.{content};
     ghost use Rattle.feed_kbart.specs.Stored.{row_with_cells};
 
@@ -63,61 +51,60 @@ impl Row {
         self.record.number()
     }
 
+    /// Returns the cells. Does not allocate.
+    #[inline(always)]
+    pub fn cells(&self) -> RowCells<'_>
+        ensures content { content_of result ≡ content self.now }
+        ensures title { result.publication_title.now ≡ self.now.title }
+        ensures url { result.title_url.now ≡ self.now.url }
+        ensures title_id { result.title_id.now ≡ self.now.title_id }
+        ensures depth { result.coverage_depth.now ≡ self.now.depth }
+        ensures embargo { result.embargo_info.now ≡ self.now.embargo }
+        ensures access { result.access_type.now ≡ self.now.access }
+    {
+        self.record.cells()
+    }
+
     /// Returns `publication_title`.
     pub fn title(&self) -> &[u8]
         ensures { result.now ≡ self.now.title }
     {
-        self.record.cell(Label::PublicationTitle)
+        self.cells().publication_title
     }
 
     /// Returns whether the row is a serial's or a book's.
     pub fn kind(&self) -> Kind
         ensures { result ≡ kind self.now.identifiers }
     {
-        match read_kind(self.record.cell(Label::PublicationType)) {
-            Some(Kind::Book) => Kind::Book,
-            Some(Kind::Serial) | None => Kind::Serial,
-        }
+        self.cells().kind()
     }
 
     /// Returns the ISSN of a serial's `print_identifier`, if it is valid.
     pub fn print(&self) -> Option<Issn>
         ensures { result ≡ print_issn self.now.identifiers }
     {
-        match read_kind(self.record.cell(Label::PublicationType)) {
-            Some(Kind::Book) => None,
-            Some(Kind::Serial) | None => Issn::parse(self.record.cell(Label::PrintIdentifier)),
-        }
+        self.cells().print()
     }
 
     /// Returns the ISSN of a serial's `online_identifier`, if it is valid.
     pub fn online(&self) -> Option<Issn>
         ensures { result ≡ online_issn self.now.identifiers }
     {
-        match read_kind(self.record.cell(Label::PublicationType)) {
-            Some(Kind::Book) => None,
-            Some(Kind::Serial) | None => Issn::parse(self.record.cell(Label::OnlineIdentifier)),
-        }
+        self.cells().online()
     }
 
     /// Returns the ISBN of a book's `print_identifier`, if it is valid.
     pub fn print_isbn(&self) -> Option<Isbn>
         ensures { result ≡ print_isbn self.now.identifiers }
     {
-        match read_kind(self.record.cell(Label::PublicationType)) {
-            Some(Kind::Book) => Isbn::parse(self.record.cell(Label::PrintIdentifier)),
-            Some(Kind::Serial) | None => None,
-        }
+        self.cells().print_isbn()
     }
 
     /// Returns the ISBN of a book's `online_identifier`, if it is valid.
     pub fn online_isbn(&self) -> Option<Isbn>
         ensures { result ≡ online_isbn self.now.identifiers }
     {
-        match read_kind(self.record.cell(Label::PublicationType)) {
-            Some(Kind::Book) => Isbn::parse(self.record.cell(Label::OnlineIdentifier)),
-            Some(Kind::Serial) | None => None,
-        }
+        self.cells().online_isbn()
     }
 
     /// Returns the first day of `date_first_issue_online`, counted from 1970-01-01, or `None` if coverage has no
@@ -125,7 +112,7 @@ impl Row {
     pub fn first_day(&self) -> Option<i32>
         ensures { result ≡ self.now.first_day }
     {
-        days_at(&self.record, Label::DateFirstIssueOnline).map(|days| days.first)
+        self.cells().first_day()
     }
 
     /// Returns the last day of `date_last_issue_online`, counted from 1970-01-01, or `None` if coverage extends to the
@@ -133,69 +120,56 @@ impl Row {
     pub fn last_day(&self) -> Option<i32>
         ensures { result ≡ self.now.last_day }
     {
-        days_at(&self.record, Label::DateLastIssueOnline).map(|days| days.last)
-    }
-
-    // Returns the first and the last volume.
-    fn volumes(&self) -> (Option<u32>, Option<u32>)
-        ensures { result ≡ (self.now.first_volume, self.now.last_volume) }
-    {
-        match read_kind(self.record.cell(Label::PublicationType)) {
-            Some(Kind::Book) => (None, None),
-            Some(Kind::Serial) | None => read_volumes(
-                self.record.cell(Label::NumFirstVolOnline),
-                self.record.cell(Label::NumLastVolOnline),
-            ),
-        }
+        self.cells().last_day()
     }
 
     /// Returns the number of `num_first_vol_online`, at most 999,999,999.
     pub fn first_volume(&self) -> Option<u32>
         ensures { result ≡ self.now.first_volume }
     {
-        self.volumes().0
+        self.cells().volumes().0
     }
 
     /// Returns the number of `num_last_vol_online`, at most 999,999,999.
     pub fn last_volume(&self) -> Option<u32>
         ensures { result ≡ self.now.last_volume }
     {
-        self.volumes().1
+        self.cells().volumes().1
     }
 
     /// Returns `title_url`.
     pub fn url(&self) -> &[u8]
         ensures { result.now ≡ self.now.url }
     {
-        self.record.cell(Label::TitleUrl)
+        self.cells().title_url
     }
 
     /// Returns `title_id`.
     pub fn title_id(&self) -> &[u8]
         ensures { result.now ≡ self.now.title_id }
     {
-        self.record.cell(Label::TitleId)
+        self.cells().title_id
     }
 
     /// Returns `coverage_depth`.
     pub fn depth(&self) -> &[u8]
         ensures { result.now ≡ self.now.depth }
     {
-        self.record.cell(Label::CoverageDepth)
+        self.cells().coverage_depth
     }
 
     /// Returns `embargo_info`.
     pub fn embargo(&self) -> &[u8]
         ensures { result.now ≡ self.now.embargo }
     {
-        self.record.cell(Label::EmbargoInfo)
+        self.cells().embargo_info
     }
 
     /// Returns `access_type`.
     pub fn access(&self) -> &[u8]
         ensures { result.now ≡ self.now.access }
     {
-        self.record.cell(Label::AccessType)
+        self.cells().access_type
     }
 
     /// Returns whether both rows have the same bytes in each column by which a list is read, but for spaces at the ends

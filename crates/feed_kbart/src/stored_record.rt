@@ -1,18 +1,20 @@
 //! A record that is stored in a block of bytes, which it shares with other records, or by itself if it is short.
-ghost use Rattle.std.specs.Prelude.{◌≡◌, ◌↔◌, ◌<◌, ◌++◌, IfSome, IsTrue, OnOk, Some, drop, map};
+ghost use Rattle.std.specs.Prelude.{◌≡◌, ◌↔◌, ◌++◌, IfSome, IsTrue, OnOk, drop, map};
 ghost use Rattle.std.specs.List.{All, flat_map};
 ghost use Rattle.std.specs.Rc.{rc_slice_items};
 ghost use Rattle.csv.specs.Records.{fields_of};
-ghost use Rattle.feed_kbart.specs.Columns.{cell, field_of};
+ghost use Rattle.feed_kbart.specs.Columns.{cell};
 ghost use Rattle.feed_kbart.specs.Labels.{label_count};
 ghost use Rattle.feed_kbart.specs.RecordBytes.{cells_in, number_of};
+ghost use Rattle.feed_kbart.specs.RowCells.{in_order};
 ghost use Rattle.feed_kbart.specs.Stored.{IsShort, cells_of, kept_cells, kept_text, stored_columns};
 ghost use Rattle.feed_kbart.specs.Stored.{text_bytes, texts_in};
 
-use crate::header::{Cells, Columns, cell_of};
-use crate::label::{LABEL_COUNT, Label, PARSED_COUNT};
+use crate::header::{Columns, cell_of};
+use crate::label::{LABEL_COUNT, PARSED_COUNT};
 use crate::long_record::LongRecord;
-use crate::stored_text::{has_same_texts, put_text, text_at};
+use crate::row_cells::RowCells;
+use crate::stored_text::{has_same_texts, put_text, split_text};
 use csv::ByteRecord;
 use feed_bytes::trim_spaces;
 use std::alloc::AllocError;
@@ -80,28 +82,16 @@ impl Stored {
         }
     }
 
-    // Returns a cell.
-    fn cell(&self, place: usize) -> &[u8]
-        requires { place < label_count }
-        ensures { result.now ≡ cell (Some place) (cells_in self.now) }
+    // Returns the cells. It is inlined, so that a getter passes no cells after its own.
+    #[inline(always)]
+    fn cells(&self) -> RowCells<'_>
+        ensures { in_order result ≡ cells_in self.now }
     {
         match self {
-            Stored::Short { bytes, .. } => text_at(bytes, place),
-            Stored::Shared { start, block, .. } => text_at(rest_of(block, *start as usize), place),
-            Stored::Long { cells, .. } => cells.cell(Some(place)),
+            Stored::Short { bytes, .. } => cells_of_texts(bytes),
+            Stored::Shared { start, block, .. } => cells_of_texts(rest_of(block, *start as usize)),
+            Stored::Long { cells, .. } => cells.cells(),
         }
-    }
-
-    // Compares the cells of two records one by one.
-    fn has_cells_alike(&self, other: &Stored) -> bool
-        ensures { IsTrue result ↔ (cells_in self.now ≡ cells_in other.now) }
-    {
-        for place in 0..LABEL_COUNT {
-            if self.cell(place) != other.cell(place) {
-                return false;
-            }
-        }
-        true
     }
 }
 
@@ -136,11 +126,12 @@ impl StoredRecord {
         self.stored.number()
     }
 
-    /// Returns the cell of a label.
-    pub(crate) fn cell(&self, label: Label) -> &[u8]
-        ensures { result.now ≡ field_of stored_columns label self.now.cells }
+    /// Returns the cells.
+    #[inline(always)]
+    pub(crate) fn cells(&self) -> RowCells<'_>
+        ensures { in_order result ≡ self.now.cells }
     {
-        self.stored.cell(label.slot())
+        self.stored.cells()
     }
 
     /// Returns whether another record has the same cells.
@@ -149,8 +140,43 @@ impl StoredRecord {
     {
         match (self.stored.bytes(), other.stored.bytes()) {
             (Some(left), Some(right)) => has_same_texts(left, right, LABEL_COUNT),
-            _ => self.stored.has_cells_alike(&other.stored),
+            _ => self.cells() == other.cells(),
         }
+    }
+}
+
+// Returns the texts at the front of bytes as the cells of a record.
+#[inline(always)]
+fn cells_of_texts(bytes: &[u8]) -> RowCells<'_>
+    ensures { in_order result ≡ texts_in label_count bytes.now }
+{
+    let (print_identifier, rest) = split_text(bytes);
+    let (online_identifier, rest) = split_text(rest);
+    let (publication_type, rest) = split_text(rest);
+    let (date_first_issue_online, rest) = split_text(rest);
+    let (date_last_issue_online, rest) = split_text(rest);
+    let (num_first_vol_online, rest) = split_text(rest);
+    let (num_last_vol_online, rest) = split_text(rest);
+    let (title_id, rest) = split_text(rest);
+    let (title_url, rest) = split_text(rest);
+    let (publication_title, rest) = split_text(rest);
+    let (coverage_depth, rest) = split_text(rest);
+    let (embargo_info, rest) = split_text(rest);
+    let (access_type, _rest) = split_text(rest);
+    RowCells {
+        print_identifier,
+        online_identifier,
+        publication_type,
+        date_first_issue_online,
+        date_last_issue_online,
+        num_first_vol_online,
+        num_last_vol_online,
+        title_id,
+        title_url,
+        publication_title,
+        coverage_depth,
+        embargo_info,
+        access_type,
     }
 }
 

@@ -1,7 +1,7 @@
 //! Texts in a block of bytes, each behind its length.
 ghost use Rattle.std.specs.Prelude.{◌≡◌, ◌≤◌, ◌↔◌, ◌++◌, IfOk, IsTrue, OnOk, length, take, drop};
 ghost use Rattle.std.specs.Bool.{OnTrue};
-ghost use Rattle.feed_kbart.specs.Stored.{IsShort, after_texts, length_bytes, split_long, split_text, text_at};
+ghost use Rattle.feed_kbart.specs.Stored.{IsShort, after_texts, length_bytes, split_long, split_text};
 ghost use Rattle.feed_kbart.specs.Stored.{text_bytes, texts_in};
 
 use std::alloc::AllocError;
@@ -73,8 +73,9 @@ fn split_long(bytes: &[u8]) -> (&[u8], &[u8])
     }
 }
 
-// Returns the first text, and the bytes after it.
-fn split_text(bytes: &[u8]) -> (&[u8], &[u8])
+/// Returns the first text, and the bytes after it.
+#[inline(always)]
+pub(crate) fn split_text(bytes: &[u8]) -> (&[u8], &[u8])
     ensures front { result.0.now ≡ (split_text bytes.now).0 }
     ensures back { result.1.now ≡ (split_text bytes.now).1 }
 {
@@ -88,17 +89,6 @@ fn split_text(bytes: &[u8]) -> (&[u8], &[u8])
             }
         }
     }
-}
-
-/// Returns the text after so many others.
-pub(crate) fn text_at(bytes: &[u8], place: usize) -> &[u8]
-    ensures { result.now ≡ text_at place bytes.now }
-{
-    let mut left = bytes;
-    for _passed in 0..place {
-        left = split_text(left).1;
-    }
-    split_text(left).0
 }
 
 // Returns the bytes after the first texts, so many of them.

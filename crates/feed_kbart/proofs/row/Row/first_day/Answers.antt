@@ -1,10 +1,6 @@
-use Rattle.std.proofs.Common.{◌≡◌, ◌∙◌, ap, option_map, rules}
-use Rattle.feed_dates.specs.declared.day_range.DayRange.{DayRange}
-use Rattle.feed_kbart.proofs.Stored.{first_day_of_cells}
+use Rattle.std.proofs.Common.{◌∙◌, ap}
+use Rattle.feed_kbart.specs.RowValue.{RowValue}
 use Rattle.feed_kbart.proofs.row.Row.first_day.Goals as goal
 
 pub returns : goal.returns
-returns c =
-    let mapped : c.map.result ≡ option_map (λ (days : DayRange). days.first) c.days_at.result = search rules in
-    rw (← c.self.view_is) (mapped ∙ ap (option_map (λ (days : DayRange). days.first)) c.days_at.ensures
-    ∙ first_day_of_cells c.self.inside.record.number c.self.inside.record.cells)
+returns c = c.first_day.ensures ∙ ap (λ (row : RowValue). row.first_day) c.cells.ensures.content

@@ -1,0 +1,6 @@
+use Rattle.std.proofs.Common.{◌∙◌, ap}
+use Rattle.feed_kbart.specs.RowValue.{RowValue}
+use Rattle.feed_kbart.proofs.row.Row.first_volume.Goals as goal
+
+pub returns : goal.returns
+returns c = ap (λ volumes. volumes.0) c.volumes.ensures ∙ ap (λ (row : RowValue). row.first_volume) c.cells.ensures.content

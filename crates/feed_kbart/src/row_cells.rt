@@ -1,0 +1,125 @@
+//! The cells of a row, and the values that they have.
+ghost use Rattle.std.specs.Prelude.{◌≡◌};
+
+use crate::coverage::{read_days, read_kind, read_volumes};
+use crate::identifiers::Kind;
+use feed_identifiers::{Isbn, Issn};
+
+/// The cells of a row, in the order in which they are stored. The identifiers, the publication type, the dates and the
+/// volumes have no spaces at their ends. The other cells are as in the file. The cell of an absent column is empty.
+#[derive(Clone, Copy, Debug, PartialEq, Eq)]
+pub struct RowCells<'a> {
+    pub print_identifier: &'a [u8],
+    pub online_identifier: &'a [u8],
+    pub publication_type: &'a [u8],
+    pub date_first_issue_online: &'a [u8],
+    pub date_last_issue_online: &'a [u8],
+    pub num_first_vol_online: &'a [u8],
+    pub num_last_vol_online: &'a [u8],
+    pub title_id: &'a [u8],
+    pub title_url: &'a [u8],
+    pub publication_title: &'a [u8],
+    pub coverage_depth: &'a [u8],
+    pub embargo_info: &'a [u8],
+    pub access_type: &'a [u8],
+}
+
+impl RowCells<'_> {
+    ghost use Rattle.feed_kbart.specs.Identifiers.{kind, online_isbn, online_issn, print_isbn, print_issn};
+    ghost use Rattle.feed_kbart.specs.RowCells.{content_of, is_book};
+
+    fn is_book(&self) -> bool
+        ensures { result ≡ is_book self.now }
+    {
+        match read_kind(self.publication_type) {
+            Some(Kind::Book) => true,
+            Some(Kind::Serial) | None => false,
+        }
+    }
+
+    /// Returns whether the row is a serial's or a book's.
+    pub fn kind(&self) -> Kind
+        ensures { result ≡ kind (content_of self.now).identifiers }
+    {
+        if self.is_book() {
+            Kind::Book
+        } else {
+            Kind::Serial
+        }
+    }
+
+    /// Returns the ISSN of a serial's `print_identifier`, if it is valid.
+    pub fn print(&self) -> Option<Issn>
+        ensures { result ≡ print_issn (content_of self.now).identifiers }
+    {
+        if self.is_book() {
+            return None;
+        }
+        Issn::parse(self.print_identifier)
+    }
+
+    /// Returns the ISSN of a serial's `online_identifier`, if it is valid.
+    pub fn online(&self) -> Option<Issn>
+        ensures { result ≡ online_issn (content_of self.now).identifiers }
+    {
+        if self.is_book() {
+            return None;
+        }
+        Issn::parse(self.online_identifier)
+    }
+
+    /// Returns the ISBN of a book's `print_identifier`, if it is valid.
+    pub fn print_isbn(&self) -> Option<Isbn>
+        ensures { result ≡ print_isbn (content_of self.now).identifiers }
+    {
+        if !self.is_book() {
+            return None;
+        }
+        Isbn::parse(self.print_identifier)
+    }
+
+    /// Returns the ISBN of a book's `online_identifier`, if it is valid.
+    pub fn online_isbn(&self) -> Option<Isbn>
+        ensures { result ≡ online_isbn (content_of self.now).identifiers }
+    {
+        if !self.is_book() {
+            return None;
+        }
+        Isbn::parse(self.online_identifier)
+    }
+
+    /// Returns the first day of `date_first_issue_online`, counted from 1970-01-01, or `None` if coverage has no
+    /// beginning.
+    pub fn first_day(&self) -> Option<i32>
+        ensures { result ≡ (content_of self.now).first_day }
+    {
+        if self.is_book() {
+            return None;
+        }
+        let days = read_days(self.date_first_issue_online)?;
+        Some(days.first)
+    }
+
+    /// Returns the last day of `date_last_issue_online`, counted from 1970-01-01, or `None` if coverage extends to the
+    /// present (NISO RP-9-2014).
+    pub fn last_day(&self) -> Option<i32>
+        ensures { result ≡ (content_of self.now).last_day }
+    {
+        if self.is_book() {
+            return None;
+        }
+        let days = read_days(self.date_last_issue_online)?;
+        Some(days.last)
+    }
+
+    /// Returns the numbers of `num_first_vol_online` and `num_last_vol_online`, each at most 999,999,999. Neither
+    /// counts if the first exceeds the last.
+    pub fn volumes(&self) -> (Option<u32>, Option<u32>)
+        ensures { result ≡ ((content_of self.now).first_volume, (content_of self.now).last_volume) }
+    {
+        if self.is_book() {
+            return (None, None);
+        }
+        read_volumes(self.num_first_vol_online, self.num_last_vol_online)
+    }
+}
