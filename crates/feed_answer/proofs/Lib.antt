@@ -9,3 +9,4 @@ pub mod Covered
 pub mod Places
 pub mod Serials
 pub mod Steps
+pub mod Graded

@@ -2,11 +2,12 @@
 ghost use Rattle.std.specs.Prelude.{◌≡◌, Some};
 ghost use Rattle.feed_answer.specs.Grades.{book_grade, both_grades, days_grade, grade_of, has_begun_by, is_named};
 ghost use Rattle.feed_answer.specs.Grades.{has_not_ended_before, serial_grade, volume_grade};
+ghost use Rattle.feed_kbart.specs.RowCells.{content_of};
 
 use crate::query::Query;
 use feed_dates::DayRange;
 use feed_identifiers::{Isbn, Issn};
-use feed_kbart::{Kind, Row};
+use feed_kbart::{Kind, Row, RowCells};
 use std::fmt;
 
 /// The grade of a match: how well the row covers what the query asks for.
@@ -48,14 +49,10 @@ fn has_not_ended_before(last: Option<i32>, day: i32) -> bool
     last.is_none_or(|last| day <= last)
 }
 
-/// Returns the grade of a row by its dates alone, or `None` if the days are not covered at all.
-pub fn days_grade(row: &Row, days: Option<DayRange>) -> Option<Grade>
-    ensures { result ≡ days_grade row.now.first_day row.now.last_day days }
+// Returns the grade of coverage from one day to another, or `None` if the days are not covered at all.
+fn tested_days(first: Option<i32>, last: Option<i32>, days: DayRange) -> Option<Grade>
+    ensures { result ≡ days_grade first last (Some days) }
 {
-    let Some(days) = days else {
-        return Some(Grade::Untested);
-    };
-    let (first, last) = (row.first_day(), row.last_day());
     if first.is_none() && last.is_none() {
         Some(Grade::Untested)
     } else if !(has_begun_by(first, days.last) && has_not_ended_before(last, days.first)) {
@@ -67,20 +64,57 @@ pub fn days_grade(row: &Row, days: Option<DayRange>) -> Option<Grade>
     }
 }
 
-/// Returns the grade of a row by its volumes alone, or `None` if the volume is outside. A missing side is open.
-pub fn volume_grade(row: &Row, volume: Option<u32>) -> Option<Grade>
-    ensures { result ≡ volume_grade row.now.first_volume row.now.last_volume volume }
+/// Returns the grade of a row by its dates alone, or `None` if the days are not covered at all.
+pub fn days_grade(row: &Row, days: Option<DayRange>) -> Option<Grade>
+    ensures { result ≡ days_grade row.now.first_day row.now.last_day days }
 {
-    let Some(volume) = volume else {
-        return Some(Grade::Untested);
-    };
-    let (first, last) = (row.first_volume(), row.last_volume());
+    match days {
+        Some(days) => tested_days(row.first_day(), row.last_day(), days),
+        None => Some(Grade::Untested),
+    }
+}
+
+fn days_grade_of_cells(cells: &RowCells<'_>, days: Option<DayRange>) -> Option<Grade>
+    ensures { result ≡ days_grade (content_of cells.now).first_day (content_of cells.now).last_day days }
+{
+    match days {
+        Some(days) => tested_days(cells.first_day(), cells.last_day(), days),
+        None => Some(Grade::Untested),
+    }
+}
+
+// Returns the grade of coverage from one volume to another, or `None` if the volume is outside. A missing side is open.
+fn tested_volume(first: Option<u32>, last: Option<u32>, volume: u32) -> Option<Grade>
+    ensures { result ≡ volume_grade first last (Some volume) }
+{
     if first.is_none() && last.is_none() {
         Some(Grade::Untested)
     } else if first.is_none_or(|first| first <= volume) && last.is_none_or(|last| volume <= last) {
         Some(Grade::Inside)
     } else {
         None
+    }
+}
+
+/// Returns the grade of a row by its volumes alone, or `None` if the volume is outside. A missing side is open.
+pub fn volume_grade(row: &Row, volume: Option<u32>) -> Option<Grade>
+    ensures { result ≡ volume_grade row.now.first_volume row.now.last_volume volume }
+{
+    match volume {
+        Some(volume) => tested_volume(row.first_volume(), row.last_volume(), volume),
+        None => Some(Grade::Untested),
+    }
+}
+
+fn volume_grade_of_cells(cells: &RowCells<'_>, volume: Option<u32>) -> Option<Grade>
+    ensures { result ≡ volume_grade (content_of cells.now).first_volume (content_of cells.now).last_volume volume }
+{
+    match volume {
+        Some(volume) => {
+            let (first, last) = cells.volumes();
+            tested_volume(first, last, volume)
+        }
+        None => Some(Grade::Untested),
     }
 }
 
@@ -111,24 +145,26 @@ fn is_isbn_named(isbn: Option<Isbn>, isbns: &[Isbn]) -> bool
 }
 
 // The grade of a serial's row: one of its ISSNs is asked for, and its dates and volumes pass.
-fn serial_grade(row: &Row, query: &Query) -> Option<Grade>
-    ensures { result ≡ serial_grade query.now row.now }
+fn serial_grade(cells: &RowCells<'_>, query: &Query) -> Option<Grade>
+    ensures { result ≡ serial_grade query.now (content_of cells.now) }
 {
-    if !is_issn_named(row.print(), query.issns()) && !is_issn_named(row.online(), query.issns()) {
+    if !is_issn_named(cells.print(), query.issns())
+        && !is_issn_named(cells.online(), query.issns())
+    {
         return None;
     }
     both_grades(
-        days_grade(row, query.days()),
-        volume_grade(row, query.volume()),
+        days_grade_of_cells(cells, query.days()),
+        volume_grade_of_cells(cells, query.volume()),
     )
 }
 
 // The grade of a book's row: one of its ISBNs is asked for. Dates and volumes are not tested.
-fn book_grade(row: &Row, query: &Query) -> Option<Grade>
-    ensures { result ≡ book_grade query.now row.now }
+fn book_grade(cells: &RowCells<'_>, query: &Query) -> Option<Grade>
+    ensures { result ≡ book_grade query.now (content_of cells.now) }
 {
-    if is_isbn_named(row.print_isbn(), query.isbns())
-        || is_isbn_named(row.online_isbn(), query.isbns())
+    if is_isbn_named(cells.print_isbn(), query.isbns())
+        || is_isbn_named(cells.online_isbn(), query.isbns())
     {
         Some(Grade::Untested)
     } else {
@@ -140,8 +176,9 @@ fn book_grade(row: &Row, query: &Query) -> Option<Grade>
 pub(crate) fn grade_of(row: &Row, query: &Query) -> Option<Grade>
     ensures { result ≡ grade_of query.now row.now }
 {
-    match row.kind() {
-        Kind::Serial => serial_grade(row, query),
-        Kind::Book => book_grade(row, query),
+    let cells = row.cells();
+    match cells.kind() {
+        Kind::Serial => serial_grade(&cells, query),
+        Kind::Book => book_grade(&cells, query),
     }
 }

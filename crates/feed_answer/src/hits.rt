@@ -81,13 +81,14 @@ pub fn write_hit<W: Write>(out: &mut W, row: &Row, grade: Grade) -> io::Result<(
 {
     let number = row.number();
     write!(out, "{number}\t{grade}")?;
+    let cells = row.cells();
     let texts = [
-        row.title(),
-        row.url(),
-        row.title_id(),
-        row.depth(),
-        row.embargo(),
-        row.access(),
+        cells.publication_title,
+        cells.title_url,
+        cells.title_id,
+        cells.coverage_depth,
+        cells.embargo_info,
+        cells.access_type,
     ];
     for text in texts {
         write_text(out, text)?;

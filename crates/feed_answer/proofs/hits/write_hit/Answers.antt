@@ -13,10 +13,12 @@ loop-text-preserved g c =
 pub returns : goal.returns
 returns g c =
     let all : c.loop-text.text-index ≡ 6 = omega arith in
+    let cells = c.cells-cells.result in
+    let is = c.cells-cells.ensures in
     on_ok_weaker c.write_all.result
     (λ written. appends_same (g.W.Write.contents c.args.out.now) (g.W.Write.contents c.write_all.new.self) _ _
     (hit_written (record { row = c.args.row.now; grade = c.args.grade }) c.number-number.result c.loop-text.text-index
-    c.title.result c.url.result c.title_id.result c.depth.result c.embargo.result c.access.result
-    all c.number-number.ensures c.title.ensures c.url.ensures c.title_id.ensures c.depth.ensures c.embargo.ensures c.access.ensures)
+    cells.publication_title cells.title_url cells.title_id cells.coverage_depth cells.embargo_info cells.access_type
+    all c.number-number.ensures is.title is.url is.title_id is.depth is.embargo is.access)
     (appends_more (g.W.Write.contents c.args.out.now) (g.W.Write.contents c.loop-text.out) (g.W.Write.contents c.write_all.new.self) _ _ c.loop-text.invariant written))
     c.write_all.ensures.bytes
