@@ -228,6 +228,13 @@ tied_url x y e =
     tied_further Url x y e.1 (both_tied (text_cmp x.url y.url) (identifiers_cmp x.identifiers y.identifiers) (tied_text x.url y.url e.0)
     (tied_identifiers x.identifiers y.identifiers e.1))
 
--- rows that are equal but for their numbers are equal in all columns
-pub content_tied_further : (x y : RowValue) → content x ≡ content y → content_cmp x y ≡ Equal
-content_tied_further x y e = further_tied Content x y (tied_content x y e)
+-- an order does not see the numbers of rows
+pub further_of_content : (by : By) (a b x y : RowValue) → a ≡ content x → b ≡ content y → further_cmp by a b ≡ further_cmp by x y
+further_of_content Content a b x y p q = λ i. content_cmp (p i) (q i)
+further_of_content TitleId a b x y p q = λ i. further_cmp TitleId (p i) (q i)
+further_of_content Url a b x y p q = λ i. further_cmp Url (p i) (q i)
+
+-- rows that are equal but for their numbers are equal in each order
+pub further_tied_content : (by : By) (x y : RowValue) → content x ≡ content y → further_cmp by x y ≡ Equal
+further_tied_content by x y e =
+    sym (further_of_content by (content x) (content x) x y refl e) ∙ tied_itself (further_total by) (content x)

@@ -5,6 +5,8 @@ use Rattle.std.proofs.lemmas.Bool.{le-leb, lt-leb}
 use Rattle.std.proofs.lemmas.Cmp.{tied_back, tied_itself}
 use Rattle.std.proofs.lemmas.List.{append-nil, append_assoc, get_or-drop, get_or_default, get_or-take, length-drop, length-take-le}
 use Rattle.std.proofs.lemmas.List.Elements.{All-append, All-cons, All-head, All-nil, All-tail, All-weaker, filter_more, filter_passes}
+use Rattle.std.proofs.lemmas.List.Kept.{IsSortedBy-filter}
+use Rattle.std.proofs.lemmas.List.MinMax.{ranks_by}
 use Rattle.std.proofs.lemmas.List.Sorted.{All-permutation, IsPermutation-append_comm, IsPermutation-append_left, IsPermutation-append_right}
 use Rattle.std.proofs.lemmas.List.Sorted.{IsPermutation-filter_both, IsPermutation-trans, sum_by-IsPermutation}
 use Rattle.std.proofs.lemmas.List.Sums.{get_or-le-sum_by, sum_by-drop_more, sum_by-le, sum_by-take-drop}
@@ -216,6 +218,10 @@ module _ (by : By) (old sorted left : List (Bor RowValue)) (pairs : List (Bor Ro
       All-weaker (λ row. not (is_single by sorted row) ≡ true) (λ row. is_single by old row ≡ true → ⊥)
       (λ row e one. let no : true ≡ false = sym one ∙ sym (single_anywhere by old sorted row same) ∙ was_false (is_single by sorted row) e in absurd (cc))
       others (filter_passes (λ row. not (is_single by sorted row)) sorted)
+
+-- some rows of a sorted list are sorted
+pub sorted_filter : (by : By) (test : Bor RowValue → Bool) (rows : List (Bor RowValue)) → AreSorted by rows → AreSorted by (filter test rows)
+sorted_filter by test rows up = IsSortedBy-filter (λ r s. is_lt (order by r s)) (ranks_by (order_total by) (λ (r : Bor RowValue). r)) test rows up
 
 pub single_pairs : (by : By) (old new old_sorted new_sorted : List (Bor RowValue)) (pairing result : Pairing) → IsPermutation old old_sorted → IsPermutation new new_sorted
     → IsPairing by (filter (is_single by old_sorted) old_sorted) (filter (is_single by new_sorted) new_sorted) pairing → result.pairs.items ≡ pairing.pairs.items

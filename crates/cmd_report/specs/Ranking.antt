@@ -7,11 +7,17 @@ use Rattle.std.specs.declared.cmp.Ordering.{Ordering}
 use Rattle.feed_identifiers.specs.Isbn as isbn
 use Rattle.feed_identifiers.specs.Issn as issn
 use Rattle.feed_kbart.specs.Identifiers.{online_isbn, online_issn, print_isbn, print_issn}
+use Rattle.feed_kbart.specs.RowCells.{content_of}
 use Rattle.feed_kbart.specs.RowValue.{RowValue}
 use Rattle.feed_kbart.specs.declared.identifiers.Identifiers.{Identifiers}
+use Rattle.feed_kbart.specs.declared.row_cells.RowCells.{RowCells}
 use Rattle.cmd_report.specs.Columns.{is_book}
 use Rattle.cmd_report.specs.declared.order.By.{By}
 use Rattle.cmd_report.specs.declared.order.By.TheVariants.{Content, TitleId, Url}
+
+-- the row with these cells, without its number
+unfoldable pub row_of_cells : RowCells → RowValue
+row_of_cells cells = content_of cells
 
 -- texts by their bytes
 abbrev pub text_cmp : List ℕ → List ℕ → Ordering

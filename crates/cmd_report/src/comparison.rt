@@ -6,12 +6,14 @@ ghost use Rattle.cmd_report.specs.Pairing.{ArePairedChanges, IsPairing, change_o
 ghost use Rattle.cmd_report.specs.declared.order.By.TheVariants as key;
 ghost use Rattle.cmd_report.specs.Laws.{ChangesHaveAColumn, CountsAddUp};
 ghost use Rattle.cmd_report.specs.Columns.{is_same};
+ghost use Rattle.feed_kbart.specs.RowCells.{content_of};
 
+use crate::numbered::{Numbered, rows_of};
 use crate::order::{By, is_book};
 use crate::pairing::{Pairing, pair_rest};
 use crate::singles::pair_singles;
 use crate::unchanged::pair_unchanged;
-use feed_kbart::{Label, Row};
+use feed_kbart::{Label, Row, RowCells};
 use std::alloc::{AllocError, Global};
 use std::marker::Model;
 
@@ -86,8 +88,8 @@ fn pair_equal<'a>(
 // identifiers.
 fn pair_changes<'a>(
     alloc: Global,
-    old: Vec<&'a Row>,
-    new: Vec<&'a Row>,
+    old: Vec<Numbered<'a>>,
+    new: Vec<Numbered<'a>>,
 ) -> Result<Pairing<'a>, AllocError>
     ensures { IfOk result (ArePairedChanges old.entry.items new.entry.items) }
 {
@@ -95,15 +97,17 @@ fn pair_changes<'a>(
     pair_rest(alloc, By::Url, titles)
 }
 
-fn sort_rows(rows: &mut Vec<&Row>) -> Result<(), AllocError>
-    ensures permutation { IsPermutation rows.old.items rows.new.items }
-    ensures order { OnOk result (IsNonDecreasingBy (λ row. row.now.number) rows.new.items) }
+fn sort_rows<'a>(alloc: Global, numbered: &[Numbered<'a>]) -> Result<Vec<&'a Row>, AllocError>
+    ensures permutation { IfOk result (λ rows. IsPermutation numbered.now rows.items) }
+    ensures order { IfOk result (λ rows. IsNonDecreasingBy (λ row. row.now.number) rows.items) }
 {
+    let mut rows = rows_of(alloc, numbered)?;
     rows.sort_by_key(
         |row: &&Row| -> u32
             ensures { result ≡ row.now.now.number }
         { row.number() },
-    )
+    )?;
+    Ok(rows)
 }
 
 fn sort_changes(changes: &mut Vec<RowChange<'_>>) -> Result<(), AllocError>
@@ -134,16 +138,16 @@ pub fn compare<'a>(
     let Pairing { pairs: _, old, new } = pair_equal(alloc, old_rows, new_rows)?;
     let Pairing {
         mut pairs,
-        mut old,
-        mut new,
+        old,
+        new,
     } = pair_changes(alloc, old, new)?;
-    sort_rows(&mut old)?;
+    let removed = sort_rows(alloc, &old)?;
     sort_changes(&mut pairs)?;
-    sort_rows(&mut new)?;
+    let added = sort_rows(alloc, &new)?;
     Ok(Comparison {
-        removed: old,
+        removed,
         changed: pairs,
-        added: new,
+        added,
     })
 }
 
@@ -165,28 +169,25 @@ pub struct RowChange<'a> {
     pub new: &'a Row,
 }
 
-impl RowChange<'_> {
-    /// Returns whether both rows have the same value in a column, as a list is read.
-    pub fn is_same(&self, label: Label) -> bool
-        ensures { result ≡ is_same label self.now.old.now self.now.new.now }
-    {
-        let RowChange { old, new } = *self;
-        match label {
-            Label::PublicationTitle => old.title() == new.title(),
-            Label::PrintIdentifier => (old.print(), old.print_isbn())
-                == (new.print(), new.print_isbn()),
-            Label::OnlineIdentifier => (old.online(), old.online_isbn())
-                == (new.online(), new.online_isbn()),
-            Label::DateFirstIssueOnline => old.first_day() == new.first_day(),
-            Label::NumFirstVolOnline => old.first_volume() == new.first_volume(),
-            Label::DateLastIssueOnline => old.last_day() == new.last_day(),
-            Label::NumLastVolOnline => old.last_volume() == new.last_volume(),
-            Label::TitleUrl => old.url() == new.url(),
-            Label::TitleId => old.title_id() == new.title_id(),
-            Label::EmbargoInfo => old.embargo() == new.embargo(),
-            Label::CoverageDepth => old.depth() == new.depth(),
-            Label::PublicationType => is_book(old) == is_book(new),
-            Label::AccessType => old.access() == new.access(),
-        }
+/// Returns whether rows with these cells have the same value in a column, as a list is read.
+pub fn is_same(label: Label, old: &RowCells<'_>, new: &RowCells<'_>) -> bool
+    ensures { result ≡ is_same label (content_of old.now) (content_of new.now) }
+{
+    match label {
+        Label::PublicationTitle => old.publication_title == new.publication_title,
+        Label::PrintIdentifier => (old.print(), old.print_isbn())
+            == (new.print(), new.print_isbn()),
+        Label::OnlineIdentifier => (old.online(), old.online_isbn())
+            == (new.online(), new.online_isbn()),
+        Label::DateFirstIssueOnline => old.first_day() == new.first_day(),
+        Label::NumFirstVolOnline => old.volumes().0 == new.volumes().0,
+        Label::DateLastIssueOnline => old.last_day() == new.last_day(),
+        Label::NumLastVolOnline => old.volumes().1 == new.volumes().1,
+        Label::TitleUrl => old.title_url == new.title_url,
+        Label::TitleId => old.title_id == new.title_id,
+        Label::EmbargoInfo => old.embargo_info == new.embargo_info,
+        Label::CoverageDepth => old.coverage_depth == new.coverage_depth,
+        Label::PublicationType => is_book(old) == is_book(new),
+        Label::AccessType => old.access_type == new.access_type,
     }
 }

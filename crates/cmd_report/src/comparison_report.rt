@@ -1,10 +1,10 @@
 //! The report on two lists: the rows that the new one removes, changes and adds.
-use crate::comparison::{Comparison, RowChange};
+use crate::comparison::{Comparison, RowChange, is_same};
 use crate::json::{Commas, write_text};
 use crate::report::REASONS;
 use feed_dates::write_date;
 use feed_identifiers::{Isbn, Issn};
-use feed_kbart::{Aside, Kind, LABELS, Label, Row, count_of};
+use feed_kbart::{Aside, Kind, LABELS, Label, Row, RowCells, count_of};
 use feed_names::ReleaseName;
 use feed_options::ComparisonForm;
 use std::alloc::Global;
@@ -95,14 +95,16 @@ fn print_change<O: Write>(alloc: Global, out: &mut O, change: &RowChange<'_>) ->
     let before = old.number();
     let after = new.number();
     write!(out, "changed {before} to {after} ")?;
-    write_text(alloc, out, old.title())?;
+    let old = old.cells();
+    let new = new.cells();
+    write_text(alloc, out, old.publication_title)?;
     out.write_all(b"\n")?;
     for label in LABELS {
-        if !change.is_same(label) {
+        if !is_same(label, &old, &new) {
             write!(out, "  {label} ")?;
-            write_value(alloc, out, old, label)?;
+            write_value(alloc, out, &old, label)?;
             out.write_all(b" to ")?;
-            write_value(alloc, out, new, label)?;
+            write_value(alloc, out, &new, label)?;
             out.write_all(b"\n")?;
         }
     }
@@ -188,22 +190,23 @@ fn print_json_change<O: Write>(
     let RowChange { old, new } = *change;
     let before = old.number();
     let after = new.number();
+    let old = old.cells();
     write!(out, "{{\"old\":{before},\"new\":{after},\"title\":")?;
-    write_text(alloc, out, old.title())?;
+    write_text(alloc, out, old.publication_title)?;
     out.write_all(b",\"fields\":{")?;
-    print_json_fields(alloc, out, change)?;
+    print_json_fields(alloc, out, &old, &new.cells())?;
     out.write_all(b"}}")
 }
 
 fn print_json_fields<O: Write>(
     alloc: Global,
     out: &mut O,
-    change: &RowChange<'_>,
+    old: &RowCells<'_>,
+    new: &RowCells<'_>,
 ) -> io::Result<()> {
-    let RowChange { old, new } = *change;
     let mut commas = Commas::new();
     for label in LABELS {
-        if !change.is_same(label) {
+        if !is_same(label, old, new) {
             commas.write(out)?;
             write!(out, "\"{label}\":{{\"old\":")?;
             write_value(alloc, out, old, label)?;
@@ -215,27 +218,32 @@ fn print_json_fields<O: Write>(
     Ok(())
 }
 
-// Writes the value of a row in a column as JSON: a string, a number, or null for no value.
-fn write_value<O: Write>(alloc: Global, out: &mut O, row: &Row, label: Label) -> io::Result<()> {
+// Writes the value that cells have in a column as JSON: a string, a number, or null for no value.
+fn write_value<O: Write>(
+    alloc: Global,
+    out: &mut O,
+    cells: &RowCells<'_>,
+    label: Label,
+) -> io::Result<()> {
     match label {
-        Label::PublicationTitle => write_text(alloc, out, row.title()),
-        Label::PrintIdentifier => write_identifier(out, row.print(), row.print_isbn()),
-        Label::OnlineIdentifier => write_identifier(out, row.online(), row.online_isbn()),
-        Label::DateFirstIssueOnline => write_day(out, row.first_day()),
-        Label::NumFirstVolOnline => write_volume(out, row.first_volume()),
-        Label::DateLastIssueOnline => write_day(out, row.last_day()),
-        Label::NumLastVolOnline => write_volume(out, row.last_volume()),
-        Label::TitleUrl => write_text(alloc, out, row.url()),
-        Label::TitleId => write_text(alloc, out, row.title_id()),
-        Label::EmbargoInfo => write_text(alloc, out, row.embargo()),
-        Label::CoverageDepth => write_text(alloc, out, row.depth()),
-        Label::PublicationType => write_quoted(out, kind_name(row).as_bytes()),
-        Label::AccessType => write_text(alloc, out, row.access()),
+        Label::PublicationTitle => write_text(alloc, out, cells.publication_title),
+        Label::PrintIdentifier => write_identifier(out, cells.print(), cells.print_isbn()),
+        Label::OnlineIdentifier => write_identifier(out, cells.online(), cells.online_isbn()),
+        Label::DateFirstIssueOnline => write_day(out, cells.first_day()),
+        Label::NumFirstVolOnline => write_volume(out, cells.volumes().0),
+        Label::DateLastIssueOnline => write_day(out, cells.last_day()),
+        Label::NumLastVolOnline => write_volume(out, cells.volumes().1),
+        Label::TitleUrl => write_text(alloc, out, cells.title_url),
+        Label::TitleId => write_text(alloc, out, cells.title_id),
+        Label::EmbargoInfo => write_text(alloc, out, cells.embargo_info),
+        Label::CoverageDepth => write_text(alloc, out, cells.coverage_depth),
+        Label::PublicationType => write_quoted(out, kind_name(cells.kind()).as_bytes()),
+        Label::AccessType => write_text(alloc, out, cells.access_type),
     }
 }
 
-fn kind_name(row: &Row) -> &'static str {
-    match row.kind() {
+fn kind_name(kind: Kind) -> &'static str {
+    match kind {
         Kind::Serial => "serial",
         Kind::Book => "monograph",
     }

@@ -1,4 +1,5 @@
 //! The rows that a first pass over two lists leaves over, as a set that finds most other rows without a search.
+use crate::numbered::Numbered;
 use crate::order::first_number;
 use feed_kbart::Row;
 use std::alloc::{AllocError, Global};
@@ -25,27 +26,35 @@ fn mark_of(row: &Row) -> usize {
     mark % MARKS
 }
 
-fn mark_rows(marks: &mut [bool], rows: &[&Row]) {
-    for row in rows {
-        if let Some(mark) = marks.get_mut(mark_of(*row)) {
-            *mark = true;
-        }
-    }
-}
-
 impl LeftRows {
-    /// Returns the set of the rows of two lists, with the numbers of their first identifiers in any order.
+    fn new(alloc: Global, rows: usize) -> Result<LeftRows, AllocError> {
+        Ok(LeftRows {
+            numbers: Vec::with_capacity(alloc, rows)?,
+            marks: vec![in alloc; false; MARKS]?,
+        })
+    }
+
+    fn add(&mut self, rows: &[Numbered<'_>]) -> Result<(), AllocError> {
+        for row in rows {
+            self.numbers.push(row.number())?;
+            if let Some(mark) = self.marks.get_mut(mark_of(row.row())) {
+                *mark = true;
+            }
+        }
+        Ok(())
+    }
+
+    /// Returns the set of the rows of two lists.
     pub(crate) fn of(
         alloc: Global,
-        old: &[&Row],
-        new: &[&Row],
-        mut numbers: Vec<u32>,
+        old: &[Numbered<'_>],
+        new: &[Numbered<'_>],
     ) -> Result<LeftRows, AllocError> {
-        let mut marks = vec![in alloc; false; MARKS]?;
-        mark_rows(&mut marks, old);
-        mark_rows(&mut marks, new);
-        numbers.sort()?;
-        Ok(LeftRows { numbers, marks })
+        let mut left = LeftRows::new(alloc, old.len().saturating_add(new.len()))?;
+        left.add(old)?;
+        left.add(new)?;
+        left.numbers.sort()?;
+        Ok(left)
     }
 
     /// Returns whether a row may be equal to one of the set. A row that is has its mark and its number.

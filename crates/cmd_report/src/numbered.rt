@@ -1,6 +1,6 @@
-//! Rows with the numbers of their first identifiers, by which a sort orders most of them without looking at them.
-ghost use Rattle.std.specs.Prelude.{◌≡◌, IfOk};
-ghost use Rattle.cmd_report.specs.Ranking.{ranking};
+//! Rows with the numbers of their first identifiers, which are made once and order most rows without a look at them.
+ghost use Rattle.std.specs.Prelude.{◌≡◌, [], ◌∷◌, ◌++◌, IfOk, OnOk};
+ghost use Rattle.cmd_report.specs.Ranking.{first_number, ranking};
 
 use crate::order::{By, first_number};
 use feed_kbart::Row;
@@ -29,7 +29,7 @@ impl<'a> Model for Numbered<'a> {
 }
 
 impl<'a> Numbered<'a> {
-    fn new(row: &'a Row) -> Numbered<'a>
+    pub(crate) fn new(row: &'a Row) -> Numbered<'a>
         ensures { result ≡ row.entry }
     {
         Numbered {
@@ -38,13 +38,29 @@ impl<'a> Numbered<'a> {
         }
     }
 
-    fn row(&self) -> &'a Row
+    /// Returns the same row and number.
+    pub(crate) fn again(&self) -> Numbered<'a>
+        ensures { result ≡ self.now }
+    {
+        Numbered {
+            number: self.number,
+            row: self.row,
+        }
+    }
+
+    pub(crate) fn number(&self) -> u32
+        ensures { result ≡ first_number self.now.now.identifiers }
+    {
+        self.number
+    }
+
+    pub(crate) fn row(&self) -> &'a Row
         ensures { result ≡ self.now }
     {
         self.row
     }
 
-    /// Compares two rows as `By::compare` does.
+    /// Compares two rows, first by their numbers. The result is `Equal` exactly if they are alike.
     pub(crate) fn compare(&self, by: By, other: &Numbered<'_>) -> Ordering
         ensures { result ≡ ranking by self.now.now other.now.now }
     {
@@ -54,18 +70,25 @@ impl<'a> Numbered<'a> {
     }
 }
 
-/// Numbers rows.
-pub(crate) fn number_rows<'a>(
-    alloc: Global,
-    rows: &[&'a Row],
-) -> Result<Vec<Numbered<'a>>, AllocError>
-    ensures { IfOk result (λ numbered. numbered.items ≡ rows.now) }
+/// Appends a row with its number.
+pub(crate) fn add_row<'a>(numbered: &mut Vec<Numbered<'a>>, row: &'a Row) -> Result<(), AllocError>
+    ensures { OnOk result (numbered.new.items ≡ numbered.old.items ++ row.entry ∷ []) }
 {
-    let mut numbered = Vec::with_capacity(alloc, rows.len())?;
+    numbered.push(Numbered::new(row))?;
+    Ok(())
+}
+
+/// Appends rows with their numbers.
+pub(crate) fn add_rows<'a>(
+    numbered: &mut Vec<Numbered<'a>>,
+    rows: &[&'a Row],
+) -> Result<(), AllocError>
+    ensures { OnOk result (numbered.new.items ≡ numbered.old.items ++ rows.now) }
+{
     for row in rows {
-        numbered.push(Numbered::new(*row))?;
+        add_row(numbered, *row)?;
     }
-    Ok(numbered)
+    Ok(())
 }
 
 /// Returns rows without their numbers.

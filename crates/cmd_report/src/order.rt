@@ -1,10 +1,12 @@
 //! The orders of rows by which lists are paired: rows that are alike are neighbors in them.
 ghost use Rattle.std.specs.Prelude.{◌≡◌};
+ghost use Rattle.std.specs.Ordering.{ordering_then};
 ghost use Rattle.cmd_report.specs.Columns.{is_book};
-ghost use Rattle.cmd_report.specs.Ranking.{content_cmp, coverage_cmp, identifiers_cmp, texts_cmp};
-ghost use Rattle.cmd_report.specs.Ranking.{first_isbn, first_number, further_cmp, ranking};
+ghost use Rattle.cmd_report.specs.Ranking.{coverage_cmp, identifiers_cmp, texts_cmp};
+ghost use Rattle.cmd_report.specs.Ranking.{first_isbn, first_number, further_cmp, row_of_cells, text_cmp};
+ghost use Rattle.feed_kbart.specs.RowCells.{content_of};
 
-use feed_kbart::{Kind, Row};
+use feed_kbart::{Kind, Row, RowCells};
 use std::cmp::Ordering;
 
 /// The columns by which rows are compared.
@@ -18,18 +20,18 @@ pub(crate) enum By {
     Url,
 }
 
-/// Returns whether a row is a book's.
-pub(crate) fn is_book(row: &Row) -> bool
-    ensures { result ≡ is_book row.now.identifiers }
+/// Returns whether a row with these cells is a book's.
+pub(crate) fn is_book(cells: &RowCells<'_>) -> bool
+    ensures { result ≡ is_book (content_of cells.now).identifiers }
 {
-    match row.kind() {
+    match cells.kind() {
         Kind::Serial => false,
         Kind::Book => true,
     }
 }
 
-fn compare_identifiers(one: &Row, other: &Row) -> Ordering
-    ensures { result ≡ identifiers_cmp one.now.identifiers other.now.identifiers }
+fn compare_identifiers(one: &RowCells<'_>, other: &RowCells<'_>) -> Ordering
+    ensures { result ≡ identifiers_cmp (row_of_cells one.now).identifiers (row_of_cells other.now).identifiers }
 {
     let first = (
         is_book(one),
@@ -48,63 +50,88 @@ fn compare_identifiers(one: &Row, other: &Row) -> Ordering
     first.cmp(&second)
 }
 
-fn compare_coverage(one: &Row, other: &Row) -> Ordering
-    ensures { result ≡ coverage_cmp one.now other.now }
+#[tactic(auto, unfolding(crate::specs::Ranking::row_of_cells))]
+fn compare_coverage(one: &RowCells<'_>, other: &RowCells<'_>) -> Ordering
+    ensures { result ≡ coverage_cmp (row_of_cells one.now) (row_of_cells other.now) }
 {
-    let first = (
-        one.first_day(),
-        one.last_day(),
-        one.first_volume(),
-        one.last_volume(),
-    );
+    let (first_volume, last_volume) = one.volumes();
+    let first = (one.first_day(), one.last_day(), first_volume, last_volume);
+    let (first_volume, last_volume) = other.volumes();
     let second = (
         other.first_day(),
         other.last_day(),
-        other.first_volume(),
-        other.last_volume(),
+        first_volume,
+        last_volume,
     );
     first.cmp(&second)
 }
 
-fn compare_texts(one: &Row, other: &Row) -> Ordering
-    ensures { result ≡ texts_cmp one.now other.now }
+#[tactic(auto, unfolding(crate::specs::Ranking::row_of_cells))]
+fn compare_texts(one: &RowCells<'_>, other: &RowCells<'_>) -> Ordering
+    ensures { result ≡ texts_cmp (row_of_cells one.now) (row_of_cells other.now) }
 {
     let first = (
-        one.title_id(),
-        one.url(),
-        one.title(),
-        one.depth(),
-        one.embargo(),
-        one.access(),
+        one.title_id,
+        one.title_url,
+        one.publication_title,
+        one.coverage_depth,
+        one.embargo_info,
+        one.access_type,
     );
     let second = (
-        other.title_id(),
-        other.url(),
-        other.title(),
-        other.depth(),
-        other.embargo(),
-        other.access(),
+        other.title_id,
+        other.title_url,
+        other.publication_title,
+        other.coverage_depth,
+        other.embargo_info,
+        other.access_type,
     );
     first.cmp(&second)
 }
 
-fn compare_content(one: &Row, other: &Row) -> Ordering
-    ensures { result ≡ content_cmp one.now other.now }
+// Compares by the coverage what a first comparison has left equal.
+fn then_coverage(first: Ordering, one: &RowCells<'_>, other: &RowCells<'_>) -> Ordering
+    ensures { result ≡ ordering_then first (coverage_cmp (row_of_cells one.now) (row_of_cells other.now)) }
 {
-    if one.has_same_cells(other) {
-        return Ordering::Equal;
+    match first {
+        Ordering::Less => Ordering::Less,
+        Ordering::Equal => compare_coverage(one, other),
+        Ordering::Greater => Ordering::Greater,
     }
-    compare_texts(one, other)
-        .then_with(|| compare_coverage(one, other))
-        .then_with(|| compare_identifiers(one, other))
 }
 
-fn first_isbn(row: &Row) -> u32
-    ensures { result ≡ first_isbn row.now.identifiers }
+// Compares by the identifiers what a first comparison has left equal.
+fn then_identifiers(first: Ordering, one: &RowCells<'_>, other: &RowCells<'_>) -> Ordering
+    ensures { result ≡ ordering_then first
+        (identifiers_cmp (row_of_cells one.now).identifiers (row_of_cells other.now).identifiers) }
 {
-    match row.print_isbn() {
+    match first {
+        Ordering::Less => Ordering::Less,
+        Ordering::Equal => compare_identifiers(one, other),
+        Ordering::Greater => Ordering::Greater,
+    }
+}
+
+#[tactic(auto, unfolding(crate::specs::Ranking::row_of_cells))]
+fn compare_title_ids(one: &RowCells<'_>, other: &RowCells<'_>) -> Ordering
+    ensures { result ≡ text_cmp (row_of_cells one.now).title_id (row_of_cells other.now).title_id }
+{
+    one.title_id.cmp(&other.title_id)
+}
+
+#[tactic(auto, unfolding(crate::specs::Ranking::row_of_cells))]
+fn compare_urls(one: &RowCells<'_>, other: &RowCells<'_>) -> Ordering
+    ensures { result ≡ text_cmp (row_of_cells one.now).url (row_of_cells other.now).url }
+{
+    one.title_url.cmp(&other.title_url)
+}
+
+fn first_isbn(cells: &RowCells<'_>) -> u32
+    ensures { result ≡ first_isbn (content_of cells.now).identifiers }
+{
+    match cells.print_isbn() {
         Some(isbn) => isbn.number(),
-        None => match row.online_isbn() {
+        None => match cells.online_isbn() {
             Some(isbn) => isbn.number(),
             None => 0,
         },
@@ -115,39 +142,37 @@ fn first_isbn(row: &Row) -> u32
 pub(crate) fn first_number(row: &Row) -> u32
     ensures { result ≡ first_number row.now.identifiers }
 {
-    match row.print() {
+    let cells = row.cells();
+    match cells.print() {
         Some(issn) => issn.number(),
-        None => match row.online() {
+        None => match cells.online() {
             Some(issn) => issn.number(),
-            None => first_isbn(row),
+            None => first_isbn(&cells),
         },
     }
 }
 
 impl By {
-    /// Compares two rows, first by their first identifiers. The result is `Equal` exactly if they are alike.
-    pub(crate) fn compare(self, one: &Row, other: &Row) -> Ordering
-        ensures { result ≡ ranking self one.now other.now }
+    fn compare_cells(self, one: &RowCells<'_>, other: &RowCells<'_>) -> Ordering
+        ensures { result ≡ further_cmp self (row_of_cells one.now) (row_of_cells other.now) }
     {
-        first_number(one)
-            .cmp(&first_number(other))
-            .then_with(|| self.compare_further(one, other))
+        match self {
+            By::Content => {
+                let first = then_coverage(compare_texts(one, other), one, other);
+                then_identifiers(first, one, other)
+            }
+            By::TitleId => then_identifiers(compare_title_ids(one, other), one, other),
+            By::Url => then_identifiers(compare_urls(one, other), one, other),
+        }
     }
 
     /// Compares two rows whose first identifiers have the same number.
     pub(crate) fn compare_further(self, one: &Row, other: &Row) -> Ordering
         ensures { result ≡ further_cmp self one.now other.now }
     {
-        match self {
-            By::Content => compare_content(one, other),
-            By::TitleId => one
-                .title_id()
-                .cmp(&other.title_id())
-                .then_with(|| compare_identifiers(one, other)),
-            By::Url => one
-                .url()
-                .cmp(&other.url())
-                .then_with(|| compare_identifiers(one, other)),
+        if one.has_same_cells(other) {
+            return Ordering::Equal;
         }
+        self.compare_cells(&one.cells(), &other.cells())
     }
 }

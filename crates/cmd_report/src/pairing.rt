@@ -1,13 +1,12 @@
 //! Pairs the rows of two lists that are alike, in one pass over both lists in order.
-ghost use Rattle.std.specs.Prelude.{◌≡◌, IfOk};
+ghost use Rattle.std.specs.Prelude.{◌≡◌, IfOk, OnOk};
 ghost use Rattle.std.specs.List.Sorted.{IsPermutation};
 ghost use Rattle.cmd_report.specs.Pairing.{AreSorted, IsContinued, IsPairing, IsStep};
 ghost use Rattle.cmd_report.specs.Ranking.{ranking};
 
 use crate::comparison::RowChange;
-use crate::numbered::{Numbered, number_rows, rows_of};
+use crate::numbered::Numbered;
 use crate::order::By;
-use feed_kbart::Row;
 use std::alloc::{AllocError, Global};
 use std::cmp::Ordering;
 
@@ -15,68 +14,62 @@ use std::cmp::Ordering;
 #[derive(Drop)]
 pub(crate) struct Pairing<'a> {
     pub(crate) pairs: Vec<RowChange<'a>>,
-    pub(crate) old: Vec<&'a Row>,
-    pub(crate) new: Vec<&'a Row>,
+    pub(crate) old: Vec<Numbered<'a>>,
+    pub(crate) new: Vec<Numbered<'a>>,
 }
 
 /// The next rows of two lists in order: the first of one list, or of both if they are alike.
 pub(crate) enum Step<'a> {
-    Old(&'a Row),
-    New(&'a Row),
+    Old(Numbered<'a>),
+    New(Numbered<'a>),
     Both(RowChange<'a>),
     End,
 }
 
 /// Sorts rows, those that are alike in file order.
-pub(crate) fn sort<'a>(
-    alloc: Global,
-    by: By,
-    mut rows: Vec<&'a Row>,
-) -> Result<Vec<&'a Row>, AllocError>
-    ensures permutation { IfOk result (λ sorted. IsPermutation rows.entry.items sorted.items) }
-    ensures sorted { IfOk result (λ sorted. AreSorted by sorted.items) }
+pub(crate) fn sort(by: By, rows: &mut Vec<Numbered<'_>>) -> Result<(), AllocError>
+    ensures permutation { IsPermutation rows.old.items rows.new.items }
+    ensures sorted { OnOk result (AreSorted by rows.new.items) }
 {
     rows.sort_by_key(
-        |row: &&Row| -> u32
+        |row: &Numbered<'_>| -> u32
             ensures { result ≡ row.now.now.number }
-        { row.number() },
+        { row.row().number() },
     )?;
-    let mut numbered = number_rows(alloc, &rows)?;
-    numbered.sort_by(
+    rows.sort_by(
         |one: &Numbered<'_>, other: &Numbered<'_>| -> Ordering
             ensures { result ≡ ranking by one.now.now other.now.now }
         { one.compare(by, other) },
-    )?;
-    rows_of(alloc, &numbered)
+    )
 }
 
 // Returns the next rows of two sorted lists, from a place in each.
-fn next_step<'a>(by: By, old: &[&'a Row], i: usize, new: &[&'a Row], j: usize) -> Step<'a>
+fn next_step<'a>(by: By, old: &[Numbered<'a>], i: usize, new: &[Numbered<'a>], j: usize) -> Step<'a>
     requires old { AreSorted by old.now }
     requires new { AreSorted by new.now }
     ensures { IsStep by old.now i new.now j result }
 {
     match (old.get(i), new.get(j)) {
-        (Some(old), Some(new)) => match by.compare(*old, *new) {
-            Ordering::Less => Step::Old(*old),
+        (Some(old), Some(new)) => match old.compare(by, new) {
+            Ordering::Less => Step::Old(old.again()),
             Ordering::Equal => Step::Both(RowChange {
-                old: *old,
-                new: *new,
+                old: old.row(),
+                new: new.row(),
             }),
-            Ordering::Greater => Step::New(*new),
+            Ordering::Greater => Step::New(new.again()),
         },
-        (Some(old), None) => Step::Old(*old),
-        (None, Some(new)) => Step::New(*new),
+        (Some(old), None) => Step::Old(old.again()),
+        (None, Some(new)) => Step::New(new.again()),
         (None, None) => Step::End,
     }
 }
 
-// Pairs the rows of two sorted lists.
-fn merge<'a>(
+/// Pairs the rows of two sorted lists that are alike, until none are left that are.
+pub(crate) fn merge<'a>(
     alloc: Global,
     by: By,
-    old: &[&'a Row],
-    new: &[&'a Row],
+    old: &[Numbered<'a>],
+    new: &[Numbered<'a>],
 ) -> Result<Pairing<'a>, AllocError>
     requires old { AreSorted by old.now }
     requires new { AreSorted by new.now }
@@ -116,14 +109,14 @@ fn merge<'a>(
 pub(crate) fn pair_up<'a>(
     alloc: Global,
     by: By,
-    old: Vec<&'a Row>,
-    new: Vec<&'a Row>,
+    mut old: Vec<Numbered<'a>>,
+    mut new: Vec<Numbered<'a>>,
 ) -> Result<Pairing<'a>, AllocError>
     ensures { IfOk result (IsPairing by old.entry.items new.entry.items) }
 {
-    let old_rows = sort(alloc, by, old)?;
-    let new_rows = sort(alloc, by, new)?;
-    merge(alloc, by, &old_rows, &new_rows)
+    sort(by, &mut old)?;
+    sort(by, &mut new)?;
+    merge(alloc, by, &old, &new)
 }
 
 /// Pairs the rows that a first step leaves over, and adds the pairs to those of the first step.

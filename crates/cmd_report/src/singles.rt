@@ -3,31 +3,31 @@ ghost use Rattle.std.specs.Prelude.{◌≡◌, ◌+◌, ◌<◌, IfOk, IsTrue, �
 ghost use Rattle.std.specs.List.{HoldsAt, filter};
 ghost use Rattle.cmd_report.specs.Pairing.{AreSorted, AreTied, IsSinglePairing, is_single};
 
+use crate::numbered::Numbered;
 use crate::order::By;
-use crate::pairing::{Pairing, pair_up, sort};
-use feed_kbart::Row;
+use crate::pairing::{Pairing, merge, sort};
 use std::alloc::{AllocError, Global};
 
 // The rows of a list that no other row of it is alike, and the other ones.
 #[derive(Drop)]
 struct Split<'a> {
-    singles: Vec<&'a Row>,
-    others: Vec<&'a Row>,
+    singles: Vec<Numbered<'a>>,
+    others: Vec<Numbered<'a>>,
 }
 
 // Returns whether the row at a place and the next one are alike.
-fn are_tied(by: By, rows: &[&Row], place: usize) -> bool
+fn are_tied(by: By, rows: &[Numbered<'_>], place: usize) -> bool
     requires { place < length rows.now }
     ensures { IsTrue result ↔ AreTied by rows.now place }
 {
     match rows.get(place + 1) {
-        Some(next) => by.compare(rows[place], *next).is_eq(),
+        Some(next) => rows[place].compare(by, next).is_eq(),
         None => false,
     }
 }
 
 // Returns whether no other row of a sorted list is alike the row at a place.
-fn is_single(by: By, rows: &[&Row], place: usize) -> bool
+fn is_single(by: By, rows: &[Numbered<'_>], place: usize) -> bool
     requires place { place < length rows.now }
     requires sorted { AreSorted by rows.now }
     ensures { HoldsAt (λ row. result ≡ is_single by rows.now row) rows.now place }
@@ -39,7 +39,7 @@ fn is_single(by: By, rows: &[&Row], place: usize) -> bool
 }
 
 // Splits a sorted list.
-fn split_singles<'a>(alloc: Global, by: By, rows: &[&'a Row]) -> Result<Split<'a>, AllocError>
+fn split_singles<'a>(alloc: Global, by: By, rows: &[Numbered<'a>]) -> Result<Split<'a>, AllocError>
     requires { AreSorted by rows.now }
     ensures singles { IfOk result (λ split. split.singles.items ≡ filter (is_single by rows.now) rows.now) }
     ensures others { IfOk result (λ split. split.others.items
@@ -49,9 +49,9 @@ fn split_singles<'a>(alloc: Global, by: By, rows: &[&'a Row]) -> Result<Split<'a
     let mut others = Vec::new(alloc);
     for (place, row) in rows.iter().enumerate() {
         if is_single(by, rows, place) {
-            singles.push(*row)?;
+            singles.push(row.again())?;
         } else {
-            others.push(*row)?;
+            others.push(row.again())?;
         }
     }
     Ok(Split { singles, others })
@@ -61,19 +61,17 @@ fn split_singles<'a>(alloc: Global, by: By, rows: &[&'a Row]) -> Result<Split<'a
 pub(crate) fn pair_singles<'a>(
     alloc: Global,
     by: By,
-    old: Vec<&'a Row>,
-    new: Vec<&'a Row>,
+    mut old: Vec<Numbered<'a>>,
+    mut new: Vec<Numbered<'a>>,
 ) -> Result<Pairing<'a>, AllocError>
     ensures { IfOk result (IsSinglePairing by old.entry.items new.entry.items) }
 {
-    let old_rows = sort(alloc, by, old)?;
-    let new_rows = sort(alloc, by, new)?;
-    let Split { singles, others } = split_singles(alloc, by, &old_rows)?;
-    let (old, mut more_old) = (singles, others);
-    let Split { singles, others } = split_singles(alloc, by, &new_rows)?;
-    let (new, mut more_new) = (singles, others);
-    let mut pairing = pair_up(alloc, by, old, new)?;
-    pairing.old.append(&mut more_old)?;
-    pairing.new.append(&mut more_new)?;
+    sort(by, &mut old)?;
+    sort(by, &mut new)?;
+    let mut of_old = split_singles(alloc, by, &old)?;
+    let mut of_new = split_singles(alloc, by, &new)?;
+    let mut pairing = merge(alloc, by, &of_old.singles, &of_new.singles)?;
+    pairing.old.append(&mut of_old.others)?;
+    pairing.new.append(&mut of_new.others)?;
     Ok(pairing)
 }

@@ -9,7 +9,7 @@ ghost use Rattle.cmd_report.specs.declared.order.By.TheVariants as key;
 
 use crate::comparison::RowChange;
 use crate::left_rows::LeftRows;
-use crate::order::{By, first_number};
+use crate::numbered::{add_row, add_rows};
 use crate::pairing::Pairing;
 use feed_kbart::Row;
 use std::alloc::{AllocError, Global};
@@ -83,7 +83,7 @@ fn pair_in_order<'a>(
     for row in old {
         match place_of(*row, new, next, reach) {
             Some(place) => {
-                left_new.extend_from_slice(&new[next..place])?;
+                add_rows(&mut left_new, &new[next..place])?;
                 pairs.push(RowChange {
                     old: *row,
                     new: new[place],
@@ -92,28 +92,17 @@ fn pair_in_order<'a>(
                 reach = reach.after_hit();
             }
             None => {
-                left_old.push(*row)?;
+                add_row(&mut left_old, *row)?;
                 reach = reach.after_miss();
             }
         }
     }
-    left_new.extend_from_slice(&new[next..])?;
+    add_rows(&mut left_new, &new[next..])?;
     Ok(Pairing {
         pairs,
         old: left_old,
         new: left_new,
     })
-}
-
-// Appends the numbers of the first identifiers of rows.
-fn add_numbers(numbers: &mut Vec<u32>, rows: &[&Row]) -> Result<(), AllocError>
-    ensures { OnOk result (numbers.new.items
-        ≡ numbers.old.items ++ map (λ row. first_number row.now.identifiers) rows.now) }
-{
-    for row in rows {
-        numbers.push(first_number(*row))?;
-    }
-    Ok(())
 }
 
 // Takes the pairs apart whose rows may be equal to one that is left over.
@@ -134,8 +123,8 @@ fn take_apart<'a>(
     let mut kept = Vec::with_capacity(alloc, pairs.len())?;
     for pair in &pairs {
         if left.may_have_equal(pair.old) {
-            old.push(pair.old)?;
-            new.push(pair.new)?;
+            add_row(&mut old, pair.old)?;
+            add_row(&mut new, pair.new)?;
         } else {
             kept.push(*pair)?;
         }
@@ -157,9 +146,6 @@ pub(crate) fn pair_unchanged<'a>(
     ensures { IfOk result (ArePaired key.Content old.now new.now) }
 {
     let first = pair_in_order(alloc, old, new)?;
-    let mut numbers = Vec::with_capacity(alloc, first.old.len().saturating_add(first.new.len()))?;
-    add_numbers(&mut numbers, &first.old)?;
-    add_numbers(&mut numbers, &first.new)?;
-    let left = LeftRows::of(alloc, &first.old, &first.new, numbers)?;
+    let left = LeftRows::of(alloc, &first.old, &first.new)?;
     take_apart(alloc, first, &left)
 }

@@ -6,8 +6,7 @@ use Rattle.cmd_report.proofs.pairing.pair_up.Goals as goal
 
 pub returns : goal.returns
 returns c =
-    let sorted : IfOk c.merge.result (IsPairing c.args.by c.in_ok-old_rows.old_rows.items c.in_ok-new_rows.new_rows.items) =
+    let sorted : IfOk c.merge.result (IsPairing c.args.by c.sort.new.rows.items c.sort-2.new.rows.items) =
     rw (c.deref.ensures.value, c.deref-2.ensures.value) at c.merge.ensures in
-    IfOk-weaker c.merge.result (IsPairing c.args.by c.in_ok-old_rows.old_rows.items c.in_ok-new_rows.new_rows.items) (IsPairing c.args.by c.args.old.items c.args.new.items)
-    (resorted c.args.by c.args.old.items c.args.new.items c.in_ok-old_rows.old_rows.items c.in_ok-new_rows.new_rows.items c.in_ok-old_rows.ensures.permutation
-    c.in_ok-new_rows.ensures.permutation) sorted
+    IfOk-weaker c.merge.result (IsPairing c.args.by c.sort.new.rows.items c.sort-2.new.rows.items) (IsPairing c.args.by c.args.old.items c.args.new.items)
+    (resorted c.args.by c.args.old.items c.args.new.items c.sort.new.rows.items c.sort-2.new.rows.items c.sort.ensures.permutation c.sort-2.ensures.permutation) sorted

@@ -10,8 +10,8 @@ loop-place-preserved c =
     elim c.if-is_single.branch [
       | then-is_single+in_ok-push w ↦ split_yes (is_single c.args.by c.args.rows.now) c.args.rows.now c.loop-place.place row c.loop-place-test.true c.index-rows-place.is
           c.loop-place.singles.items c.loop-place.others.items c.if-is_single.singles.items c.if-is_single.others.items c.loop-place.invariant
-          (rw c.index-rows-place.is (sym (w.if-is_single.ensures row))) (rw w.singles-is w.in_ok-push.ensures.items) (rw w.others-is refl)
+          (rw c.index-rows-place.is (sym (w.if-is_single.ensures row))) (rw w.singles-is (rw w.again.ensures at w.in_ok-push.ensures.items)) (rw w.others-is refl)
       | else-is_single+in_ok-push-2 w ↦ split_no (is_single c.args.by c.args.rows.now) c.args.rows.now c.loop-place.place row c.loop-place-test.true c.index-rows-place.is
           c.loop-place.singles.items c.loop-place.others.items c.if-is_single.singles.items c.if-is_single.others.items c.loop-place.invariant
-          (rw c.index-rows-place.is (sym (w.if-is_single.ensures row))) (rw w.singles-is refl) (rw w.others-is w.in_ok-push-2.ensures.items)
+          (rw c.index-rows-place.is (sym (w.if-is_single.ensures row))) (rw w.singles-is refl) (rw w.others-is (rw w.again-else-is_single.ensures at w.in_ok-push-2.ensures.items))
     ]

@@ -7,7 +7,7 @@ use Rattle.cmd_report.specs.declared.order.By.TheVariants.{Content}
 use Rattle.cmd_report.proofs.Alike.{tied_content}
 use Rattle.cmd_report.proofs.Merging.{ArePairedSoFar, all_paired, both_paired, news_left, olds_left, parts_taken, taken}
 use Rattle.cmd_report.proofs.unchanged.pair_in_order.Goals as goal
-use Rattle.cmd_report.proofs.unchanged.pair_in_order.Goals.{in-Some+in_ok-extend_from_slice-in-Some+in_ok-push-in-Some, in-None+in_ok-push-in-None}
+use Rattle.cmd_report.proofs.unchanged.pair_in_order.Goals.{in-Some+in_ok-add_rows-in-Some+in_ok-push-in-Some, in-None+in_ok-add_row-in-None}
 
 pub loop-row-preserved : goal.loop-row-preserved
 loop-row-preserved c =
@@ -20,7 +20,7 @@ loop-row-preserved c =
     let left_new = c.loop-row.left_new.items in
     let here : IsAt old i c.row-item.result = search rules in
     elim c.match-place_of.branch [
-      | in-Some+in_ok-extend_from_slice-in-Some+in_ok-push-in-Some w ↦
+      | in-Some+in_ok-add_rows-in-Some+in_ok-push-in-Some w ↦
           let k = w.in-Some.place in
           let pair : RowChange = record { old = c.row-item.result; new = w.index-new-place.result } in
           let there : IsAt new k w.index-new-place.result = search rules in
@@ -31,13 +31,13 @@ loop-row-preserved c =
           let both : ArePairedSoFar Content (take (i + 1) old) (take (k + 1) new) (pairs ++ pair ∷ []) left_old (left_new ++ between) =
           both_paired Content (take i old) (take k new) pairs left_old (left_new ++ between) skipped pair (take (i + 1) old) (take (k + 1) new)
           (taken old i pair.old here.0 here.1) (taken new k pair.new there.0 there.1) (tied_content pair.old.now pair.new.now same) in
-          rw (w.pairs-is, w.left_old-is, w.left_new-is, w.next-is, w.in_ok-push-in-Some.ensures.items, w.in_ok-extend_from_slice-in-Some.ensures.items)
+          rw (w.pairs-is, w.left_old-is, w.left_new-is, w.next-is, w.in_ok-push-in-Some.ensures.items, w.in_ok-add_rows-in-Some.ensures)
           (omega (arith, w.in-Some.ensures.within.1), both)
-      | in-None+in_ok-push-in-None w ↦
+      | in-None+in_ok-add_row-in-None w ↦
           let row = c.row-item.result in
           let one : ArePairedSoFar Content (take (i + 1) old) (take j new) pairs (left_old ++ row ∷ []) left_new =
           olds_left Content (take i old) (take j new) pairs left_old left_new c.loop-row.invariant.1 (row ∷ []) (take (i + 1) old) (taken old i row here.0 here.1) in
-          rw (w.pairs-is, w.left_old-is, w.left_new-is, w.next-is, w.in_ok-push-in-None.ensures.items) (c.loop-row.invariant.0, one)
+          rw (w.pairs-is, w.left_old-is, w.left_new-is, w.next-is, w.in_ok-add_row-in-None.ensures) (c.loop-row.invariant.0, one)
     ]
 
 pub returns : goal.returns
@@ -52,4 +52,4 @@ returns c =
     let rest = take (length new - j) (drop j new) in
     all_paired Content (take i old) (take (length new) new) pairs left_old (left_new ++ rest)
     (news_left Content (take i old) (take j new) pairs left_old left_new c.loop-row.invariant.1 rest (take (length new) new) (parts_taken new j (length new) c.loop-row.invariant.0))
-    old new (take_all i old (omega (arith, c.loop-row-test.false))) (take_all (length new) new (omega arith)) _ refl refl c.in_ok-extend_from_slice.ensures.items
+    old new (take_all i old (omega (arith, c.loop-row-test.false))) (take_all (length new) new (omega arith)) _ refl refl c.in_ok-add_rows.ensures

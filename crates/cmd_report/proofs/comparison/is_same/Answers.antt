@@ -1,5 +1,5 @@
 use Rattle.std.proofs.Common.{refl}
-use Rattle.cmd_report.proofs.comparison.RowChange.is_same.Goals as goal
+use Rattle.cmd_report.proofs.comparison.is_same.Goals as goal
 
 -- src/change.rt:17:5
 pub returns-in-PrintIdentifier : goal.returns-in-PrintIdentifier
