@@ -1,6 +1,7 @@
 //! `kbfeed openurl`: how a query is understood, in lines or as JSON.
+use feed_citation::{CitationPart, PARTS};
 use feed_console::{Console, DONE, FAILED, REFUSED};
-use feed_openurl::{Citation, CitationPart, Dropped, OpenUrl, OpenUrlFault, PARTS, dropped_keys};
+use feed_openurl::{Citation, Dropped, OpenUrl, OpenUrlFault, dropped_keys};
 use std::alloc::{AllocError, Global};
 use std::io;
 use std::io::{ErrorKind, Write};

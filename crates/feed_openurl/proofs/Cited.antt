@@ -9,8 +9,8 @@ use Rattle.feed_openurl.specs.Dropped.{is_other}
 use Rattle.feed_openurl.specs.Keys.{key_of}
 use Rattle.feed_openurl.specs.Laws.{BlankIsUncited, DroppedIsUncited, IsUncited}
 use Rattle.feed_openurl.specs.Shown.{shown}
-use Rattle.feed_openurl.specs.declared.citation_part.CitationPart.{CitationPart}
-use Rattle.feed_openurl.specs.declared.citation_part.CitationPart.TheVariants as part
+use Rattle.feed_citation.specs.declared.citation_part.CitationPart.{CitationPart}
+use Rattle.feed_citation.specs.declared.citation_part.CitationPart.TheVariants as part
 use Rattle.feed_openurl.specs.declared.key.Key.{Key}
 use Rattle.feed_openurl.specs.declared.key.Key.TheVariants as key
 

@@ -11,7 +11,7 @@ use Rattle.feed_identifiers.specs.Issn.{issn_of}
 use Rattle.feed_bytes.specs.Trim.{trimmed}
 use Rattle.feed_answer.specs.Pairs.{book_format, first, has_key, isbn_of_pair, issn_of_pair, issn_of_urn, journal_format}
 use Rattle.feed_openurl.specs.Citations.{named, named_after, part_of}
-use Rattle.feed_openurl.specs.declared.citation_part.CitationPart.{CitationPart}
+use Rattle.feed_citation.specs.declared.citation_part.CitationPart.{CitationPart}
 use Rattle.feed_openurl.specs.Core.{core_date, core_volume, date_of_pair, volume_of_pair}
 use Rattle.feed_openurl.specs.Dropped.{is_dropped, is_other}
 use Rattle.feed_openurl.specs.Identifiers.{IdentifiersValue, LookedUp, are_none, identifiers_among, identifiers_of, looked_up, number_or_others, number_text}

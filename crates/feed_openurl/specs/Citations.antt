@@ -5,15 +5,15 @@ use Rattle.std.specs.List.{flat_map}
 use Rattle.form_urlencoded.specs.Form as form
 use Rattle.feed_bytes.specs.Trim.{trimmed}
 use Rattle.feed_answer.specs.Pairs.{is_empty}
-use Rattle.feed_openurl.specs.CitationParts.{place_of, same_part}
+use Rattle.feed_citation.specs.CitationParts.{place_of, same_part}
 use Rattle.feed_openurl.specs.Fronts.{front_len}
 use Rattle.feed_openurl.specs.Keys.{after_prefix, is_name, key_of, mended, or_else}
 use Rattle.feed_openurl.specs.Links.{bare_pmid_of, doi_of, pmid_of}
 use Rattle.feed_openurl.specs.Shown.{shown}
-use Rattle.feed_openurl.specs.declared.citation_part.CitationPart.{CitationPart}
-use Rattle.feed_openurl.specs.declared.citation_part.CitationPart.TheVariants.{Article, Title, Author, Date, Volume, Issue, Page, Doi, Pmid, Genre}
-use Rattle.feed_openurl.specs.declared.citation_part.CitationPart.TheVariants.{LastName, FirstName, LastPage, Pages, Series, Edition, Publisher, Place, Institution}
-use Rattle.feed_openurl.specs.declared.citation_part.TheConstants.{PARTS}
+use Rattle.feed_citation.specs.declared.citation_part.CitationPart.{CitationPart}
+use Rattle.feed_citation.specs.declared.citation_part.CitationPart.TheVariants.{Article, Title, Author, Date, Volume, Issue, Page, Doi, Pmid, Genre}
+use Rattle.feed_citation.specs.declared.citation_part.CitationPart.TheVariants.{LastName, FirstName, LastPage, Pages, Series, Edition, Publisher, Place, Institution}
+use Rattle.feed_citation.specs.declared.citation_part.TheConstants.{PARTS}
 use Rattle.feed_openurl.specs.declared.key.Key.{Key}
 use Rattle.feed_openurl.specs.declared.key.Key.TheVariants as key
 use Rattle.feed_openurl.specs.declared.key.Tier.{Tier}

@@ -12,7 +12,6 @@ pub mod Dates
 pub mod Tiers
 pub mod Shown
 pub mod Links
-pub mod CitationParts
 pub mod Citations
 pub mod Dropped
 pub mod Values

@@ -1,10 +1,10 @@
 //! The best of the texts that are offered for a part of a citation.
 ghost use Rattle.std.specs.Prelude.{◌≡◌};
-ghost use Rattle.feed_openurl.specs.CitationParts.{same_part};
+ghost use Rattle.feed_citation.specs.CitationParts.{same_part};
 ghost use Rattle.feed_openurl.specs.Citations.{best};
 
-use crate::citation_part::CitationPart;
 use crate::offer::Offer;
+use feed_citation::CitationPart;
 use std::marker::Model;
 
 /// The text that is chosen for a part so far, and its rank. It is empty if there is none.

@@ -4,9 +4,9 @@ ghost use Rattle.feed_openurl.specs.Citations.{author_text, authors, beside, bes
 ghost use Rattle.feed_openurl.specs.Citations.{with_author};
 
 use crate::choice::best;
-use crate::citation_part::{CitationPart, PARTS};
 use crate::offer::{Offer, offers_of};
 use feed_answer::{Pair, decode_pairs};
+use feed_citation::{CitationPart, PARTS};
 use std::alloc::{AllocError, Global};
 use std::marker::Model;
 

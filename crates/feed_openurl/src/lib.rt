@@ -7,7 +7,6 @@
 
 mod choice;
 mod citation;
-mod citation_part;
 mod date;
 mod dates;
 mod digits;
@@ -35,7 +34,6 @@ mod words;
 mod writing;
 
 pub use citation::Citation;
-pub use citation_part::{CitationPart, PARTS};
 pub use dropped::{Dropped, dropped_keys};
 pub use fault::{OpenUrlFault, ReadFault};
 pub use laws::{

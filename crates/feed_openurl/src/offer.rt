@@ -6,12 +6,12 @@ ghost use Rattle.feed_openurl.specs.Citations.{name_offers_by, named, next_page,
 ghost use Rattle.feed_openurl.specs.Citations.{offers_by, offers_for, offers_of, ordered, pair_offers, part_of};
 ghost use Rattle.feed_openurl.specs.Citations.{pages_offers, part_offers, rank, title_part, work_part};
 
-use crate::citation_part::CitationPart;
 use crate::key::{Key, Tier, after_rft, is_name, mended};
 use crate::links::{bare_pmid_of, doi_of, pmid_of};
 use crate::shown::shown_text;
 use feed_answer::Pair;
 use feed_bytes::trim_spaces;
+use feed_citation::CitationPart;
 use std::alloc::{AllocError, Global};
 use std::marker::Model;
 

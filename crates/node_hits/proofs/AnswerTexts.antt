@@ -11,11 +11,11 @@ use Rattle.json.specs.Value.{items_of}
 use Rattle.json.specs.Print.{IsNumber}
 use Rattle.json.specs.Word.{after_number}
 use Rattle.json.proofs.Printed.Numbers.{lex-number}
-use Rattle.feed_openurl.specs.CitationParts.{name_of}
+use Rattle.feed_citation.specs.CitationParts.{name_of}
 use Rattle.feed_openurl.specs.Citations.{CitationValue, text_at}
-use Rattle.feed_openurl.specs.declared.citation_part.CitationPart.{CitationPart}
-use Rattle.feed_openurl.specs.declared.citation_part.CitationPart.TheVariants as part
-use Rattle.feed_openurl.specs.declared.citation_part.TheConstants.{PARTS}
+use Rattle.feed_citation.specs.declared.citation_part.CitationPart.{CitationPart}
+use Rattle.feed_citation.specs.declared.citation_part.CitationPart.TheVariants as part
+use Rattle.feed_citation.specs.declared.citation_part.TheConstants.{PARTS}
 use Rattle.feed_names.specs.ReleaseName.{Name}
 use Rattle.node_response.specs.JsonLists.{json_list}
 use Rattle.node_response.specs.JsonStrings.{json_string}

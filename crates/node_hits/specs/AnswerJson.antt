@@ -4,11 +4,11 @@ use Rattle.std.specs.Prelude.{ℕ, List, [], ◌∷◌, ◌++◌, codes, drop, m
 use Rattle.std.specs.List.{flat_map}
 use Rattle.json.specs.Json.{Json, Members, object, array, member, no_members, number}
 use Rattle.json.specs.Value.{items_of}
-use Rattle.feed_openurl.specs.CitationParts.{name_of}
+use Rattle.feed_citation.specs.CitationParts.{name_of}
 use Rattle.feed_openurl.specs.Citations.{CitationValue, text_at}
-use Rattle.feed_openurl.specs.declared.citation_part.CitationPart.{CitationPart}
-use Rattle.feed_openurl.specs.declared.citation_part.CitationPart.TheVariants.{Article}
-use Rattle.feed_openurl.specs.declared.citation_part.TheConstants.{PARTS}
+use Rattle.feed_citation.specs.declared.citation_part.CitationPart.{CitationPart}
+use Rattle.feed_citation.specs.declared.citation_part.CitationPart.TheVariants.{Article}
+use Rattle.feed_citation.specs.declared.citation_part.TheConstants.{PARTS}
 use Rattle.feed_names.specs.ReleaseName.{Name}
 use Rattle.node_response.specs.JsonLists.{json_list}
 use Rattle.node_response.specs.JsonStrings.{json_string}

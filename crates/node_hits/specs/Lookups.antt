@@ -6,7 +6,7 @@ use Rattle.feed_openurl.specs.Citations.{CitationValue, citation_of_pairs, text_
 use Rattle.feed_openurl.specs.Queries.{asked_by}
 use Rattle.feed_openurl.specs.Values.{understood}
 use Rattle.feed_openurl.specs.declared.fault.OpenUrlFault.{OpenUrlFault}
-use Rattle.feed_openurl.specs.declared.citation_part.CitationPart.TheVariants.{Genre}
+use Rattle.feed_citation.specs.declared.citation_part.CitationPart.TheVariants.{Genre}
 use Rattle.node_hits.specs.Hits.{is_word}
 use Rattle.node_site.specs.Requests.{CitedTitleValue}
 use Rattle.node_hits.specs.Searches.{SearchValue}

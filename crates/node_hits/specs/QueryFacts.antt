@@ -5,8 +5,8 @@ use Rattle.std.specs.Option.{option_map_or}
 use Rattle.form_urlencoded.specs.Form as form
 use Rattle.feed_answer.specs.Pairs.{is_empty}
 use Rattle.feed_openurl.specs.Citations.{CitationValue, citation_of_pairs, text_at}
-use Rattle.feed_openurl.specs.declared.citation_part.CitationPart.{CitationPart}
-use Rattle.feed_openurl.specs.declared.citation_part.CitationPart.TheVariants.{Article, Doi, Pmid, Title}
+use Rattle.feed_citation.specs.declared.citation_part.CitationPart.{CitationPart}
+use Rattle.feed_citation.specs.declared.citation_part.CitationPart.TheVariants.{Article, Doi, Pmid, Title}
 use Rattle.feed_openurl.specs.Values.{OpenUrlValue, understood}
 use Rattle.feed_openurl.specs.Written.{written}
 use Rattle.node_hits.specs.declared.query_facts.TheConstants.{SHOWN}

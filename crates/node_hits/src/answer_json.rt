@@ -11,8 +11,9 @@ use crate::hits_json::{put_also_json, put_hits_json, put_release_members};
 use crate::query_facts::QueryFacts;
 use crate::tally::Tally;
 use feed_bytes::put_all;
+use feed_citation::{CitationPart, PARTS};
 use feed_names::ReleaseName;
-use feed_openurl::{Citation, CitationPart, PARTS};
+use feed_openurl::Citation;
 use node_response::{Fragment, put, put_comma, put_list_end, put_list_start};
 use std::alloc::AllocError;
 

@@ -2,7 +2,8 @@
 ghost use Rattle.std.specs.Prelude.{◌≡◌, [], IfOk, option_copied, unwrap_or};
 ghost use Rattle.node_hits.specs.QueryFacts.{is_absent, is_blank, names_work, query_text};
 
-use feed_openurl::{Citation, CitationPart, OpenUrl};
+use feed_citation::CitationPart;
+use feed_openurl::{Citation, OpenUrl};
 use std::alloc::{AllocError, Global};
 use std::marker::Model;
 

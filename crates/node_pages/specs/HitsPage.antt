@@ -3,7 +3,7 @@ use Rattle.std.specs.Prelude.{ℕ, ◌==◌, ◌&&◌, Bool, true, false, not, i
 use Rattle.std.specs.Fmt.{decimal}
 use Rattle.form_urlencoded.specs.Form as form
 use Rattle.feed_openurl.specs.Citations.{text_at}
-use Rattle.feed_openurl.specs.declared.citation_part.CitationPart.TheVariants as part
+use Rattle.feed_citation.specs.declared.citation_part.CitationPart.TheVariants as part
 use Rattle.node_site.specs.Site as site_file
 use Rattle.node_site.specs.Texts.{text_of}
 use Rattle.node_hits.specs.QueryFacts.{QueryFactsValue}

@@ -3,7 +3,7 @@ use Rattle.std.specs.Prelude.{ℕ, Bool, true, false, if◌then◌else◌, List,
 use Rattle.feed_openurl.specs.Citations.{text_at}
 use Rattle.feed_openurl.specs.declared.fault.OpenUrlFault.{OpenUrlFault}
 use Rattle.feed_openurl.specs.declared.fault.OpenUrlFault.TheVariants as reason
-use Rattle.feed_openurl.specs.declared.citation_part.CitationPart.TheVariants as part
+use Rattle.feed_citation.specs.declared.citation_part.CitationPart.TheVariants as part
 use Rattle.form_urlencoded.specs.Form as form
 use Rattle.node_site.specs.Site as site_file
 use Rattle.node_request.specs.declared.representation.Representation.{Representation}

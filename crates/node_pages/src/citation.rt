@@ -9,7 +9,7 @@ ghost use Rattle.node_pages.specs.Citations.{names_with, place_parts, work_parts
 use crate::coins::{is_cited, put_coins};
 use crate::form::{isbn_in, issn_in};
 use feed_answer::Pair;
-use feed_openurl::CitationPart;
+use feed_citation::CitationPart;
 use node_hits::QueryFacts;
 use node_site::{SiteFile, doi_link};
 use node_templates::{Slot, Template, put_page, text_if};

@@ -9,7 +9,7 @@ use crate::form::{isbn_in, issn_in};
 use crate::ways::cited_of;
 use feed_answer::Pair;
 use feed_bytes::trim_spaces;
-use feed_openurl::CitationPart;
+use feed_citation::CitationPart;
 use node_hits::{QueryFacts, is_blank};
 use node_site::{SiteFile, citation_query};
 use node_templates::{Slot, Template, put_page, text_if};

@@ -15,7 +15,7 @@ use crate::lists::list_mark;
 use crate::number_faults::{NumberKind, fault_words};
 use crate::ways::{cited_of, put_items};
 use feed_answer::Pair;
-use feed_openurl::CitationPart;
+use feed_citation::CitationPart;
 use node_hits::{QueryFacts, Tally};
 use node_site::{
     CitedTitle, LibraryLink, LinkUse, SearchOutcome, SiteFile, Text, library_links, text_of,

@@ -14,7 +14,7 @@ use crate::partial::partial_names;
 use crate::ways::{cited_of, put_ways_to};
 use feed_answer::Pair;
 use feed_bytes::put_number;
-use feed_openurl::CitationPart;
+use feed_citation::CitationPart;
 use node_hits::{QueryFacts, Tally};
 use node_site::{SiteFile, Text, text_of};
 use node_templates::{Slot, Template, put_page, text_or_nothing};

@@ -1,8 +1,8 @@
 -- The fields of the templates of addresses: the parts of a citation, and what is made of them.
 use Rattle.std.specs.Prelude.{ℕ, Bool, true, false, List, Option, Some, None, option_map, if◌then◌else◌, codes}
 use Rattle.std.specs.Str.{bytes_eq}
-use Rattle.feed_openurl.specs.CitationParts.{part_named}
-use Rattle.feed_openurl.specs.declared.citation_part.CitationPart.TheVariants.{Page}
+use Rattle.feed_citation.specs.CitationParts.{part_named}
+use Rattle.feed_citation.specs.declared.citation_part.CitationPart.TheVariants.{Page}
 use Rattle.node_site.specs.declared.field.Field.{Field}
 use Rattle.node_site.specs.declared.field.Field.TheVariants.{Issn, IssnPlain, Isbn, TitleId, Year, Month, Query, Cited}
 use Rattle.node_site.specs.declared.field.Names.{Names}

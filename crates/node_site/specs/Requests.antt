@@ -5,9 +5,9 @@ use Rattle.std.specs.Str.{bytes_eq}
 use Rattle.percent_encoding.specs.Percent.{percent_encode}
 use Rattle.percent_encoding.specs.declared.ascii_set.TheConstants.{NON_ALPHANUMERIC}
 use Rattle.feed_openurl.specs.Citations.{CitationValue, text_at}
-use Rattle.feed_openurl.specs.declared.citation_part.CitationPart.{CitationPart}
-use Rattle.feed_openurl.specs.declared.citation_part.CitationPart.TheVariants as part
-use Rattle.feed_openurl.specs.declared.citation_part.TheConstants.{PARTS}
+use Rattle.feed_citation.specs.declared.citation_part.CitationPart.{CitationPart}
+use Rattle.feed_citation.specs.declared.citation_part.CitationPart.TheVariants as part
+use Rattle.feed_citation.specs.declared.citation_part.TheConstants.{PARTS}
 use Rattle.node_site.specs.Fields.{field_named}
 use Rattle.node_site.specs.Hosts.{is_link}
 use Rattle.node_site.specs.declared.field.Field.{Field}

@@ -7,7 +7,8 @@ ghost use Rattle.node_site.specs.Requests.{part_pair, part_value, without_hyphen
 
 use crate::field::Field;
 use crate::links::encoded;
-use feed_openurl::{Citation, CitationPart, PARTS};
+use feed_citation::{CitationPart, PARTS};
+use feed_openurl::Citation;
 use std::alloc::{AllocError, Global};
 use std::marker::Model;
 

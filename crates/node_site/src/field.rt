@@ -3,7 +3,7 @@ ghost use Rattle.std.specs.Prelude.{◌≡◌};
 ghost use Rattle.std.specs.Str.{bytes_eq};
 ghost use Rattle.node_site.specs.Fields.{field_named, is_allowed, is_for_article, is_for_link, part_field};
 
-use feed_openurl::CitationPart;
+use feed_citation::CitationPart;
 
 /// A field of a template.
 #[derive(Clone, Copy)]

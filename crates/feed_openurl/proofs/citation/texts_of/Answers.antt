@@ -1,7 +1,7 @@
 use Rattle.std.proofs.Common.{get_or, map}
 use Rattle.std.proofs.lemmas.List.{get_or_default}
 use Rattle.feed_openurl.specs.Citations.{part_text}
-use Rattle.feed_openurl.specs.declared.citation_part.CitationPart.TheVariants as part
+use Rattle.feed_citation.specs.declared.citation_part.CitationPart.TheVariants as part
 use Rattle.feed_openurl.proofs.Steps.{mapped_next}
 use Rattle.feed_openurl.proofs.citation.texts_of.Goals as goal
 

@@ -1,6 +1,6 @@
 use Rattle.std.proofs.Common.{get_or}
 use Rattle.std.proofs.lemmas.List.{get_or_default}
-use Rattle.feed_openurl.specs.declared.citation_part.CitationPart.TheVariants as part
+use Rattle.feed_citation.specs.declared.citation_part.CitationPart.TheVariants as part
 use Rattle.node_hits.specs.AnswerJson.{part_member}
 use Rattle.node_hits.proofs.Loops.{flat_next}
 use Rattle.node_hits.proofs.answer_json.put_parts.Goals as goal

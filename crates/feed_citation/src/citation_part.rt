@@ -1,6 +1,6 @@
 //! The parts of a citation, and the names that they have in JSON and in the template of a request form.
 ghost use Rattle.std.specs.Prelude.{◌≡◌};
-ghost use Rattle.feed_openurl.specs.CitationParts.{is_called, name_of, part_named, place_of};
+ghost use Rattle.feed_citation.specs.CitationParts.{is_called, name_of, part_named, place_of};
 
 /// A part of a citation.
 #[derive(Clone, Copy)]
@@ -81,7 +81,7 @@ impl CitationPart {
     }
 
     /// Returns the place of a part among all parts.
-    pub(crate) fn place(self) -> usize
+    pub fn place(self) -> usize
         ensures { result ≡ place_of self }
     {
         self as usize

@@ -2,10 +2,10 @@
 use Rattle.std.specs.Prelude.{ℕ, Bool, ◌==◌, List, Option, codes}
 use Rattle.std.specs.List.{find}
 use Rattle.std.specs.Str.{bytes_eq}
-use Rattle.feed_openurl.specs.declared.citation_part.CitationPart.{CitationPart}
-use Rattle.feed_openurl.specs.declared.citation_part.CitationPart.TheVariants.{Article, Title, Author, Date, Volume, Issue, Page, Doi, Pmid, Genre}
-use Rattle.feed_openurl.specs.declared.citation_part.CitationPart.TheVariants.{LastName, FirstName, LastPage, Pages, Series, Edition, Publisher, Place, Institution}
-use Rattle.feed_openurl.specs.declared.citation_part.TheConstants.{PARTS}
+use Rattle.feed_citation.specs.declared.citation_part.CitationPart.{CitationPart}
+use Rattle.feed_citation.specs.declared.citation_part.CitationPart.TheVariants.{Article, Title, Author, Date, Volume, Issue, Page, Doi, Pmid, Genre}
+use Rattle.feed_citation.specs.declared.citation_part.CitationPart.TheVariants.{LastName, FirstName, LastPage, Pages, Series, Edition, Publisher, Place, Institution}
+use Rattle.feed_citation.specs.declared.citation_part.TheConstants.{PARTS}
 
 -- the name of a part
 abbrev pub name_of : CitationPart → List ℕ
