@@ -4,7 +4,7 @@ use Rattle.std.specs.Prelude.{unwrap_or}
 use Rattle.feed_answer.specs.HitValue.{HitValue}
 use Rattle.feed_answer.specs.Today.{TodayValue}
 use Rattle.feed_names.specs.ReleaseName.{Name}
-use Rattle.node_site.specs.Articles.{article_link}
+use Rattle.node_links.specs.Articles.{article_link}
 use Rattle.node_site.specs.Site as site_file
 use Rattle.node_hits.specs.Hits.{ReleaseHitValue, cited_in, is_for_hits, is_free, is_open_or_unknown, leads_to_article, link_text, may_be_full_text, page_text, release_hit}
 use Rattle.node_hits.specs.Laws.{ArticlesComeFirst, IsArticle}

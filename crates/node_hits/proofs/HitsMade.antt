@@ -4,11 +4,11 @@ use Rattle.std.specs.Prelude.{if◌then◌else◌, option_map, unwrap_or}
 use Rattle.feed_answer.specs.declared.availability.Availability.{Availability}
 use Rattle.feed_kbart.specs.RowValue.{RowValue}
 use Rattle.feed_names.specs.ReleaseName.{Name}
-use Rattle.node_site.specs.Articles.{article_link, with_title_id}
+use Rattle.node_links.specs.Articles.{article_link, with_title_id}
 use Rattle.node_site.specs.Hosts.{is_link}
-use Rattle.node_site.specs.Requests.{CitedTitleValue}
+use Rattle.node_links.specs.Requests.{CitedTitleValue}
 use Rattle.node_site.specs.Site as site_file
-use Rattle.node_site.proofs.LinksMade.{articles_are_whole}
+use Rattle.node_links.proofs.LinksMade.{articles_are_whole}
 use Rattle.node_hits.specs.Hits.{article_if, article_of, is_free, leads_to_article}
 use Rattle.node_hits.specs.Searches.{SearchValue}
 

@@ -6,10 +6,10 @@ use Rattle.std.proofs.lemmas.Bool.{cases_Bool}
 use Rattle.std.proofs.lemmas.List.Elements.{All-append, All-cons, All-nil}
 use Rattle.feed_kbart.specs.RowValue.{RowValue}
 use Rattle.node_request.specs.declared.sfx_query.SfxOptions.{SfxOptions}
-use Rattle.node_site.proofs.LinksMade.{requests_are_links}
+use Rattle.node_links.proofs.LinksMade.{requests_are_links}
 use Rattle.node_site.specs.Hosts.{is_link}
-use Rattle.node_site.specs.LibraryLinks.{LibraryLinkValue, library_links}
-use Rattle.node_site.specs.RequestLaws.{is_safe}
+use Rattle.node_links.specs.LibraryLinks.{LibraryLinkValue, library_links}
+use Rattle.node_links.specs.RequestLaws.{is_safe}
 use Rattle.node_site.specs.Site as site_file
 use Rattle.node_site.specs.declared.occasion.LinkUse.TheVariants.{Shown}
 use Rattle.feed_answer.specs.declared.availability.Availability.{Availability}

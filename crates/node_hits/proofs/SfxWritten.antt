@@ -12,8 +12,8 @@ use Rattle.feed_xml.specs.declared.tags.TheConstants.{DECLARATION}
 use Rattle.feed_xml.proofs.Written.{element_text, element_written}
 use Rattle.node_request.specs.declared.sfx_query.SfxOptions.{SfxOptions}
 use Rattle.node_site.specs.Hosts.{is_link}
-use Rattle.node_site.specs.LibraryLinks.{LibraryLinkValue, library_links}
-use Rattle.node_site.specs.Requests.{CitedTitleValue}
+use Rattle.node_links.specs.LibraryLinks.{LibraryLinkValue, library_links}
+use Rattle.node_links.specs.Requests.{CitedTitleValue}
 use Rattle.node_site.specs.Site as site_file
 use Rattle.node_site.specs.declared.occasion.LinkUse.TheVariants.{Shown}
 use Rattle.node_site.specs.declared.occasion.SearchOutcome.{SearchOutcome}

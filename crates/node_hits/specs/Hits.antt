@@ -17,12 +17,12 @@ use Rattle.feed_answer.specs.HitValue.{HitValue}
 use Rattle.feed_answer.specs.QueryValue.{QueryValue}
 use Rattle.feed_answer.specs.declared.grade.Grade.{Grade}
 use Rattle.feed_answer.specs.declared.grade.Grade.TheVariants.{Inside, Overlap, Untested}
-use Rattle.node_site.specs.Articles.{CitedLinksValue, article_link, with_title_id}
+use Rattle.node_links.specs.Articles.{CitedLinksValue, article_link, with_title_id}
 use Rattle.node_site.specs.Held.{library_has}
 use Rattle.node_site.specs.Notes.{note_on}
 use Rattle.node_site.specs.Packages.{package_place}
 use Rattle.node_site.specs.Proxies.{PrefixValue, is_direct, prefix_for, through}
-use Rattle.node_site.specs.Requests.{CitedTitleValue}
+use Rattle.node_links.specs.Requests.{CitedTitleValue}
 use Rattle.node_site.specs.Site as site_file
 use Rattle.node_site.specs.Hosts.{is_link}
 use Rattle.node_hits.specs.Searches.{SearchValue, compared, is_dated, is_first_as, whole_titles}

@@ -7,7 +7,7 @@ use Rattle.json.specs.Value.{items_of}
 use Rattle.feed_names.specs.ReleaseName.{Name}
 use Rattle.feed_answer.specs.Today.{TodayValue}
 use Rattle.feed_answer.specs.declared.availability.Availability.TheVariants.{Available}
-use Rattle.node_site.specs.Articles.{article_link}
+use Rattle.node_links.specs.Articles.{article_link}
 use Rattle.node_site.specs.Proxies.{is_direct, proxied}
 use Rattle.node_site.specs.Site as site_file
 use Rattle.feed_answer.specs.HitValue.{HitValue}

@@ -8,7 +8,7 @@ use Rattle.feed_openurl.specs.Values.{understood}
 use Rattle.feed_openurl.specs.declared.fault.OpenUrlFault.{OpenUrlFault}
 use Rattle.feed_citation.specs.declared.citation_part.CitationPart.TheVariants.{Genre}
 use Rattle.node_hits.specs.Hits.{is_word}
-use Rattle.node_site.specs.Requests.{CitedTitleValue}
+use Rattle.node_links.specs.Requests.{CitedTitleValue}
 use Rattle.node_hits.specs.Searches.{SearchValue}
 use Rattle.node_hits.specs.declared.search.Scope.TheVariants.{Hits}
 

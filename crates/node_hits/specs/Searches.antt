@@ -8,7 +8,7 @@ use Rattle.feed_kbart.specs.declared.identifiers.Kind.TheVariants.{Serial, Book}
 use Rattle.feed_answer.specs.Grades.{both_grades, days_grade, is_named, volume_grade}
 use Rattle.feed_answer.specs.HitValue.{HitValue}
 use Rattle.feed_answer.specs.QueryValue.{QueryValue}
-use Rattle.node_site.specs.Requests.{CitedTitleValue}
+use Rattle.node_links.specs.Requests.{CitedTitleValue}
 use Rattle.feed_answer.specs.declared.grade.Grade.{Grade}
 use Rattle.feed_answer.specs.declared.grade.Grade.TheVariants.{Inside, Overlap, Untested}
 use Rattle.node_hits.specs.declared.search.Scope.{Scope}

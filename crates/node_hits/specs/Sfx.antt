@@ -10,9 +10,9 @@ use Rattle.feed_xml.specs.Marks.{Mark, element, xml_text}
 use Rattle.feed_xml.specs.declared.tags.TheConstants.{DECLARATION}
 use Rattle.node_request.specs.declared.sfx_query.SfxOptions.{SfxOptions}
 use Rattle.node_site.specs.Hosts.{is_link}
-use Rattle.node_site.specs.LibraryLinks.{LibraryLinkValue, library_links}
+use Rattle.node_links.specs.LibraryLinks.{LibraryLinkValue, library_links}
 use Rattle.node_site.specs.Packages.{shown_package}
-use Rattle.node_site.specs.Requests.{CitedTitleValue}
+use Rattle.node_links.specs.Requests.{CitedTitleValue}
 use Rattle.node_site.specs.Site as site_file
 use Rattle.node_site.specs.declared.occasion.LinkUse.TheVariants.{Shown}
 use Rattle.node_hits.specs.Coverages.{days_words, volumes_words}

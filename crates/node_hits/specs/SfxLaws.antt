@@ -6,8 +6,8 @@ use Rattle.feed_xml.specs.Marks.{xml_text}
 use Rattle.feed_xml.specs.Reading.{is_balanced, leaf_texts, xml_marks}
 use Rattle.node_request.specs.declared.sfx_query.SfxOptions.{SfxOptions}
 use Rattle.node_site.specs.Hosts.{is_link}
-use Rattle.node_site.specs.LibraryLinks.{LibraryLinkValue, library_links}
-use Rattle.node_site.specs.Requests.{CitedTitleValue}
+use Rattle.node_links.specs.LibraryLinks.{LibraryLinkValue, library_links}
+use Rattle.node_links.specs.Requests.{CitedTitleValue}
 use Rattle.node_site.specs.Site as site_file
 use Rattle.node_site.specs.declared.occasion.LinkUse.TheVariants.{Shown}
 use Rattle.node_hits.specs.Hits.{link_text}

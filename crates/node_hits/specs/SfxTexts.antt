@@ -7,7 +7,7 @@ use Rattle.feed_xml.specs.Marks.{closed, mark_text, opened, xml_text}
 use Rattle.feed_xml.specs.declared.tags.TheConstants.{DECLARATION}
 use Rattle.node_request.specs.declared.sfx_query.SfxOptions.{SfxOptions}
 use Rattle.node_site.specs.Hosts.{is_link}
-use Rattle.node_site.specs.LibraryLinks.{LibraryLinkValue}
+use Rattle.node_links.specs.LibraryLinks.{LibraryLinkValue}
 use Rattle.node_site.specs.Packages.{shown_package}
 use Rattle.node_site.specs.Site as site_file
 use Rattle.node_hits.specs.Hits.{ReleaseHitValue, link_text}

@@ -2,7 +2,7 @@
 ghost use Rattle.std.specs.Prelude.{◌≡◌, ◌-◌, [], IfOk, length, option_map};
 ghost use Rattle.std.specs.Cow.{cow_slice_items};
 ghost use Rattle.feed_answer.specs.HitValue.{hit_of};
-ghost use Rattle.node_site.specs.Articles.{with_title_id};
+ghost use Rattle.node_links.specs.Articles.{with_title_id};
 ghost use Rattle.node_site.specs.Held.{library_has};
 ghost use Rattle.node_site.specs.Hosts.{is_link};
 ghost use Rattle.node_site.specs.Packages.{package_place};
@@ -22,9 +22,10 @@ use feed_answer::{Availability, Grade, Hit, Query, Today, availability_of};
 use feed_dates::DayRange;
 use feed_kbart::{Holdings, Kind, Row};
 use feed_names::ReleaseName;
+use node_links::{CitedLinks, article_link};
 use node_site::{
-    CitedLinks, Prefix, SiteFile, again, article_link, is_direct, is_link, left_beside,
-    library_has, may_be_link, note_on, through,
+    Prefix, SiteFile, again, is_direct, is_link, left_beside, library_has, may_be_link, note_on,
+    through,
 };
 use std::alloc::{AllocError, Global};
 use std::borrow::CowSlice;

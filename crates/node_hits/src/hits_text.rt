@@ -14,8 +14,8 @@ use crate::tally::Tally;
 use feed_answer::{write_head, write_hit};
 use feed_bytes::put_all;
 use feed_names::ReleaseName;
+use node_links::CitedLinks;
 use node_response::Fragment;
-use node_site::CitedLinks;
 use std::alloc::{AllocError, Global};
 
 #[tactic(auto, unfolding(crate::specs::HitsText::cut_head_line))]

@@ -10,7 +10,7 @@ use feed_answer::Query;
 use feed_citation::CitationPart;
 use feed_identifiers::{Isbn, Issn};
 use feed_openurl::Citation;
-use node_site::CitedTitle;
+use node_links::CitedTitle;
 use std::alloc::{AllocError, Global};
 use std::marker::Model;
 
@@ -89,7 +89,7 @@ fn first_isbn(alloc: Global, isbns: &[Isbn]) -> Result<Vec<u8>, AllocError>
 impl<'q> Lookup<'q> {
     ghost use Rattle.std.specs.Prelude.{option_copied};
     ghost use Rattle.node_hits.specs.Lookups.{search_of};
-    ghost use Rattle.node_site.specs.Articles.{with_title_id};
+    ghost use Rattle.node_links.specs.Articles.{with_title_id};
 
     /// Returns the lookup for a query with this citation, with its date as it is understood.
     pub(crate) fn of(

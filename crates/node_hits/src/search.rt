@@ -13,7 +13,8 @@ use crate::lookup::Lookup;
 use feed_answer::{Grade, Hit, Query};
 use feed_dates::DayRange;
 use feed_kbart::{Kind, Row};
-use node_site::{CitedLinks, SiteFile};
+use node_links::CitedLinks;
+use node_site::SiteFile;
 use std::alloc::Global;
 use std::marker::Model;
 

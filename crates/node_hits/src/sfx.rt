@@ -2,7 +2,7 @@
 //! more hits.
 ghost use Rattle.std.specs.Prelude.{◌≡◌, ◌++◌, OnOk, map};
 ghost use Rattle.std.specs.List.{flat_map};
-ghost use Rattle.node_site.specs.LibraryLinks.{library_links};
+ghost use Rattle.node_links.specs.LibraryLinks.{library_links};
 ghost use Rattle.node_site.specs.declared.occasion.LinkUse.TheVariants.{Shown};
 ghost use Rattle.node_hits.specs.Sfx.{hit_service, is_asked, link_service, more_of, no_targets, service_of};
 ghost use Rattle.node_hits.specs.Sfx.{sfx_reply};
@@ -22,12 +22,10 @@ use crate::tally::Tally;
 use feed_kbart::Row;
 use feed_names::ReleaseName;
 use feed_xml::{DECLARATION, put_closed, put_leaf, put_opened};
+use node_links::{CitedTitle, LibraryLink, library_links};
 use node_request::SfxOptions;
 use node_response::put;
-use node_site::{
-    CitedTitle, LibraryLink, LinkUse, SearchOutcome, SiteFile, is_link, library_links,
-    shown_package,
-};
+use node_site::{LinkUse, SearchOutcome, SiteFile, is_link, shown_package};
 use std::alloc::AllocError;
 
 fn service_of(row: &Row) -> &'static [u8]

@@ -5,7 +5,7 @@ use Rattle.std.specs.Char.{is_ascii_alphanumeric}
 use Rattle.feed_answer.specs.Pairs.{is_empty}
 use Rattle.feed_openurl.specs.Citations.{text_at}
 use Rattle.feed_citation.specs.declared.citation_part.CitationPart.TheVariants as part
-use Rattle.node_site.specs.Articles.{doi_link}
+use Rattle.node_links.specs.Articles.{doi_link}
 use Rattle.node_site.specs.Site as site_file
 use Rattle.node_hits.specs.QueryFacts.{QueryFactsValue}
 use Rattle.node_templates.specs.Values.{text_if}

@@ -3,7 +3,7 @@ use Rattle.std.specs.Prelude.{ℕ, ◌&&◌, ◌||◌, Bool, not, List, [], ◌�
 use Rattle.feed_answer.specs.Pairs.{is_empty}
 use Rattle.feed_openurl.specs.Citations.{text_at}
 use Rattle.feed_citation.specs.declared.citation_part.CitationPart.TheVariants.{Genre}
-use Rattle.node_site.specs.Requests.{citation_query}
+use Rattle.node_links.specs.Requests.{citation_query}
 use Rattle.node_hits.specs.Hits.{is_word}
 use Rattle.node_hits.specs.Lookups.{is_of_serials}
 use Rattle.node_hits.specs.QueryFacts.{QueryFactsValue, is_blank}

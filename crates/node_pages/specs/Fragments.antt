@@ -4,8 +4,8 @@ use Rattle.form_urlencoded.specs.Form as form
 use Rattle.feed_answer.specs.Pairs.{is_empty}
 use Rattle.feed_openurl.specs.Citations.{text_at}
 use Rattle.feed_citation.specs.declared.citation_part.CitationPart.TheVariants as part
-use Rattle.node_site.specs.LibraryLinks.{LibraryLinkValue, library_links}
-use Rattle.node_site.specs.Requests.{CitedTitleValue}
+use Rattle.node_links.specs.LibraryLinks.{LibraryLinkValue, library_links}
+use Rattle.node_links.specs.Requests.{CitedTitleValue}
 use Rattle.node_site.specs.Site as site_file
 use Rattle.node_site.specs.Texts.{text_of}
 use Rattle.node_site.specs.declared.occasion.LinkUse.TheVariants.{Shown}

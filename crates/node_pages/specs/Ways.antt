@@ -2,8 +2,8 @@
 use Rattle.std.specs.Prelude.{ℕ, List, [], ◌∷◌, ◌++◌}
 use Rattle.std.specs.List.{flat_map}
 use Rattle.feed_answer.specs.Pairs.{is_empty}
-use Rattle.node_site.specs.LibraryLinks.{LibraryLinkValue, library_links}
-use Rattle.node_site.specs.Requests.{CitedTitleValue}
+use Rattle.node_links.specs.LibraryLinks.{LibraryLinkValue, library_links}
+use Rattle.node_links.specs.Requests.{CitedTitleValue}
 use Rattle.node_site.specs.Site as site_file
 use Rattle.node_site.specs.declared.occasion.LinkUse.TheVariants.{Shown}
 use Rattle.node_site.specs.declared.occasion.SearchOutcome.{SearchOutcome}

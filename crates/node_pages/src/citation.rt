@@ -11,7 +11,8 @@ use crate::form::{isbn_in, issn_in};
 use feed_answer::Pair;
 use feed_citation::CitationPart;
 use node_hits::QueryFacts;
-use node_site::{SiteFile, doi_link};
+use node_links::doi_link;
+use node_site::SiteFile;
 use node_templates::{Slot, Template, put_page, text_if};
 use std::alloc::{AllocError, Global};
 

@@ -11,7 +11,8 @@ use feed_answer::Pair;
 use feed_bytes::trim_spaces;
 use feed_citation::CitationPart;
 use node_hits::{QueryFacts, is_blank};
-use node_site::{SiteFile, citation_query};
+use node_links::citation_query;
+use node_site::SiteFile;
 use node_templates::{Slot, Template, put_page, text_if};
 use std::alloc::AllocError;
 

@@ -17,9 +17,8 @@ use crate::ways::{cited_of, put_items};
 use feed_answer::Pair;
 use feed_citation::CitationPart;
 use node_hits::{QueryFacts, Tally};
-use node_site::{
-    CitedTitle, LibraryLink, LinkUse, SearchOutcome, SiteFile, Text, library_links, text_of,
-};
+use node_links::{CitedTitle, LibraryLink, library_links};
+use node_site::{LinkUse, SearchOutcome, SiteFile, Text, text_of};
 use node_templates::{Slot, Template, put_page, text_or_nothing};
 use std::alloc::{AllocError, Global};
 

@@ -7,7 +7,8 @@ use crate::form::{isbn_in, issn_in};
 use crate::lists::list_mark;
 use feed_answer::Pair;
 use node_hits::QueryFacts;
-use node_site::{CitedTitle, LibraryLink, LinkUse, SearchOutcome, SiteFile, library_links};
+use node_links::{CitedTitle, LibraryLink, library_links};
+use node_site::{LinkUse, SearchOutcome, SiteFile};
 use node_templates::{Slot, Template, put_page};
 use std::alloc::{AllocError, Global};
 

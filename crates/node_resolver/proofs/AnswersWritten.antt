@@ -6,9 +6,9 @@ use Rattle.feed_openurl.specs.declared.fault.OpenUrlFault.{OpenUrlFault}
 use Rattle.node_site.specs.Site as site_file
 use Rattle.node_hits.specs.Lookups.{asked_of}
 use Rattle.node_hits.specs.Searches.{SearchValue}
-use Rattle.node_site.specs.Articles.{with_title_id}
+use Rattle.node_links.specs.Articles.{with_title_id}
 use Rattle.node_hits.specs.Sfx.{sfx_reply}
-use Rattle.node_site.specs.Requests.{CitedTitleValue}
+use Rattle.node_links.specs.Requests.{CitedTitleValue}
 use Rattle.node_request.specs.SfxQueries.{sfx_options_in}
 use Rattle.node_request.specs.declared.sfx_query.SfxOptions.{SfxOptions}
 use Rattle.feed_releases.specs.Actives.{ActiveValue}

@@ -9,7 +9,7 @@ use Rattle.std.proofs.lemmas.List.Sums.{AllPass-from_list_all}
 use Rattle.httparse.specs.Grammar.{RequestHead, is_uri_byte}
 use Rattle.feed_http_heads.specs.Requests.{lacks_host, is_get, is_head}
 use Rattle.node_hits.specs.Searches.{SearchValue}
-use Rattle.node_site.specs.Articles.{with_title_id}
+use Rattle.node_links.specs.Articles.{with_title_id}
 use Rattle.feed_openurl.specs.declared.fault.OpenUrlFault.{OpenUrlFault}
 use Rattle.node_request.specs.Representations.{accepted_representation, representation_of}
 use Rattle.node_request.specs.Routes.{package_in, route_of, is_unsupported_method}
@@ -26,9 +26,9 @@ use Rattle.node_response.specs.declared.status.Status.{Status}
 use Rattle.node_response.specs.declared.status.Status.TheVariants as status
 use Rattle.node_hits.specs.Lookups.{asked_of}
 use Rattle.node_hits.specs.QueryFacts.{QueryFactsValue, ask_of, names_work}
-use Rattle.node_site.proofs.LinksMade.{requests_are_links}
-use Rattle.node_site.specs.LibraryLinks.{LibraryLinkValue, library_links}
-use Rattle.node_site.specs.RequestLaws.{is_safe}
+use Rattle.node_links.proofs.LinksMade.{requests_are_links}
+use Rattle.node_links.specs.LibraryLinks.{LibraryLinkValue, library_links}
+use Rattle.node_links.specs.RequestLaws.{is_safe}
 use Rattle.node_site.specs.Site as site_file
 use Rattle.node_site.specs.declared.occasion.LinkUse.TheVariants.{Followed}
 use Rattle.node_hits.proofs.SoleHits.{sole_is}

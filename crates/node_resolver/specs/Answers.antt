@@ -2,7 +2,7 @@
 use Rattle.std.specs.Prelude.{ℕ, ◌==◌, ◌&&◌, ◌||◌, Bool, if◌then◌else◌, List, [], ◌∷◌, ◌++◌, drop, length, map, take, is_some}
 use Rattle.std.specs.Str.{bytes_eq}
 use Rattle.feed_answer.specs.Today.{TodayValue}
-use Rattle.node_site.specs.Requests.{CitedTitleValue}
+use Rattle.node_links.specs.Requests.{CitedTitleValue}
 use Rattle.node_site.specs.Site as site_file
 use Rattle.feed_answer.specs.QueryValue.{QueryValue}
 use Rattle.feed_releases.specs.Actives.{ActiveValue}
@@ -16,7 +16,7 @@ use Rattle.node_hits.specs.declared.shares.Shares.{Shares}
 use Rattle.node_hits.specs.AnswerJson.{answer_json}
 use Rattle.node_hits.specs.QueryFacts.{ask_of}
 use Rattle.node_hits.specs.Searches.{SearchValue, in_scope}
-use Rattle.node_site.specs.Articles.{with_title_id}
+use Rattle.node_links.specs.Articles.{with_title_id}
 use Rattle.node_hits.specs.declared.search.Scope.TheVariants as scope
 use Rattle.node_hits.specs.HitsText.{release_text}
 use Rattle.node_hits.specs.Sfx.{sfx_reply}

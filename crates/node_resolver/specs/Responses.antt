@@ -6,7 +6,7 @@ use Rattle.feed_http_heads.specs.Fields.{values_named, has_any}
 use Rattle.feed_http_heads.specs.Targets.{origin_form}
 use Rattle.feed_http_heads.specs.Requests.{lacks_host, is_get, is_head}
 use Rattle.node_hits.specs.Searches.{SearchValue}
-use Rattle.node_site.specs.Articles.{with_title_id}
+use Rattle.node_links.specs.Articles.{with_title_id}
 use Rattle.feed_openurl.specs.declared.fault.OpenUrlFault.{OpenUrlFault}
 use Rattle.feed_answer.specs.Today.{TodayValue}
 use Rattle.feed_model.specs.History.{History}
@@ -27,7 +27,7 @@ use Rattle.node_response.specs.declared.status.Status.TheVariants as status
 use Rattle.node_hits.specs.Lookups.{asked_of}
 use Rattle.node_hits.specs.QueryFacts.{ask_of}
 use Rattle.node_hits.specs.Tallies.{TallyValue, followed_link, outcome_of, sole_link}
-use Rattle.node_site.specs.LibraryLinks.{LibraryLinkValue, library_links}
+use Rattle.node_links.specs.LibraryLinks.{LibraryLinkValue, library_links}
 use Rattle.node_site.specs.Site as site_file
 use Rattle.node_site.specs.declared.occasion.LinkUse.TheVariants.{Followed}
 use Rattle.node_site.specs.declared.occasion.SearchOutcome.{SearchOutcome}

@@ -15,9 +15,9 @@ use node_hits::{
     LibraryRelease, Lookup, ReceivedOpenUrl, Search, Shares, Tally, put_answer_json, put_release,
     put_sfx,
 };
+use node_links::CitedLinks;
 use node_pages::{Tallies, put_hits_fragment, put_hits_page};
 use node_request::{Representation, sfx_options_in};
-use node_site::CitedLinks;
 use std::alloc::{AllocError, Global};
 
 fn add_release<'a>(

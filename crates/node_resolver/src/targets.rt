@@ -5,7 +5,8 @@ ghost use Rattle.node_hits.specs.Tallying.{tally_from};
 ghost use Rattle.node_resolver.specs.Responses.{closed_target, first_address, library_target, target_in};
 
 use node_hits::{Lookup, Tally};
-use node_site::{LibraryLink, LinkUse, SearchOutcome, SiteFile, library_links};
+use node_links::{LibraryLink, library_links};
+use node_site::{LinkUse, SearchOutcome, SiteFile};
 use std::alloc::{AllocError, Global};
 use std::borrow::CowSlice;
 

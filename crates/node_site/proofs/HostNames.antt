@@ -28,7 +28,7 @@ use Rattle.url.proofs.HostRoundTrip.{parse_special_host-host_text}
 use Rattle.node_site.specs.Urls.{is_host, is_label, is_label_byte, parts_between}
 use Rattle.node_site.specs.Hosts.{begins_with_letter, ends_named, ipv6_in, is_ipv4, is_name, is_reachable, written_host}
 use Rattle.node_site.proofs.Addresses.{dotted_from_whole}
-use Rattle.node_site.proofs.Fillings.{and_left, and_right}
+use Rattle.node_site.proofs.HostTexts.{and_left, and_right}
 
 -- ---- the bytes of a name
 

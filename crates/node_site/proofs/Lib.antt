@@ -4,8 +4,7 @@ pub mod Addresses
 pub mod Within
 pub mod Valid
 pub mod HeldDays
-pub mod Fillings
-pub mod LinksMade
+pub mod HostTexts
 pub mod RowsMade
 pub mod Replaced
 pub mod HostNames
@@ -23,6 +22,3 @@ pub mod SitesKept
 pub mod HoldingsRead
 pub mod OnListed
 pub mod HoldingsSteps
-pub mod RowSizes
-pub mod LinksFit
-pub mod SizesMade

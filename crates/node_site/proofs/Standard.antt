@@ -26,7 +26,7 @@ use Rattle.url.proofs.InputLemmas.{IsNot, Passes, StopsAt, All_from_list_all, fi
 use Rattle.node_site.specs.Urls.{after_scheme, authority_of, begins_with, has_byte, is_visible, url_limit}
 use Rattle.node_site.specs.Hosts.{host_behind, host_in, host_len, host_of, host_part, is_port, is_reachable, ipv6_in, port_part, shown_host, shown_part, written_host}
 use Rattle.node_site.specs.HostLaws.{HostsAreStandard, LeadsTo, LinksAreStandard}
-use Rattle.node_site.proofs.Fillings.{and_left, and_right, authority_is, cuts, front, is_front_of, lacks_either, lacks_parts}
+use Rattle.node_site.proofs.HostTexts.{and_left, and_right, authority_is, cuts, front, is_front_of, lacks_either, lacks_parts}
 use Rattle.node_site.proofs.HostNames.{reachable_is_long, reachable_written}
 
 -- ---- nothing is trimmed or stripped

@@ -31,11 +31,9 @@ pub mod Laws
 pub mod HostLaws
 pub mod HeldLaws
 pub mod Packages
-pub mod Requests
-pub mod Articles
-pub mod RequestLaws
+pub mod ArticleTemplates
 pub mod Texts
-pub mod LibraryLinks
+pub mod Occasions
 pub mod Notes
 pub mod Indexes
 pub mod Sites

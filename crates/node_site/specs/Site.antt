@@ -4,8 +4,8 @@ use Rattle.std.specs.Option.{option_and_then}
 use Rattle.std.specs.Str.{bytes_eq}
 use Rattle.toml.specs.Data.{Items, no_items, item, Members, no_members, member, as_str, as_table}
 use Rattle.feed_dates.specs.declared.day_range.DayRange.{DayRange}
-use Rattle.node_site.specs.declared.occasion.Occasion.{Occasion}
-use Rattle.node_site.specs.declared.occasion.Occasion.TheVariants.{Always, Hits, NoHits, Embargoed}
+use Rattle.node_site.specs.declared.occasion.LinkOccasion.{LinkOccasion}
+use Rattle.node_site.specs.declared.occasion.LinkOccasion.TheVariants.{Always, Hits, NoHits, Embargoed}
 use Rattle.node_site.specs.Lookups.{text_at, switch_at, items_at, table_at}
 use Rattle.node_site.specs.Faults.{days_at}
 
@@ -45,7 +45,7 @@ pub record PlatformValue : Type 0 where
 pub record LinkRuleValue : Type 0 where
   pub label : List ℕ
   pub address : List ℕ
-  pub occasion : Occasion
+  pub occasion : LinkOccasion
 
 -- a text of the pages that the site replaces, by its name; a value that is not a text is none
 pub record ReplacedValue : Type 0 where
@@ -156,7 +156,7 @@ platform_of ms = record {
 }
 
 -- when a link is shown: always, where nothing is said
-abbrev pub occasion_of : List ℕ → Occasion
+abbrev pub occasion_of : List ℕ → LinkOccasion
 occasion_of text =
     if bytes_eq text (codes "hits") then Hits
     else if bytes_eq text (codes "no-hits") then NoHits

@@ -7,7 +7,7 @@ use feed_citation::CitationPart;
 
 /// A field of a template.
 #[derive(Clone, Copy)]
-pub(crate) enum Field {
+pub enum Field {
     Issn,
     /// The ISSN without its hyphen.
     IssnPlain,
@@ -24,7 +24,7 @@ pub(crate) enum Field {
 
 /// Which names a template may have in braces.
 #[derive(Clone, Copy)]
-pub(crate) enum Names {
+pub enum Names {
     /// Those of a link of the library: all fields but that of a row.
     OfLink,
     /// Those of the address of an article: all fields but the whole citation.
@@ -53,7 +53,7 @@ fn part_field(name: &[u8]) -> Option<Field>
 
 impl Field {
     /// Returns the field of this name.
-    pub(crate) fn named(name: &[u8]) -> Option<Field>
+    pub fn named(name: &[u8]) -> Option<Field>
         ensures { result ≡ field_named name.now }
     {
         if is(name, "issn") {

@@ -10,8 +10,8 @@ use crate::urls::{after_scheme, authority_of, is_all_visible, is_host};
 use std::alloc::{AllocError, Global};
 use std::net::{Ipv4Addr, Ipv6Addr};
 
-// The most bytes of a URL: what RFC 9110 (section 4.1) asks every recipient to support.
-pub(crate) const URL_LIMIT: usize = 8_000;
+/// The most bytes of a URL: what RFC 9110 (section 4.1) asks every recipient to support.
+pub const URL_LIMIT: usize = 8_000;
 
 // Returns how many bytes are before the first `:` that is not between brackets.
 fn host_len(authority: &[u8]) -> usize

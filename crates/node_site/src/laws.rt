@@ -1,12 +1,10 @@
-//! Laws of the links of a page, of links to forms and articles, and of the holdings of a library: each is the contract
+//! Laws of the links of a page, of the holdings of a library, of the sites of hosts, and of texts: each is the contract
 //! of a function with an empty body.
 ghost use Rattle.node_site.specs.Laws.{ExceptedIsDirect, FreeIsDirect, NoProxyIsDirect, OthersGoThrough};
 ghost use Rattle.node_site.specs.Laws.{LinkFits, SubdomainsAreWithin};
 ghost use Rattle.node_site.specs.HostLaws.{HostsAreStandard, LinksAreStandard};
 ghost use Rattle.node_site.specs.HeldLaws.{AllIsHeld, HeldDaysAreShown, OffIsNotHeld, OffPackageIsNotHeld};
 ghost use Rattle.node_site.specs.HeldLaws.{UnlistedIsNotHeld};
-ghost use Rattle.node_site.specs.RequestLaws.{ArticlesAreWhole, PartsAddNoMarks, PartsAreNoSteps, RequestsAreLinks};
-ghost use Rattle.node_site.specs.RequestLaws.{RequestsKeepHost};
 ghost use Rattle.node_site.specs.SitesLaws.{CaseDoesNotCount, OtherSiteDecides, OwnSiteDecides};
 ghost use Rattle.node_site.specs.TextLaws.{TextsHaveNames};
 
@@ -76,33 +74,6 @@ pub fn all_is_held()
 /// With `held = false` as the default, a library has nothing of a title that no table mentions, nor of its package.
 pub fn unlisted_is_not_held()
     ensures { UnlistedIsNotHeld }
-{}
-
-/// A citation adds no byte but letters, digits and `%` to a link to a form or to an article: it ends no value and
-/// begins no parameter.
-pub fn parts_add_no_marks()
-    ensures { PartsAddNoMarks }
-{}
-
-/// Such a link has the host of its template.
-pub fn requests_keep_host()
-    ensures { RequestsKeepHost }
-{}
-
-/// No part is a step of a path, also where it is escaped.
-pub fn parts_are_no_steps()
-    ensures { PartsAreNoSteps }
-{}
-
-/// Each link of a library is safe in a page.
-pub fn requests_are_links()
-    ensures { RequestsAreLinks }
-{}
-
-/// A row has a link to an article exactly if the citation has each name of the template of the row's package or
-/// platform, and the link that this gives is safe. It goes through a proxy as the link to the row does.
-pub fn articles_are_whole()
-    ensures { ArticlesAreWhole }
 {}
 
 /// Each text can be replaced by its name.

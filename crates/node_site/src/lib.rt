@@ -3,13 +3,10 @@
 //! which a site may replace.
 #![tactic(auto)]
 
-mod article_sizes;
-mod articles;
+mod article_templates;
 mod bytes;
 mod cells;
 mod checks;
-mod cited;
-mod cited_links;
 mod column;
 mod cuts;
 mod domains;
@@ -17,7 +14,6 @@ mod english;
 mod entry;
 mod fault;
 mod field;
-mod filling;
 mod french;
 mod german;
 mod held;
@@ -30,7 +26,6 @@ mod holdings_rows;
 mod hosts;
 mod kind;
 mod laws;
-mod library_link;
 mod links;
 mod lookup;
 mod merge;
@@ -47,7 +42,6 @@ mod prefixes;
 mod section;
 mod site_fault;
 mod site_file;
-mod site_links;
 mod sites;
 mod template;
 mod text;
@@ -59,32 +53,30 @@ mod title_places;
 mod urls;
 mod values;
 
-pub use articles::{article_link, doi_link, is_direct};
-pub use cited::{CitedTitle, citation_query};
-pub use cited_links::CitedLinks;
+pub use article_templates::{article_template, is_direct};
 pub use column::Column;
 pub use fault::ValueFault;
+pub use field::{Field, Names};
 pub use held::{library_has, may_hold};
 pub use holdings_fault::{BadLine, HoldingsFault};
 pub use holdings_file::HoldingsFile;
 pub use holdings_reading::{HoldingsReading, ReadingStep};
 pub use holdings_rows::HOLDINGS_LIMIT;
-pub use hosts::{host_of, is_link, shown_host};
+pub use hosts::{URL_LIMIT, host_of, is_link, shown_host};
 pub use laws::{
-    all_is_held, articles_are_whole, case_does_not_count, excepted_is_direct, free_is_direct,
-    held_days_are_shown, hosts_are_standard, link_fits, links_are_standard, no_proxy_is_direct,
-    off_is_not_held, off_package_is_not_held, other_site_decides, others_go_through,
-    own_site_decides, parts_add_no_marks, parts_are_no_steps, requests_are_links,
-    requests_keep_host, subdomains_are_within, texts_have_names, unlisted_is_not_held,
+    all_is_held, case_does_not_count, excepted_is_direct, free_is_direct, held_days_are_shown,
+    hosts_are_standard, link_fits, links_are_standard, no_proxy_is_direct, off_is_not_held,
+    off_package_is_not_held, other_site_decides, others_go_through, own_site_decides,
+    subdomains_are_within, texts_have_names, unlisted_is_not_held,
 };
-pub use library_link::{LibraryLink, library_links};
-pub use links::{left_beside, may_be_link, through};
+pub use links::{encoded, left_beside, may_be_link, through};
+pub use lookup::text_or_empty;
 pub use notes::note_on;
-pub use occasion::{LinkUse, SearchOutcome};
+pub use occasion::{LinkOccasion, LinkUse, SearchOutcome};
 pub use open_prefixes::{OpenPrefix, prefixes_left_open};
 pub use packages::{name_for_readers, package_place, shown_package};
 pub use position::Position;
-pub use prefixes::{Prefix, again};
+pub use prefixes::{Prefix, again, encodes, prefix_at};
 pub use site_fault::{KeyFault, SiteFault};
 pub use site_file::{SITE_LIMIT, SiteFile};
 pub use sites::{SITES_LIMIT, Sites, SitesFault};

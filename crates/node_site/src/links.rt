@@ -15,7 +15,7 @@ use std::alloc::{AllocError, Global};
 use std::borrow::CowSlice;
 
 /// Returns the target with `%` and two hexadecimal digits for each byte that is not a letter or a digit.
-pub(crate) fn encoded(alloc: Global, target: &[u8]) -> Result<String, AllocError>
+pub fn encoded(alloc: Global, target: &[u8]) -> Result<String, AllocError>
     ensures { IfOk result (λ text. string_bytes text ≡ percent_encode NON_ALPHANUMERIC target.now) }
 {
     let mut text = String::new(alloc);

@@ -33,7 +33,7 @@ pub(crate) fn text_at<'a>(key: &str, table: &'a Table) -> Option<&'a str>
 }
 
 /// Returns the bytes of the text at a key. A missing text is the empty one.
-pub(crate) fn text_or_empty<'a>(key: &str, table: &'a Table) -> &'a [u8]
+pub fn text_or_empty<'a>(key: &str, table: &'a Table) -> &'a [u8]
     ensures { result.now ≡ or_empty (text_at key.now (table_view table.now)) }
 {
     text_at(key, table).unwrap_or("").as_bytes()

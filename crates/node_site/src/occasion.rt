@@ -1,12 +1,12 @@
 //! When a link of the library is shown, and what a search may have found.
 ghost use Rattle.std.specs.Prelude.{◌≡◌};
 ghost use Rattle.node_site.specs.Kinds as kinds;
-ghost use Rattle.node_site.specs.LibraryLinks.{is_meant, is_used};
+ghost use Rattle.node_site.specs.Occasions.{is_meant, is_used};
 ghost use Rattle.node_site.specs.Site.{occasion_of};
 
 /// When a link of the library is shown.
 #[derive(Clone, Copy)]
-pub(crate) enum Occasion {
+pub enum LinkOccasion {
     Always,
     /// If there is a hit that is open to readers.
     Hits,
@@ -48,19 +48,19 @@ pub(crate) fn is_occasion(text: &[u8]) -> bool
         || text == b"embargoed".as_slice()
 }
 
-impl Occasion {
+impl LinkOccasion {
     /// Returns the occasion that a text names. Any other text is that of a link that is always shown.
-    pub(crate) fn of(text: &[u8]) -> Occasion
+    pub fn of(text: &[u8]) -> LinkOccasion
         ensures { result ≡ occasion_of text.now }
     {
         if text == b"hits".as_slice() {
-            Occasion::Hits
+            LinkOccasion::Hits
         } else if text == b"no-hits".as_slice() {
-            Occasion::NoHits
+            LinkOccasion::NoHits
         } else if text == b"embargoed".as_slice() {
-            Occasion::Embargoed
+            LinkOccasion::Embargoed
         } else {
-            Occasion::Always
+            LinkOccasion::Always
         }
     }
 
@@ -68,22 +68,22 @@ impl Occasion {
         ensures { result ≡ is_meant self outcome }
     {
         match (self, outcome) {
-            (Occasion::Hits, SearchOutcome::Hits) => true,
-            (Occasion::NoHits, SearchOutcome::NoHits) => true,
-            (Occasion::Embargoed, SearchOutcome::Embargoed) => true,
+            (LinkOccasion::Hits, SearchOutcome::Hits) => true,
+            (LinkOccasion::NoHits, SearchOutcome::NoHits) => true,
+            (LinkOccasion::Embargoed, SearchOutcome::Embargoed) => true,
             _ => false,
         }
     }
 
     /// Returns whether a link is used if a search had this outcome.
-    pub(crate) fn is_used(self, usage: LinkUse, outcome: SearchOutcome) -> bool
+    pub fn is_used(self, usage: LinkUse, outcome: SearchOutcome) -> bool
         ensures { result ≡ is_used usage self outcome }
     {
         match (usage, self) {
-            (LinkUse::Shown, Occasion::Always) => true,
+            (LinkUse::Shown, LinkOccasion::Always) => true,
             (LinkUse::Shown, _) => self.is_meant(outcome),
-            (LinkUse::Followed, Occasion::NoHits) => self.is_meant(outcome),
-            (LinkUse::Followed, Occasion::Embargoed) => self.is_meant(outcome),
+            (LinkUse::Followed, LinkOccasion::NoHits) => self.is_meant(outcome),
+            (LinkUse::Followed, LinkOccasion::Embargoed) => self.is_meant(outcome),
             (LinkUse::Followed, _) => false,
         }
     }

@@ -91,7 +91,7 @@ fn site_prefix(site: &SiteFile) -> Option<Prefix<'_>>
 
 /// Returns the prefix of the links to a host: that of its platform, or else that of the site, unless the host needs no
 /// proxy.
-pub(crate) fn prefix_at<'a>(site: &'a SiteFile, host: &[u8]) -> Option<Prefix<'a>>
+pub fn prefix_at<'a>(site: &'a SiteFile, host: &[u8]) -> Option<Prefix<'a>>
     ensures { result ≡ prefix_at site.now host.now }
 {
     if site.is_excepted(host) {
@@ -104,7 +104,7 @@ pub(crate) fn prefix_at<'a>(site: &'a SiteFile, host: &[u8]) -> Option<Prefix<'a
 }
 
 /// Returns whether the address is percent-encoded behind a prefix, if there is one.
-pub(crate) fn encodes(prefix: &Option<Prefix<'_>>) -> bool
+pub fn encodes(prefix: &Option<Prefix<'_>>) -> bool
     ensures { result ≡ option_map_or (λ p. p.is_encoded) prefix.now false }
 {
     match prefix {

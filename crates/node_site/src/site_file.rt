@@ -219,8 +219,8 @@ impl SiteFile {
     ghost use Rattle.node_site.specs.Site.{with_listing};
     ghost use Rattle.node_site.specs.Valid.{IsSite};
 
-    // Each text of a site file is of its kind.
-    pub(crate) fn texts_are_valid(&self)
+    /// States that each text of a site file is of its kind.
+    pub fn texts_are_valid(&self)
         ensures { IsSite self.now }
     {
         let _document = &self.document;
@@ -341,7 +341,7 @@ impl SiteFile {
     }
 
     /// Returns the tables about the links of the library.
-    pub(crate) fn link_tables(&self) -> Option<&Array>
+    pub fn link_tables(&self) -> Option<&Array>
         ensures { rows_in link_of (option_map (λ v. array_view v.now) result) ≡ self.now.links }
     {
         items_at("link", &self.document)

@@ -2,8 +2,8 @@ use Rattle.std.proofs.Common.{◌≡◌, ℕ, Bool, true, List, [], ◌∷◌, �
 use Rattle.std.specs.List.{flat_map}
 use Rattle.std.proofs.lemmas.Bool.{and_from, and_parts}
 use Rattle.feed_answer.specs.Pairs.{is_empty}
-use Rattle.node_site.specs.LibraryLinks.{LibraryLinkValue, library_links}
-use Rattle.node_site.specs.Requests.{CitedTitleValue}
+use Rattle.node_links.specs.LibraryLinks.{LibraryLinkValue, library_links}
+use Rattle.node_links.specs.Requests.{CitedTitleValue}
 use Rattle.node_site.specs.Site as site_file
 use Rattle.node_site.specs.declared.occasion.LinkUse.TheVariants.{Shown}
 use Rattle.node_site.specs.declared.occasion.SearchOutcome.{SearchOutcome}

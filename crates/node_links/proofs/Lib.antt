@@ -1,0 +1,5 @@
+pub mod Fillings
+pub mod LinksMade
+pub mod RowSizes
+pub mod LinksFit
+pub mod SizesMade

@@ -1,0 +1,4 @@
+pub mod Requests
+pub mod Articles
+pub mod LibraryLinks
+pub mod RequestLaws

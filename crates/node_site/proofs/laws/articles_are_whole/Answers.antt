@@ -1,5 +1,0 @@
-use Rattle.node_site.proofs.LinksMade.{articles_are_whole}
-use Rattle.node_site.proofs.laws.articles_are_whole.Goals as goal
-
-pub returns : goal.returns
-returns c = articles_are_whole
