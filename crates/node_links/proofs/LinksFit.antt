@@ -1,5 +1,6 @@
 -- A link to an article, through a proxy or not, is safe if it is not too long.
-use Rattle.std.proofs.Common.{◌≡◌, ◌==◌, ◌&&◌, ◌∙◌, ◌+◌, ℕ, zero, suc, Bool, true, false, cond, nat_le, nat_lt, not, is_some, List, [], ◌∷◌, ◌++◌, length, drop, All, Option, Some, None, ap, refl, sym, subst, arith}
+use Rattle.std.proofs.Common.{◌≡◌, ◌==◌, ◌&&◌, ◌∙◌, ◌+◌, ℕ, zero, suc, Bool, true, false, cond, nat_le, nat_lt, not}
+use Rattle.std.proofs.Common.{is_some, List, [], ◌∷◌, ◌++◌, length, drop, All, Option, Some, None, ap, refl, sym, subst, arith}
 use Rattle.std.specs.Prelude.{if◌then◌else◌, option_map}
 use Rattle.std.specs.List.{find, list_all, position_or_len}
 use Rattle.std.specs.Option.{option_and_then, option_or}

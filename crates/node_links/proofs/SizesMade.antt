@@ -1,5 +1,6 @@
 -- The length of a link to an article, from what all links by its template have in common.
-use Rattle.std.proofs.Common.{◌≡◌, ◌≢◌, ◌≤◌, ◌<◌, ◌∙◌, ◌+◌, ◌*◌, ◌-◌, ◌&&◌, ◌||◌, ◌==◌, ℕ, Bool, true, false, nat_le, not, ◌/◌, div-lt_iff_lt-mul, mul_comm, List, [], length, Option, Some, None, ap, refl, sym, subst, arith}
+use Rattle.std.proofs.Common.{◌≡◌, ◌≢◌, ◌≤◌, ◌<◌, ◌∙◌, ◌+◌, ◌*◌, ◌-◌, ◌&&◌, ◌||◌, ◌==◌, ℕ, Bool, true, false}
+use Rattle.std.proofs.Common.{nat_le, not, ◌/◌, div-lt_iff_lt-mul, mul_comm, List, [], length, Option, Some, None, ap, refl, sym, subst, arith}
 use Rattle.std.specs.Prelude.{if◌then◌else◌, option_map}
 use Rattle.std.specs.Option.{option_and_then}
 use Rattle.std.proofs.lemmas.Bool.Decides.{nat_tests}
