@@ -14,7 +14,7 @@ IsLocal addr = (canonical : IpAddr) × IsCanonical (socket_ip addr) canonical ×
 abbrev pub IsRemote : SocketAddr → Type 0
 IsRemote addr = (canonical : IpAddr) × IsCanonical (socket_ip addr) canonical × ¬ (MatchIp canonical IsLoopbackV4 IsLoopbackV6)
 
--- the peer with this address is a proxy, which states the address of its client: the server is told that a peer on the same
+-- the peer with this address is a proxy, which states the address of its client: an option says that a peer on the same
 -- machine is one
 abbrev pub IsProxy : Bool → SocketAddr → Type 0
 IsProxy is_forwarded addr = (is_forwarded ≡ true) × IsLocal addr
