@@ -5,6 +5,9 @@ keep_alive.py ADDR idle             prints after how many seconds the node close
 keep_alive.py ADDR pipelined N      sends N requests at once, and prints how many replies have which status
 keep_alive.py ADDR open TARGET N    N clients get the last reply to TARGET, send one byte more and stay open; prints the
                                     status that another client gets then
+keep_alive.py ADDR full N           N clients get a reply and stay open, one half later than the other, and then half as
+                                    many connect at once; prints the statuses that these get, and how many of each half
+                                    the node closed
 keep_alive.py ADDR eight            sends eight requests at once, 50 times; prints whether the median of the times until
                                     the eighth reply is below 20 ms
 keep_alive.py ADDR library          Python's http.client sends three requests; prints their statuses, and over how many
@@ -70,6 +73,33 @@ def pipelined(address, count):
         print(*(f"{code.decode()} {found.count(code)}" for code in sorted(set(found))))
 
 
+def is_closed(peer):
+    peer.setblocking(False)
+    try:
+        return peer.recv(1) == b""
+    except BlockingIOError:
+        return False
+    except ConnectionResetError:
+        return True
+
+
+def replied(address, count):
+    """So many clients that connect, ask at once, and stay open, and the statuses of their replies."""
+    peers = [dialled(address) for _ in range(count)]
+    for peer in peers:
+        peer.sendall(request("/status"))
+    return peers, {status(read_one(peer)) for peer in peers}
+
+
+def full(address, count):
+    halves = []
+    for _ in range(2):
+        halves.append(replied(address, int(count) // 2)[0])
+        time.sleep(0.6)
+    _, found = replied(address, int(count) // 2)
+    print(*sorted(found), *(sum(map(is_closed, half)) for half in halves))
+
+
 def eight(address):
     times = []
     with dialled(address) as peer:
@@ -128,8 +158,8 @@ def stream(address):
 
 def main():
     address, kind, *words = sys.argv[1:]
-    kinds = [("idle", idle), ("pipelined", pipelined), ("eight", eight), ("library", library), ("open", stay_open),
-             ("stream", stream)]
+    kinds = [("idle", idle), ("pipelined", pipelined), ("eight", eight), ("library", library), ("full", full),
+             ("open", stay_open), ("stream", stream)]
     dict(kinds)[kind](address, *words)
 
 
