@@ -6,6 +6,7 @@ ghost use Rattle.node_turns.specs.Turns.{behind_ring, fresh_ring, spare_keys, Is
 ghost use Rattle.feed_model.specs.Content.{IsContent};
 ghost use Rattle.feed_releases.specs.Feeds.{most_of, recorded};
 ghost use Rattle.node_table.specs.Peers.{held_limit};
+ghost use Rattle.node_table.specs.Places.{AreEvictions};
 ghost use Rattle.node_table.specs.Tables.{peer_at, size_of, bytes_held, HasClosed, IsExpired, IsFirstToClose};
 ghost use Rattle.node_table.specs.Tables.{IsReadyAfter, IsRemoved};
 ghost use Rattle.node_table.specs.declared.peer.Peer.{Peer};
@@ -101,6 +102,19 @@ impl<'a, T: Stream, K: Keep, S: FeedRespond + Drop> NodeMachine<'a, T, K, S> {
             × IsRemoved L.records key CloseCause.Evicted now (table_of self.old) (table_of self.new) log.old log.new }
     {
         self.table.make_room(now, log);
+    }
+
+    /// Closes connections until this many can be added, as `Table::make_places` does. None is closed if the memory for
+    /// their order cannot be allocated.
+    pub fn make_places<L: Log>(&mut self, count: usize, now: u64, log: &mut L)
+        ensures history { KeepsHistory S.wanted S.responses S.sites self.old self.new }
+        ensures later { IsLater S.wanted S.responses S.sites self.old self.new }
+        ensures evicted { (number : ℕ)
+            × AreEvictions L.records number now (table_of self.old) (table_of self.new) log.old log.new }
+        ensures few { (size_of (table_of self.new) ≡ size_of (table_of self.old))
+            ⊎ ((table_of self.old).clients ≤ size_of (table_of self.new) + count) }
+    {
+        let _ = self.table.make_places(self.alloc, count, now, log);
     }
 
     /// Closes the connection whose response takes the most memory, if the responses take more than 33,554,432 bytes.

@@ -37,9 +37,6 @@ const EVENTS: usize = 1_024;
 // The microseconds after which a turn serves no more than one of each queue.
 const TURN_MICROS: u64 = 2_000;
 
-// The most connections that a turn accepts before it serves those that are ready, and after.
-pub(crate) const ACCEPTS: usize = 256;
-
 // The most connections that a turn ends before it serves those that are ready, since their clients have closed them.
 const ENDS: usize = 256;
 

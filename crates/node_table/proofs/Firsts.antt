@@ -13,7 +13,7 @@ use Rattle.node_table.proofs.Order.{not_first, not_first_itself, waits_too}
 use Rattle.node_table.proofs.Slots.{sum_of_same, sum_of_slot}
 
 -- a fact for each key below a limit, and for the limit
-with_limit : (limit other : ℕ) → other < limit + 1 → (other ≡ limit) ⊎ (other < limit)
+pub with_limit : (limit other : ℕ) → other < limit + 1 → (other ≡ limit) ⊎ (other < limit)
 with_limit limit other below = elim (cases_eq other limit) [ inl same ↦ inl same | inr differs ↦ inr (omega (arith, differs, below)) ]
 
 module _ {T : Type 0} where
@@ -23,7 +23,7 @@ module _ {T : Type 0} where
   never_both : (peer : Peer T) (slot : Option (Peer T)) → slot ≡ None → slot ≡ Some peer → ⊥
   never_both peer slot none some = cc
 
-  past : (table : Table T) (limit other : ℕ) → length table.peers.slots ≤ limit → limit ≤ other → peer_at table other ≡ None
+  pub past : (table : Table T) (limit other : ℕ) → length table.peers.slots ≤ limit → limit ≤ other → peer_at table other ≡ None
   past table limit other within over = get_or_past table.peers.slots other None (omega (arith, within, over))
 
   -- a table with a connection is not empty

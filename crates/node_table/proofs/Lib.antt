@@ -8,3 +8,4 @@ pub mod Records
 pub mod Settled
 pub mod Expired
 pub mod Written
+pub mod Places

@@ -1,5 +1,5 @@
 -- The order in which connections are closed.
-use Rattle.std.proofs.Common.{◌≡◌, ◌<◌, ◌≤◌, ◌⊎◌, ℕ, Bool, true, false, ◌==◌, ◌&&◌, ◌||◌, ◌∙◌, arith, refl, inl, inr}
+use Rattle.std.proofs.Common.{◌≡◌, ◌+◌, ◌*◌, ◌<◌, ◌≤◌, ◌⊎◌, ℕ, Bool, true, false, ◌==◌, ◌&&◌, ◌||◌, ◌∙◌, arith, refl, inl, inr}
 use Rattle.std.specs.Prelude.{nat_lt}
 use Rattle.node_table.specs.Tables.{goes_first}
 use Rattle.std.proofs.lemmas.Bool.{or_cases, and_parts, or_left, or_right, or_from, and_from, and_right, ltb-true, lt-ltb, le-ltb, eqb-true, eq-eqb, both_ways, cases_lt, false_from_ne_true}
@@ -62,3 +62,17 @@ ranks_no_higher c t d u not = elim (cases_lt d c) [
   | inl lower ↦ absurd (both_ways (comes_before c t d u) not (is_before c t d u (inl lower)))
   | inr most ↦ most
 ]
+
+-- one with no greater priority does not come before another, whose time is below the end of times
+pub not_before_greater : (c t d u : ℕ) → c * 18446744073709551616 + t ≤ d * 18446744073709551616 + u → u < 18446744073709551616 → comes_before c t d u ≡ false
+not_before_greater c t d u within below = false_from_ne_true (comes_before c t d u) (λ is. elim (before_is c t d u is) [
+  | inl lower ↦ omega (arith, lower, within, below)
+  | inr both ↦ omega (arith, both.0, both.1, within)
+])
+
+-- where the second does not wait, the first is not before it if it waits or is not by its state
+pub not_first_of : (a b by_state : Bool) → b ≡ false → (a ≡ false → by_state ≡ false) → goes_first a b by_state ≡ false
+not_first_of false false by_state is not = not refl
+not_first_of true false by_state is not = refl
+not_first_of false true by_state is not = absurd (cc)
+not_first_of true true by_state is not = absurd (cc)

@@ -1,4 +1,5 @@
 pub mod Connections
 pub mod Logs
 pub mod Peers
+pub mod Places
 pub mod Tables

@@ -2,6 +2,8 @@
 ghost use Rattle.std.specs.Prelude.{◌≡◌, ◌≢◌, ◌≤◌, ◌<◌, ℕ, List, [], true, false, IfSome, is_some};
 ghost use Rattle.node_connection.specs.Events.{Event};
 ghost use Rattle.node_connection.specs.States.{allocated_bytes, HasState, is_response_sent_in, request_of, wants_in};
+ghost use Rattle.node_connection.specs.States.{closing_rank};
+ghost use Rattle.node_connection.specs.declared.phase.Shortage.TheVariants.{Places};
 ghost use Rattle.node_turns.specs.Addresses.{slot_limit};
 ghost use Rattle.node_table.specs.Connections.{HasServed, IsConnection};
 ghost use Rattle.node_table.specs.Logs.{HasRecorded, Responded};
@@ -15,6 +17,9 @@ use node_request::ReceivedRequest;
 use node_turns::slot_of;
 use std::alloc::Global;
 use std::net::SocketAddr;
+
+/// A time that no connection reaches, in milliseconds.
+const ELAPSED_END: u128 = 18_446_744_073_709_551_616;
 
 /// The work that remains for a connection after a turn.
 #[derive(Clone, Copy, Debug, PartialEq, Eq)]
@@ -68,6 +73,7 @@ impl<T: Stream> Peer<T> {
     ghost use Rattle.node_table.specs.Peers.{begins_stream, cause_of, is_streamed, micros_of};
     ghost use Rattle.node_table.specs.Peers.{HasElapsed, HasResumed, IsClientSlot};
     ghost use Rattle.node_table.specs.Peers.{is_behind, HasReceived, IsFollowed, IsLate};
+    ghost use Rattle.node_table.specs.Places.{closing_priority, elapsed_end};
 
     /// Returns a connection that was accepted now.
     pub(crate) fn new(alloc: Global, accepted: NewConnection<T>) -> Peer<T>
@@ -176,6 +182,30 @@ impl<T: Stream> Peer<T> {
         ensures opened { result ≡ false → wants_in self.now.connection.phase ≢ Wants.Close }
     {
         self.connection.wants() == Wants::Close
+    }
+
+    // Returns the rank of the connection among those that are closed for a place.
+    fn closing_rank(&self) -> u128
+        ensures { result ≡ closing_rank Places self.now.connection }
+    {
+        match self.connection.wants() {
+            Wants::Room => 1,
+            Wants::Parse => 0,
+            Wants::Bytes => if self.connection.is_idle() || self.connection.is_lingering() {
+                2
+            } else {
+                0
+            },
+            _ => 2,
+        }
+    }
+
+    /// Returns what the connection has in the order of closing: the one with the most is closed first for a place.
+    pub(crate) fn closing_priority(&self) -> u128
+        ensures priority { result ≡ closing_priority self.now.connection }
+        ensures elapsed { self.now.connection.elapsed < elapsed_end }
+    {
+        self.closing_rank() * ELAPSED_END + self.connection.elapsed() as u128
     }
 
     /// Returns why the connection is closed, if this is why unless its last response was sent whole.

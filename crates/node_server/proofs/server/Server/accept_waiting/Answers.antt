@@ -5,7 +5,7 @@ pub loop-init : goal.loop-init
 loop-init g c = later_same c.args.node.now
 
 pub loop-preserved : goal.loop-preserved
-loop-preserved g c = later_after c.args.node.now c.loop.node c.accept_next.new.node c.loop.invariant c.accept_next.ensures
+loop-preserved g c = later_after c.args.node.now c.loop.node c.accept_batch.new.node c.loop.invariant c.accept_batch.ensures
 
-pub returns-then-not-accept_next : goal.returns-then-not-accept_next
-returns-then-not-accept_next g c = later_after c.args.node.now c.loop.node c.accept_next.new.node c.loop.invariant c.accept_next.ensures
+pub returns-then-not-accept_batch : goal.returns-then-not-accept_batch
+returns-then-not-accept_batch g c = later_after c.args.node.now c.loop.node c.accept_batch.new.node c.loop.invariant c.accept_batch.ensures
