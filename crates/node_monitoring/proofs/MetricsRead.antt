@@ -19,9 +19,9 @@ module _ (m : MetricsValue) (g : Gauges) where
   value_good source.Held k = decimal_number _
   value_good source.Requests k = decimal_number _
   value_good source.Sites k = decimal_number _
-  value_good source.Buckets k = decimal_number _
-  value_good source.Times k = decimal_number _
-  value_good source.TimesSum k = seconds_number _
+  value_good (source.Buckets timing) k = decimal_number _
+  value_good (source.Times timing) k = decimal_number _
+  value_good (source.TimesSum timing) k = seconds_number _
   value_good source.Releases k = decimal_number _
   value_good source.SinceSwitch k = decimal_number _
 

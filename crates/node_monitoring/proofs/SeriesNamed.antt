@@ -6,6 +6,7 @@ use Rattle.feed_metrics.specs.Exposition.{lines_of}
 use Rattle.feed_metrics.specs.Rows.{FamilyRow, families_in}
 use Rattle.feed_metrics.specs.Series.{values_of}
 use Rattle.feed_metrics.proofs.SeriesFound.{found, is_named}
+use Rattle.node_monitoring.specs.declared.histogram.Timing.{Timing}
 use Rattle.node_monitoring.specs.declared.metrics_text.Gauges.{Gauges}
 use Rattle.node_monitoring.specs.declared.metrics_table.LabelSource.{LabelSource}
 use Rattle.node_monitoring.specs.declared.metrics_table.SampleSource.{SampleSource}
@@ -13,7 +14,8 @@ use Rattle.node_monitoring.specs.declared.request_kind.StatusClass.{StatusClass}
 use Rattle.node_monitoring.specs.declared.request_kind.Target.{Target}
 use Rattle.node_monitoring.specs.Families.{node_values, table}
 use Rattle.node_monitoring.specs.MetricsTexts.{MetricsValue}
-use Rattle.node_monitoring.specs.Series.{CountersAreNamed, FamiliesAreApart, GaugesAreNamed, RequestsAreNamed, Series, class_words, counter_series, target_words}
+use Rattle.node_monitoring.specs.Series.{CountersAreNamed, FamiliesAreApart, GaugesAreNamed, RequestsAreNamed, Series, TimesAreNamed}
+use Rattle.node_monitoring.specs.Series.{class_words, counter_series, target_words, time_name, timing_words}
 
 module _ (m : MetricsValue) (g : Gauges) where
   abbrev values_in : List (FamilyRow LabelSource SampleSource) → List ℕ → List (List ℕ × List ℕ) → List (List ℕ)
@@ -44,6 +46,15 @@ module _ (m : MetricsValue) (g : Gauges) where
   targets_found [] = tt
   targets_found (named ∷ all) = (classes_found named class_words, targets_found all)
 
+  abbrev AreTimesFound : List ℕ × Timing → Type 0
+  AreTimesFound named =
+      IsFound (time_name named.0 (codes "_count")) [] × IsFound (time_name named.0 (codes "_sum")) []
+
+  times_found : (all : List (List ℕ × Timing)) → AllByRecursion AreTimesFound all
+  times_found [] = tt
+  times_found (named ∷ all) =
+      ((is_found (time_name named.0 (codes "_count")) [], is_found (time_name named.0 (codes "_sum")) []), times_found all)
+
 pub counters_named : CountersAreNamed
 counters_named m g = all_found m g counter_series
 
@@ -52,6 +63,9 @@ requests_named m g = targets_found m g target_words
 
 pub gauges_named : GaugesAreNamed
 gauges_named m g = (is_found m g (codes "kbfeed_connections_open") [], is_found m g (codes "kbfeed_held_bytes") [])
+
+pub times_named : TimesAreNamed
+times_named m g = times_found m g timing_words
 
 pub apart : FamiliesAreApart
 apart = refl

@@ -53,7 +53,7 @@ pub record HasCountedRequest (e : LoggedExchange) (old new : MetricsValue) : Typ
   pub named : Target
   pub is : IsTargetIn e.received.bytes.now named
   pub requests : (history : List Added) → HasCounted old.requests history → HasCounted new.requests (request_added named e ∷ history)
-  pub times : (observed : List ℕ) → HasObserved old.times observed → HasObserved new.times (e.micros ∷ observed)
+  pub times : (observed : List ℕ) → HasObserved old.times.requests observed → HasObserved new.times.requests (e.micros ∷ observed)
   pub names : new.site_names ≡ old.site_names
   pub sites : (history : List Added) → HasCounted old.sites history → HasCounted new.sites (site_added old.site_names e.site ++ history)
 

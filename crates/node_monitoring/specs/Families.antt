@@ -15,6 +15,7 @@ use Rattle.node_monitoring.specs.declared.metrics_text.Gauges.{Gauges}
 use Rattle.node_monitoring.specs.declared.metrics_text.ReleaseTime.{ReleaseTime}
 use Rattle.node_monitoring.specs.declared.request_kind.TheConstants.{TARGETS, CLASSES, CLASS_COUNT, REQUEST_COUNT}
 use Rattle.node_monitoring.specs.Counts.{place_of}
+use Rattle.node_monitoring.specs.Histograms.{times_of}
 use Rattle.node_monitoring.specs.MetricsTexts.{MetricsValue}
 
 -- the table
@@ -57,7 +58,7 @@ module _ (m : MetricsValue) (g : Gauges) where
   abbrev pub source_count : SampleSource → ℕ
   source_count source.Requests = REQUEST_COUNT
   source_count source.Sites = length m.site_names
-  source_count source.Buckets = 12
+  source_count (source.Buckets timing) = 12
   source_count source.Releases = if has_series g then length g.releases.now else 0
   source_count source.SinceSwitch = count_some g.since_switch
   source_count other = 1
@@ -70,9 +71,9 @@ module _ (m : MetricsValue) (g : Gauges) where
   source_value source.Held k = decimal g.held_bytes
   source_value source.Requests k = decimal (slice_index m.requests k)
   source_value source.Sites k = decimal (slice_index m.sites k)
-  source_value source.Buckets k = decimal (slice_index m.times.buckets k)
-  source_value source.Times k = decimal m.times.count
-  source_value source.TimesSum k = seconds_text m.times.sum
+  source_value (source.Buckets timing) k = decimal (slice_index (times_of m.times timing).buckets k)
+  source_value (source.Times timing) k = decimal (times_of m.times timing).count
+  source_value (source.TimesSum timing) k = seconds_text (times_of m.times timing).sum
   source_value source.Releases k = decimal (seconds_at g k)
   source_value source.SinceSwitch k = decimal (unwrap_or g.since_switch 0)
 

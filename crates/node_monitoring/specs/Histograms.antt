@@ -1,6 +1,8 @@
--- The times that a histogram has observed, in microseconds.
+-- The times that the histograms of a node have observed, in microseconds.
 use Rattle.std.specs.Prelude.{◌≡◌, ◌<◌, ◌+◌, ℕ, nat_le, List, length, sum, count_by, slice_index, if◌then◌else◌}
 use Rattle.node_monitoring.specs.declared.histogram.TheConstants.{BOUNDS}
+use Rattle.node_monitoring.specs.declared.histogram.Timing.{Timing}
+use Rattle.node_monitoring.specs.declared.histogram.Timing.TheVariants.{Request, Turn, Commit}
 use Rattle.node_monitoring.specs.Counts.{capped}
 
 -- the counts of the buckets, the count of all times, and their sum
@@ -23,3 +25,18 @@ pub record HasObserved (h : HistogramValue) (observed : List ℕ) : Type 0 where
   pub buckets : (k : ℕ) → k < 12 → slice_index h.buckets k ≡ capped (within (slice_index BOUNDS k) observed)
   pub count : h.count ≡ capped (length observed)
   pub sum : h.sum ≡ capped (sum observed)
+
+-- the times of the requests, of the turns and of the commits
+pub record HistogramsValue : Type 0 where
+  pub requests : HistogramValue
+  pub turns : HistogramValue
+  pub commits : HistogramValue
+
+abbrev pub times_of : HistogramsValue → Timing → HistogramValue
+times_of h Request = h.requests
+times_of h Turn = h.turns
+times_of h Commit = h.commits
+
+-- the other histograms are as before
+abbrev pub KeepsOthers : Timing → HistogramsValue → HistogramsValue → Type 0
+KeepsOthers timing old new = (other : Timing) → ¬ (other ≡ timing) → times_of new other ≡ times_of old other

@@ -1,12 +1,15 @@
 -- The series that the operators of a node know: their names and labels, as a reader of the metrics finds them. A counter without
 -- a line here may still be renamed; once it has one, its name stays.
-use Rattle.std.specs.Prelude.{◌≡◌, ℕ, ◌&&◌, true, List, [], ◌∷◌, codes, slice_index}
+use Rattle.std.specs.Prelude.{◌≡◌, ℕ, ◌&&◌, true, List, [], ◌∷◌, ◌++◌, codes, slice_index}
 use Rattle.std.specs.List.{flat_map, list_all, AllByRecursion}
 use Rattle.std.specs.Fmt.{decimal}
 use Rattle.feed_metrics.specs.Exposition.{lines_of}
+use Rattle.feed_metrics.specs.Seconds.{seconds_text}
 use Rattle.feed_metrics.specs.Series.{are_apart, has_own_samples, is_usual, values_of}
 use Rattle.node_monitoring.specs.declared.counter.Counter.{Counter}
 use Rattle.node_monitoring.specs.declared.counter.Counter.TheVariants as counter
+use Rattle.node_monitoring.specs.declared.histogram.Timing.{Timing}
+use Rattle.node_monitoring.specs.declared.histogram.Timing.TheVariants as timing
 use Rattle.node_monitoring.specs.declared.metrics_text.Gauges.{Gauges}
 use Rattle.node_monitoring.specs.declared.request_kind.StatusClass.{StatusClass}
 use Rattle.node_monitoring.specs.declared.request_kind.StatusClass.TheVariants as class
@@ -14,6 +17,7 @@ use Rattle.node_monitoring.specs.declared.request_kind.Target.{Target}
 use Rattle.node_monitoring.specs.declared.request_kind.Target.TheVariants as target
 use Rattle.node_monitoring.specs.Counts.{place_of, request_place}
 use Rattle.node_monitoring.specs.Families.{families, table}
+use Rattle.node_monitoring.specs.Histograms.{times_of}
 use Rattle.node_monitoring.specs.MetricsTexts.{MetricsValue}
 
 -- a counter, with its name and its labels
@@ -80,6 +84,21 @@ abbrev pub AreGaugesOnce : MetricsValue → Gauges → Type 0
 AreGaugesOnce m g =
     (values_of (codes "kbfeed_connections_open") [] (flat_map lines_of (families m g)) ≡ decimal g.open ∷ [])
     × (values_of (codes "kbfeed_held_bytes") [] (flat_map lines_of (families m g)) ≡ decimal g.held_bytes ∷ [])
+
+-- so have the count and the sum of each histogram
+abbrev pub timing_words : List (List ℕ × Timing)
+timing_words = (codes "request", timing.Request) ∷ (codes "turn", timing.Turn) ∷ (codes "commit", timing.Commit) ∷ []
+
+abbrev pub time_name : List ℕ → List ℕ → List ℕ
+time_name word suffix = codes "kbfeed_" ++ word ++ codes "_duration_seconds" ++ suffix
+
+abbrev pub AreTimesOnce : MetricsValue → Gauges → List ℕ × Timing → Type 0
+AreTimesOnce m g named =
+    (values_of (time_name named.0 (codes "_count")) [] (flat_map lines_of (families m g)) ≡ decimal (times_of m.times named.1).count ∷ [])
+    × (values_of (time_name named.0 (codes "_sum")) [] (flat_map lines_of (families m g)) ≡ seconds_text (times_of m.times named.1).sum ∷ [])
+
+abbrev pub TimesAreNamed : Type 0
+TimesAreNamed = (m : MetricsValue) (g : Gauges) → AllByRecursion (AreTimesOnce m g) timing_words
 
 abbrev pub GaugesAreNamed : Type 0
 GaugesAreNamed = (m : MetricsValue) (g : Gauges) → AreGaugesOnce m g

@@ -29,8 +29,8 @@ const NO_FIELDS: Fields<'static> = Fields {
 fn count_exchange(metrics: &mut Metrics, target: Target, exchange: &LoggedExchange<'_>)
     ensures requests { (history : List Added) → HasCounted metrics.old.requests history
         → HasCounted metrics.new.requests (request_added target exchange.now ∷ history) }
-    ensures times { (observed : List ℕ) → HasObserved metrics.old.times observed
-        → HasObserved metrics.new.times (exchange.now.micros ∷ observed) }
+    ensures times { (observed : List ℕ) → HasObserved metrics.old.times.requests observed
+        → HasObserved metrics.new.times.requests (exchange.now.micros ∷ observed) }
     ensures counters { (history : List Added) → HasCounted metrics.old.counters history
         → HasCounted metrics.new.counters (added_by exchange.now ++ history) }
     ensures names { metrics.new.site_names ≡ metrics.old.site_names }
@@ -96,8 +96,8 @@ fn record_request(
     ensures requests { (head : RequestHead) → HasHead parsed.now.request head → (history : List Added)
         → HasCounted metrics.old.requests history
         → HasCounted metrics.new.requests (request_added (target_of head) exchange.now ∷ history) }
-    ensures times { (observed : List ℕ) → HasObserved metrics.old.times observed
-        → HasObserved metrics.new.times (exchange.now.micros ∷ observed) }
+    ensures times { (observed : List ℕ) → HasObserved metrics.old.times.requests observed
+        → HasObserved metrics.new.times.requests (exchange.now.micros ∷ observed) }
     ensures counters { (history : List Added) → HasCounted metrics.old.counters history
         → HasCounted metrics.new.counters (added_by exchange.now ++ history) }
     ensures names { metrics.new.site_names ≡ metrics.old.site_names }

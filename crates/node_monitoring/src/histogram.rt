@@ -1,7 +1,7 @@
-//! The histogram of the microseconds that requests take.
+//! The histograms of the microseconds that requests, turns and commits take.
 ghost use Rattle.std.specs.Prelude.{◌≡◌, ◌<◌, ℕ, IfOk, List, [], ◌∷◌};
 ghost use Rattle.std.specs.Prelude.{IsTrue, length, nat_le, slice_index};
-ghost use Rattle.node_monitoring.specs.Histograms.{HasObserved, one_more};
+ghost use Rattle.node_monitoring.specs.Histograms.{HasObserved, KeepsOthers, one_more, times_of};
 
 use std::alloc::{AllocError, Global};
 use std::marker::Model;
@@ -12,7 +12,7 @@ pub const BOUNDS: [u64; 12] = [
     30_000_000,
 ];
 
-/// The times of requests: how many are within each bound, how many there are, and their sum.
+/// Times: how many are within each bound, how many there are, and their sum.
 #[derive(Drop)]
 pub(crate) struct Histogram {
     buckets: Vec<u64>,
@@ -93,5 +93,69 @@ impl Histogram {
         ensures { result ≡ self.now.sum }
     {
         self.sum
+    }
+}
+
+/// What a node measures the times of.
+#[derive(Clone, Copy, Debug, PartialEq, Eq)]
+pub enum Timing {
+    /// From the last byte of the head of a request to the last byte of its response.
+    Request,
+    /// A turn of the node, from the end of its wait for the sockets.
+    Turn,
+    /// A step in which the node stores what it fetches.
+    Commit,
+}
+
+/// A histogram for each of the times that a node measures.
+#[derive(Drop)]
+pub(crate) struct Histograms {
+    requests: Histogram,
+    turns: Histogram,
+    commits: Histogram,
+}
+
+impl Model for Histograms {
+    ghost use Rattle.node_monitoring.specs.Histograms.{HistogramsValue};
+
+    ghost Value = { HistogramsValue };
+
+    ghost view = { λ h. record { requests = h.requests; turns = h.turns; commits = h.commits } };
+}
+
+impl Histograms {
+    /// Returns histograms of no times.
+    pub(crate) fn new(alloc: Global) -> Result<Histograms, AllocError>
+        ensures { (timing : Timing) → IfOk result (λ histograms. HasObserved (times_of histograms timing) []) }
+    {
+        Ok(Histograms {
+            requests: Histogram::new(alloc)?,
+            turns: Histogram::new(alloc)?,
+            commits: Histogram::new(alloc)?,
+        })
+    }
+
+    /// Observes a time.
+    pub(crate) fn observe(&mut self, timing: Timing, micros: u64)
+        ensures observed { (observed : List ℕ) → HasObserved (times_of self.old timing) observed
+            → HasObserved (times_of self.new timing) (micros ∷ observed) }
+        ensures others { KeepsOthers timing self.old self.new }
+    {
+        match timing {
+            Timing::Request => self.requests.observe(micros),
+            Timing::Turn => self.turns.observe(micros),
+            Timing::Commit => self.commits.observe(micros),
+        }
+    }
+
+    /// Returns the histogram of a time.
+    pub(crate) fn of(&self, timing: Timing) -> &Histogram
+        ensures { result.now ≡ times_of self.now timing }
+    {
+        match timing {
+            Timing::Request => &self.requests,
+            Timing::Turn => &self.turns,
+            Timing::Commit => &self.commits,
+        }
     }
 }

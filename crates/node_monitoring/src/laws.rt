@@ -3,6 +3,7 @@ ghost use Rattle.node_monitoring.specs.ShownLines.{LinesArePlain};
 ghost use Rattle.node_monitoring.specs.LogLaws.{EscapedIsVisible, EscapedReadsBack, LineSplits};
 ghost use Rattle.node_monitoring.specs.Laws.{CountersNeverFall, HistogramIsCumulative, MetricsReadBack};
 ghost use Rattle.node_monitoring.specs.Series.{CountersAreNamed, FamiliesAreApart, GaugesAreNamed, RequestsAreNamed};
+ghost use Rattle.node_monitoring.specs.Series.{TimesAreNamed};
 
 /// In a log without queries each request line is a dash, or a method that RFC 9110 names, a path of a node and a
 /// version, whatever bytes a client sent. A dash is in place of another method or path.
@@ -55,6 +56,11 @@ pub fn requests_are_named()
 /// So have the open connections and the bytes held.
 pub fn gauges_are_named()
     ensures { GaugesAreNamed }
+{}
+
+/// So have the count and the sum of the times of requests, of turns and of commits.
+pub fn times_are_named()
+    ensures { TimesAreNamed }
 {}
 
 /// Each family is there once. The names of counters end in `_total`, and those of no other family do.

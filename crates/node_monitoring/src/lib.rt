@@ -31,11 +31,11 @@ mod starting;
 pub use client::{client_addr, last_element};
 pub use counter::Counter;
 pub use exchange::{put_exchange, record_exchange};
-pub use histogram::BOUNDS;
+pub use histogram::{BOUNDS, Timing};
 pub use laws::{
     counters_are_named, counters_never_fall, escaped_is_visible, escaped_reads_back,
     families_are_apart, gauges_are_named, histogram_is_cumulative, line_splits, lines_are_plain,
-    metrics_read_back, requests_are_named,
+    metrics_read_back, requests_are_named, times_are_named,
 };
 pub use line_log::{DroppedLines, LineLog};
 pub use log_entry::{LogEntry, put_line};

@@ -1,15 +1,17 @@
-//! The counters of a node, and the times that its requests took.
+//! The counters of a node, and the times that its requests, turns and commits took.
 ghost use Rattle.std.specs.Prelude.{◌≡◌, ◌<◌, ℕ, IfOk, OnErr, OnOk, List, [], ◌∷◌, ◌++◌};
 ghost use Rattle.std.specs.Prelude.{length, slice_index};
 ghost use Rattle.feed_metrics.specs.Rows.{name_at};
 ghost use Rattle.node_monitoring.specs.Counts.{Added, HasCounted, place_of, request_place};
-ghost use Rattle.node_monitoring.specs.Histograms.{HasObserved};
+ghost use Rattle.node_monitoring.specs.Histograms.{HasObserved, KeepsOthers, times_of};
+ghost use Rattle.node_monitoring.specs.declared.histogram.Timing.{Timing};
+ghost use Rattle.node_monitoring.specs.declared.histogram.Timing.TheVariants.{Request};
 ghost use Rattle.node_monitoring.specs.MetricsTexts.{KeepsSites};
 ghost use Rattle.node_monitoring.specs.SiteNames.{site_added, site_name};
 
 use crate::counter::{COUNTER_COUNT, Counter};
 use crate::counters::Counters;
-use crate::histogram::Histogram;
+use crate::histogram::{Histograms, Timing};
 use crate::request_kind::{REQUEST_COUNT, StatusClass, Target, request_place};
 use std::alloc::{AllocError, Global};
 use std::marker::Model;
@@ -37,7 +39,7 @@ impl SiteName {
     }
 }
 
-/// The counters of a node, and the times that its requests took.
+/// The counters of a node, and the times that its requests, turns and commits took.
 #[derive(Drop)]
 pub struct Metrics {
     pub(crate) counters: Counters,
@@ -45,7 +47,7 @@ pub struct Metrics {
     pub(crate) site_names: Vec<SiteName>,
     /// The requests of each site, by its place.
     pub(crate) sites: Counters,
-    pub(crate) times: Histogram,
+    pub(crate) times: Histograms,
 }
 
 impl Model for Metrics {
@@ -74,14 +76,14 @@ impl Metrics {
         ensures counters { IfOk result (λ m. HasCounted m.counters []) }
         ensures requests { IfOk result (λ m. HasCounted m.requests []) }
         ensures names { IfOk result (λ m. m.site_names ≡ []) }
-        ensures times { IfOk result (λ m. HasObserved m.times []) }
+        ensures times { (timing : Timing) → IfOk result (λ m. HasObserved (times_of m.times timing) []) }
     {
         Ok(Metrics {
             counters: Counters::new(alloc, COUNTER_COUNT)?,
             requests: Counters::new(alloc, REQUEST_COUNT)?,
             site_names: Vec::new(alloc),
             sites: Counters::new(alloc, 0)?,
-            times: Histogram::new(alloc)?,
+            times: Histograms::new(alloc)?,
         })
     }
 
@@ -119,13 +121,26 @@ impl Metrics {
     pub fn count_request(&mut self, target: Target, class: StatusClass, micros: u64)
         ensures counted { (history : List Added) → HasCounted self.old.requests history
             → HasCounted self.new.requests (record { place = request_place target class; amount = 1 } ∷ history) }
-        ensures observed { (observed : List ℕ) → HasObserved self.old.times observed
-            → HasObserved self.new.times (micros ∷ observed) }
+        ensures observed { (observed : List ℕ) → HasObserved (times_of self.old.times Request) observed
+            → HasObserved (times_of self.new.times Request) (micros ∷ observed) }
+        ensures others { KeepsOthers Request self.old.times self.new.times }
         ensures counters { self.new.counters ≡ self.old.counters }
         ensures sites { KeepsSites self.old self.new }
     {
         self.requests.add(request_place(target, class), 1);
-        self.times.observe(micros);
+        self.times.observe(Timing::Request, micros);
+    }
+
+    /// Observes how many microseconds a turn or a commit took.
+    pub fn observe(&mut self, timing: Timing, micros: u64)
+        ensures observed { (observed : List ℕ) → HasObserved (times_of self.old.times timing) observed
+            → HasObserved (times_of self.new.times timing) (micros ∷ observed) }
+        ensures others { KeepsOthers timing self.old.times self.new.times }
+        ensures counters { self.new.counters ≡ self.old.counters }
+        ensures requests { self.new.requests ≡ self.old.requests }
+        ensures sites { KeepsSites self.old self.new }
+    {
+        self.times.observe(timing, micros);
     }
 
     /// Counts a request to which the site at a place responded, if it has a name.

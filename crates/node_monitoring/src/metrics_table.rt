@@ -1,5 +1,6 @@
 //! The families of the metrics of a node: one row for each, with the rows of its samples. Nothing else names a family.
 use crate::counter::Counter;
+use crate::histogram::Timing;
 use feed_metrics::FamilyRow;
 
 /// Where the value of a label is from.
@@ -27,10 +28,10 @@ pub enum SampleSource {
     /// The requests of each site.
     Sites,
     /// The times within each bound.
-    Buckets,
+    Buckets(Timing),
     /// How many times there are, and their sum.
-    Times,
-    TimesSum,
+    Times(Timing),
+    TimesSum(Timing),
     /// The day of each active release, if these have series.
     Releases,
     /// The time since the last switch, if there was one.
@@ -51,13 +52,17 @@ macro_rules! source {
     (($counter:ident)) => {
         crate::metrics_table::SampleSource::Counted(crate::counter::Counter::$counter)
     };
+    (($source:ident $timing:ident)) => {
+        crate::metrics_table::SampleSource::$source(crate::histogram::Timing::$timing)
+    };
     ($source:ident) => {
         crate::metrics_table::SampleSource::$source
     };
 }
 
 // The families. Brackets enclose a label: its name, and its value or where that is from. Behind the labels is where the
-// values are from; parentheses enclose a counter.
+// values are from; parentheses enclose a
+// counter, or a source of times with what took them.
 macro_rules! families {
     ($($shown:ident $kind:ident $name:literal $help:literal {
         $($suffix:literal $([$label:literal $($value:tt)+])* = $source:tt)*
@@ -123,10 +128,22 @@ pub(crate) const FAMILIES: &[FamilyRow<LabelSource, SampleSource>] = families! {
         "" ["site" Site] = Sites
     }
     Always Histogram "kbfeed_request_duration_seconds" "Time from the head of a request to the end of its reply." {
-        "_bucket" ["le" Bound] = Buckets
-        "_bucket" ["le" "+Inf"] = Times
-        "_sum" = TimesSum
-        "_count" = Times
+        "_bucket" ["le" Bound] = (Buckets Request)
+        "_bucket" ["le" "+Inf"] = (Times Request)
+        "_sum" = (TimesSum Request)
+        "_count" = (Times Request)
+    }
+    Always Histogram "kbfeed_turn_duration_seconds" "Time of a turn, in which the node serves all that are ready." {
+        "_bucket" ["le" Bound] = (Buckets Turn)
+        "_bucket" ["le" "+Inf"] = (Times Turn)
+        "_sum" = (TimesSum Turn)
+        "_count" = (Times Turn)
+    }
+    Always Histogram "kbfeed_commit_duration_seconds" "Time of a step in which the node stores what it fetches." {
+        "_bucket" ["le" Bound] = (Buckets Commit)
+        "_bucket" ["le" "+Inf"] = (Times Commit)
+        "_sum" = (TimesSum Commit)
+        "_count" = (Times Commit)
     }
     Always Gauge "kbfeed_active_release_timestamp_seconds" "Day of the active release of each package; \
         of more than 256 only with --metrics-packages." {

@@ -79,7 +79,7 @@ impl<'a> Sources for NodeSources<'a> {
         match source {
             SampleSource::Requests => REQUEST_COUNT,
             SampleSource::Sites => self.metrics.site_count(),
-            SampleSource::Buckets => 12,
+            SampleSource::Buckets(_) => 12,
             SampleSource::Releases => {
                 if has_series(self.gauges) {
                     self.gauges.releases.len()
@@ -110,9 +110,12 @@ impl<'a> Sources for NodeSources<'a> {
             SampleSource::Held => put_number(out, gauges.held_bytes),
             SampleSource::Requests => put_number(out, metrics.requests.get(place)),
             SampleSource::Sites => put_number(out, metrics.sites.get(place)),
-            SampleSource::Buckets => put_number(out, metrics.times.bucket(place)),
-            SampleSource::Times => put_number(out, metrics.times.count()),
-            SampleSource::TimesSum => put_seconds(out, metrics.times.sum()),
+            SampleSource::Buckets(timing) => put_number(
+                out,
+                metrics.times.of(timing).bucket(place),
+            ),
+            SampleSource::Times(timing) => put_number(out, metrics.times.of(timing).count()),
+            SampleSource::TimesSum(timing) => put_seconds(out, metrics.times.of(timing).sum()),
             SampleSource::Releases => put_number(out, seconds_at(gauges, place)),
             SampleSource::SinceSwitch => put_number(out, gauges.since_switch.unwrap_or(0)),
         }

@@ -78,6 +78,10 @@ pub struct Server {
     start: Instant,
     /// The microseconds from that moment to the last reading of the clock.
     now: u64,
+    /// The microseconds at which the last wait for the sockets ended, and how many there were from the one before it to
+    /// the next wait.
+    woke: Option<u64>,
+    turn_micros: Option<u64>,
     /// The microseconds at which the clocks of the connections were advanced last.
     last_tick: u64,
     /// Whether new connections are accepted. Otherwise they wait.
@@ -112,6 +116,8 @@ impl Server {
             is_forwarded: settings.is_forwarded,
             start,
             now: 0,
+            woke: None,
+            turn_micros: None,
             last_tick: 0,
             is_accepting: true,
             may_accept: false,
@@ -127,6 +133,12 @@ impl Server {
     /// Returns the address that the server listens on.
     pub fn addr(&self) -> io::Result<SocketAddr> {
         self.listener.local_addr()
+    }
+
+    /// Returns how many microseconds the turn before the last one took: from the end of its wait for the sockets to the
+    /// next wait, with all that the node did meanwhile. Returns none in the first turn.
+    pub fn turn_micros(&self) -> Option<u64> {
+        self.turn_micros
     }
 
     /// Returns a buffer for the events of a turn.
@@ -297,12 +309,19 @@ impl Server {
         Ok(())
     }
 
-    // Waits for the sockets, unless a connection is ready or work is left, and reads the clock.
+    // Waits for the sockets, unless a connection is ready or work is left, and reads the clock before and after it.
     fn wait(&mut self, rt: &impl Clock, has_ready: bool, events: &mut Events) -> io::Result<()> {
+        self.read_clock(rt)?;
+        self.turn_micros = match self.woke {
+            Some(woke) => Some(self.now.saturating_sub(woke)),
+            None => None,
+        };
         let may_block = !has_ready && !self.has_more_work;
         let wait = if may_block { TICK } else { 0 };
         self.poll.poll(events, Some(Duration::from_millis(wait)))?;
-        self.read_clock(rt)
+        self.read_clock(rt)?;
+        self.woke = Some(self.now);
+        Ok(())
     }
 
     // Advances all but the connections: the request to another server, the streamed responses, and the clocks.

@@ -16,7 +16,19 @@ use std::io::Write;
 #[derive(Drop)]
 pub(crate) struct EventLines {
     pub(crate) lines: Printer<Vec<u8>>,
+    pub(crate) has_stored: bool,
     pub(crate) has_switched: bool,
+}
+
+// Returns whether the keeper of the feed committed a change at an event.
+fn has_stored(event: FetchEvent) -> bool {
+    match event {
+        FetchEvent::Accepted(reply) => matches!(
+            reply,
+            Reply::Noted | Reply::Stored { .. } | Reply::Activated | Reply::Broken(_)
+        ),
+        _ => false,
+    }
 }
 
 impl Observe for EventLines {
@@ -25,6 +37,7 @@ impl Observe for EventLines {
     ghost has_failed = { λ events. has_failed events.lines };
 
     fn observe(&mut self, event: FetchEvent) -> Result<(), Unprinted> {
+        self.has_stored = self.has_stored || has_stored(event);
         if let FetchEvent::Accepted(Reply::Activated) = event {
             self.has_switched = true;
             return Ok(());

@@ -23,6 +23,7 @@ use feed_model::Reply;
 use feed_names::NameFault;
 use feed_options::{NodeOptions, Source};
 use node_file_checks::{FileCheck, HeldList, Mismatch, gate_by};
+use node_monitoring::Timing;
 use node_server::{OutgoingRequest, ServedNode, Server, StreamKind};
 use node_state::{FetchOutcome, NodeState, unix_seconds};
 use std::io;
@@ -339,9 +340,14 @@ impl<'a> Fetcher<'a> {
         };
         let mut events = EventLines {
             lines: self.lines(),
+            has_stored: false,
             has_switched: false,
         };
+        let begun = Instant::now(self.rt).ok();
         let step = self.take_arrived(server, node, &mut running, &mut events);
+        if events.has_stored {
+            self.observe_commit(begun);
+        }
         let lines = self.print_switch(node, events);
         if !lines.is_empty() && !self.file.is_there() {
             return false;
@@ -350,6 +356,15 @@ impl<'a> Fetcher<'a> {
         let step = self.in_time(step);
         self.follow(server, node, running, step);
         true
+    }
+
+    // Observes how long a step took in which the keeper of the feed committed a change.
+    fn observe_commit(&self, begun: Option<Instant>) {
+        if let (Some(begun), Ok(now)) = (begun, Instant::now(self.rt)) {
+            let passed = now.saturating_duration_since(begun).as_micros();
+            self.state
+                .observe(Timing::Commit, passed.min(u64::MAX as u128) as u64);
+        }
     }
 
     fn follow<K: Keep>(
@@ -436,6 +451,7 @@ impl<'a> Fetcher<'a> {
     fn print_switch<K: Keep>(&self, node: &FeedNode<'_, K>, events: EventLines) -> Vec<u8> {
         let EventLines {
             mut lines,
+            has_stored: _,
             has_switched,
         } = events;
         if has_switched {

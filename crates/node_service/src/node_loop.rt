@@ -14,6 +14,7 @@ use feed_options::{NodeOptions, SitePath};
 use feed_releases::Feed;
 use mio::Events;
 use node_machine::NodeMachine;
+use node_monitoring::Timing;
 use node_server::{Server, Socket};
 use node_sites::NodeSites;
 use node_state::{AccessLog, NodeLog, NodeState, TurnFacts, day_number, today, unix_seconds};
@@ -160,6 +161,9 @@ impl<'a, W: Write, F: Write> RunningNode<'a, W, F> {
         self.state.begin_turn(self.facts(node.table().bytes_held()));
         if let Err(fault) = server.turn(self.rt, node, events, &mut self.log) {
             return Some(End::Sockets(fault));
+        }
+        if let Some(micros) = server.turn_micros() {
+            self.state.observe(Timing::Turn, micros);
         }
         self.log.flush();
         self.reloader.advance(server, node);

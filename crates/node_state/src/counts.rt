@@ -1,9 +1,10 @@
 //! The counts of a node.
 ghost use Rattle.std.specs.Prelude.{◌≡◌, ◌∷◌, IfOk, List, []};
 ghost use Rattle.node_monitoring.specs.Counts.{Added, HasCounted};
-ghost use Rattle.node_monitoring.specs.Histograms.{HasObserved};
+ghost use Rattle.node_monitoring.specs.Histograms.{HasObserved, times_of};
 ghost use Rattle.node_monitoring.specs.MetricsTexts.{KeepsSites};
 ghost use Rattle.node_monitoring.specs.declared.counter.Counter.TheVariants as counter;
+ghost use Rattle.node_monitoring.specs.declared.histogram.Timing.{Timing};
 ghost use Rattle.node_state.specs.FetchOutcomes.{fetch_counter};
 ghost use Rattle.node_state.specs.NodeCounts.{cause_counter, many_of, one_of};
 
@@ -37,7 +38,8 @@ impl NodeCounts {
     pub fn new(alloc: Global) -> Result<NodeCounts, AllocError>
         ensures counters { IfOk result (λ counts. HasCounted counts.metrics.counters []) }
         ensures requests { IfOk result (λ counts. HasCounted counts.metrics.requests []) }
-        ensures times { IfOk result (λ counts. HasObserved counts.metrics.times []) }
+        ensures times { (timing : Timing) → IfOk result (λ counts.
+            HasObserved (times_of counts.metrics.times timing) []) }
     {
         Ok(NodeCounts {
             metrics: Metrics::new(alloc)?,

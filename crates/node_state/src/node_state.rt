@@ -14,7 +14,7 @@ use node_connection::IncomingRequest;
 use node_file_checks::ExpectedFile;
 use node_monitoring::{
     Gauges, LogPolicy, LoggedExchange, ReleaseTime, ReportRequest, ReportResponse, SiteName,
-    record_exchange, respond_about_node, respond_at_start,
+    Timing, record_exchange, respond_about_node, respond_at_start,
 };
 use node_operator::{Activity, LastFetch, respond_about_feed};
 use node_request::{FetchPolicy, ReceivedRequest};
@@ -149,6 +149,13 @@ impl NodeState {
     pub fn close(&self, cause: CloseCause) {
         if let Ok(mut counts) = self.counts.try_borrow_mut() {
             counts.close(cause);
+        }
+    }
+
+    /// Observes how many microseconds a turn or a commit took.
+    pub fn observe(&self, timing: Timing, micros: u64) {
+        if let Ok(mut counts) = self.counts.try_borrow_mut() {
+            counts.metrics.observe(timing, micros);
         }
     }
 

@@ -1,4 +1,4 @@
-use Rattle.std.proofs.Common.{rules, ap, ◌∙◌, arith}
+use Rattle.std.proofs.Common.{rules}
 use Rattle.feed_metrics.proofs.Numbers.{bound_plain}
 use Rattle.node_monitoring.proofs.metrics_values.NodeSourcesSources.put_label_value.Goals as goal
 
