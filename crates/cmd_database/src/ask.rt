@@ -1,7 +1,8 @@
 //! `kbfeed ask`: what a node answers to a query.
 use crate::database::{Database, close_keeper, open_existing_feed, report_no_release};
+use cmd_files::parse_meant_query;
 use feed_answer::{Query, WriteFault};
-use feed_console::{Console, DONE, FAILED, parse_query};
+use feed_console::{Console, DONE, FAILED};
 use feed_keep::Keep;
 use feed_releases::{AnswerFault, Feed};
 use std::io::Write;
@@ -16,7 +17,7 @@ pub fn print_answer<D: Database, O: Write, F: Write + Drop>(
     query: &str,
     console: &mut Console<'_, O, F>,
 ) -> u8 {
-    let query = match parse_query(query, console) {
+    let query = match parse_meant_query(query, console) {
         Ok(query) => query,
         Err(status) => return status,
     };

@@ -2,6 +2,7 @@
 use feed_console::{Console, FAILED, REFUSED};
 use feed_keep::Capacity;
 use feed_model::KeepFault;
+use feed_names::ReleaseName;
 use feed_releases::{AnswerFault, Feed, Opening};
 use std::io::Write;
 use std::{fmt, io};
@@ -94,7 +95,9 @@ fn words_of(why: Unusable, path: &str) -> &'static str {
         Unusable::NotPlain => "it or its log is not a plain file with one name: use another path",
         Unusable::Linked => "the file has another name, a hard link: remove that",
         Unusable::Name => "SQLite takes this name for no file: put ./ before it",
-        Unusable::NotDatabase if path.ends_with(".txt") => "it is a list and not a database",
+        Unusable::NotDatabase if path.ends_with(".txt") => {
+            "it is a list and not a database: give the path of a database, which is made if it is not there"
+        }
         Unusable::Damaged => "its pages are damaged: restore a copy, or begin anew",
         Unusable::Unsound =>
             "a row breaks the rules of its table, or they are not kbfeed's: restore a copy, or begin anew",
@@ -154,7 +157,7 @@ pub fn open_existing_feed<D: Database, O: Write, F: Write + Drop>(
             console.faults.report_with(
                 AnswerFault::NoRelease,
                 database.name(),
-                "it is not there",
+                "it is not there: kbfeed fetch or kbfeed node makes it",
                 REFUSED,
             ),
         )
@@ -166,12 +169,20 @@ pub fn report_no_release<O: Write, F: Write + Drop>(
     package: &str,
     console: &mut Console<'_, O, F>,
 ) -> u8 {
-    console.faults.report_with(
+    let status = console.faults.report_with(
         AnswerFault::NoRelease,
         package,
         "no release of it is whole and good",
         REFUSED,
-    )
+    );
+    if let Ok(name) = ReleaseName::parse(console.rt.alloc(), package.as_bytes()) {
+        let hint = format_args!(
+            "it is a release: give its package, {}",
+            str::from_utf8(name.package()).unwrap_or("")
+        );
+        console.faults.note(package, hint);
+    }
+    status
 }
 
 /// Closes a database. A failure is only noted: the database still has everything that was committed.
@@ -198,7 +209,7 @@ fn report_database<O: Write, F: Write + Drop>(
         DatabaseFault::Device => console.faults.report_with(
             "Device",
             path,
-            "it does not read or write, or another process has it open",
+            "it does not read or write, or another process has it open: stop that, or use another path",
             FAILED,
         ),
         DatabaseFault::NotOurs(why) => {

@@ -1,7 +1,7 @@
 //! `kbfeed fetch`: a node fetches a release, resumes, and switches to it.
 use crate::database::{Database, close_keeper, open_feed};
 use crate::progress::ProgressLine;
-use cmd_files::{Advice, note_port, parse_meant_name};
+use cmd_files::{Advice, note_address, note_listener, parse_meant_name};
 use feed_console::{Console, FAILED, MISUSED};
 use feed_dial::{Cause, TcpDial};
 use feed_fetch::{Printer, fetch_with, is_reported};
@@ -26,12 +26,14 @@ pub fn fetch_release<D: Database, O: Write, F: Write + Drop>(
     let rt = console.rt;
     let addr = options.addr;
     if !is_host(addr.as_bytes()) {
-        return console.faults.report_with(
+        let status = console.faults.report_with(
             "Host",
             addr,
             "it is no host and port, as 127.0.0.1:8080",
             MISUSED,
         );
+        note_address(addr, console);
+        return status;
     }
     let name = match parse_meant_name(options.name, MISUSED, Advice::Give, console) {
         Ok(name) => name,
@@ -64,8 +66,10 @@ pub fn fetch_release<D: Database, O: Write, F: Write + Drop>(
     match (out.into_fault(), cause.into_inner()) {
         (Some(fault), _) => status = console.faults.check_print(Err(fault), FAILED),
         (None, Some(cause)) if status == FAILED => {
+            let kind = cause.kind();
             console.faults.note(addr, cause);
-            note_port(addr, console);
+            note_address(addr, console);
+            note_listener(addr, kind, console);
         }
         _ => {}
     }

@@ -20,7 +20,10 @@ pub fn print_reason<D: Database, O: Write, F: Write + Drop>(
         Err(status) => return status,
     };
     if !database.is_there() {
-        console.faults.note(database.name(), "it is not there");
+        console.faults.note(
+            database.name(),
+            "it is not there: kbfeed fetch or kbfeed node makes it",
+        );
         return print_line(None, console);
     }
     let feed = match open_feed(database, console) {

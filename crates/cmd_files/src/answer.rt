@@ -1,8 +1,9 @@
 //! `kbfeed answer`: what a node answers to a query if its active release is the one of a file.
-use crate::check::{file_name, report_file};
-use crate::hints::{Advice, parse_meant_name};
+use crate::check::{file_name, open_list_file, report_file};
+use crate::name_hints::{Advice, parse_meant_name};
+use crate::query_hints::parse_meant_query;
 use feed_answer::{Query, WriteFault, answer};
-use feed_console::{Console, DONE, FAILED, REFUSED, Watched, open_file, parse_query};
+use feed_console::{Console, DONE, FAILED, REFUSED, Watched};
 use feed_kbart::read_file;
 use feed_names::ReleaseName;
 use std::io::{Read, Write};
@@ -26,7 +27,7 @@ pub fn answer_file<O: Write, F: Write + Drop>(
         Ok(question) => question,
         Err(status) => return status,
     };
-    match open_file(path, console) {
+    match open_list_file(path, console) {
         Ok(file) => print_answer(path, &question, file, console),
         Err(status) => status,
     }
@@ -37,7 +38,7 @@ fn parse_named_query<O: Write, F: Write + Drop>(
     query: &str,
     console: &mut Console<'_, O, F>,
 ) -> Result<NamedQuery, u8> {
-    let query = parse_query(query, console)?;
+    let query = parse_meant_query(query, console)?;
     let name = parse_meant_name(text, REFUSED, Advice::Rename, console)?;
     Ok(NamedQuery { query, name })
 }

@@ -69,7 +69,9 @@ pub fn note_bad_list<R: Read + Drop, O: Write, F: Write + Drop>(
         (None, BadFile::NotUtf8) => {
             let place = first_bad(console.rt.alloc(), front, &mut list);
             if let Ok(Some(Place { byte, line, .. })) = place {
-                let hint = format_args!("byte {byte}, on line {line}, is not UTF-8");
+                let hint = format_args!(
+                    "byte {byte}, on line {line}, is not UTF-8: save it as UTF-8, or let kbfeed-convert read it"
+                );
                 console.faults.note(about, hint);
             }
         }
@@ -88,6 +90,7 @@ fn hint_of(front: &[u8], why: BadFile) -> Option<&'static str> {
             }
             None => None,
         },
+        BadFile::NoHeader if front.is_empty() => Some("it is empty: get it again"),
         _ => None,
     }
 }

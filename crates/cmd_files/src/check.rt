@@ -1,12 +1,14 @@
 //! `kbfeed check`: what files hold, or why they are bad.
 use crate::bad_list::{note_bad_file, note_bad_list};
-use crate::hints::{Advice, parse_meant_name};
+use crate::name_hints::{Advice, parse_meant_name};
 use cmd_report::ListReport;
-use feed_console::{Console, DONE, FAILED, MISUSED, REFUSED, Watched, open_file, read_front};
+use feed_console::{Console, DONE, FAILED, MISUSED, REFUSED, Watched, read_front};
 use feed_kbart::{BadFile, FileCount, KbartFault, count_file};
 use feed_limits::FILE_LIMIT;
 use feed_options::CheckOptions;
 use std::alloc::Global;
+use std::fs;
+use std::fs::File;
 use std::io::{ErrorKind, Read, Write};
 
 // The limit of a file, as `-v` prints it.
@@ -20,7 +22,12 @@ pub fn check_files<O: Write, F: Write + Drop>(
     console: &mut Console<'_, O, F>,
 ) -> u8 {
     if !options.name.is_empty() && !paths.iter().any(|path| *path == "-") {
-        return console.faults.report("--name NAME needs FILE -", MISUSED);
+        return console.faults.report_with(
+            "--name NAME needs FILE -",
+            "--name",
+            "leave it out, or give - for standard input",
+            MISUSED,
+        );
     }
     let mut status = DONE;
     for path in paths {
@@ -37,14 +44,46 @@ fn check_path<O: Write, F: Write + Drop>(
 ) -> u8 {
     if path == "-" {
         if options.name.is_empty() {
-            return console.faults.report("- needs --name NAME", MISUSED);
+            return console.faults.report_with(
+                "- needs --name NAME",
+                "-",
+                "say what the list is called, as --name Acme_2024-01-01.txt",
+                MISUSED,
+            );
         }
         let input = console.rt.reader();
         return check_file(path, options.name, input, options, console);
     }
-    match open_file(path, console) {
+    let status = match open_list_file(path, console) {
         Ok(file) => check_file(path, file_name(path), file, options, console),
         Err(status) => status,
+    };
+    if status != DONE && is_folder(console.rt, path) {
+        let hint = format_args!("it is a folder: give its files, as {path}/*.txt");
+        console.faults.note(path, hint);
+    }
+    status
+}
+
+/// Opens the list at a path, or reports the error and returns the exit status.
+pub fn open_list_file<O: Write, F: Write + Drop>(
+    path: &str,
+    console: &mut Console<'_, O, F>,
+) -> Result<File, u8> {
+    match File::open(console.rt, path) {
+        Ok(file) => Ok(file),
+        Err(error) if error.kind() == ErrorKind::NotFound => {
+            let cause = format_args!("{error}: is it in another folder?");
+            Err(console.faults.report_with("Read", path, cause, FAILED))
+        }
+        Err(error) => Err(console.faults.report_read(path, error)),
+    }
+}
+
+fn is_folder(rt: &HostRuntime, path: &str) -> bool {
+    match fs::metadata(rt, path) {
+        Ok(found) => found.is_dir(),
+        Err(_) => false,
     }
 }
 
@@ -86,9 +125,14 @@ fn check_file<R: Read + Drop, O: Write, F: Write + Drop>(
     match counted {
         Ok(count) => {
             let status = status_of(&count, options.is_strict);
-            console
+            let status = console
                 .faults
-                .check_print(report.print_count(&mut console.out, &count), status)
+                .check_print(report.print_count(&mut console.out, &count), status);
+            if count.rows() == 0 {
+                let hint = "it has no row that counts: a node would find nothing in it";
+                console.faults.note(text, hint);
+            }
+            status
         }
         Err(KbartFault::Bad(why)) => {
             let status = console

@@ -1,8 +1,8 @@
 //! `kbfeed diff`: what a new list changes, and whether it removes or changes too much.
-use crate::check::{file_name, report_file};
-use crate::hints::{Advice, parse_meant_name};
+use crate::check::{file_name, open_list_file, report_file};
+use crate::name_hints::{Advice, parse_meant_name};
 use cmd_report::{Comparison, NamedList, compare, print_comparison};
-use feed_console::{Console, DONE, FAILED, REFUSED, Watched, open_file};
+use feed_console::{Console, DONE, FAILED, REFUSED, Watched};
 use feed_kbart::{FileRows, list_file};
 use feed_names::ReleaseName;
 use feed_options::DiffOptions;
@@ -65,7 +65,7 @@ fn open_list<O: Write, F: Write + Drop>(
 ) -> Result<List, u8> {
     let text = file_name(path);
     let name = parse_meant_name(text, REFUSED, Advice::Rename, console)?;
-    let file = open_file(path, console)?;
+    let file = open_list_file(path, console)?;
     read_list(path, name, file, console)
 }
 

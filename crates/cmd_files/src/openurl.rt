@@ -1,4 +1,5 @@
 //! `kbfeed openurl`: how a query is understood, in lines or as JSON.
+use crate::query_hints::{note_number, query_in};
 use feed_citation::{CitationPart, PARTS};
 use feed_console::{Console, DONE, FAILED, REFUSED};
 use feed_openurl::{Citation, Dropped, OpenUrl, OpenUrlFault, dropped_keys};
@@ -16,14 +17,15 @@ struct Explanation {
     dropped: Vec<Dropped>,
 }
 
-/// Prints how a query is understood: its citation, what of it is looked up, the query that asks for that, and the keys
-/// that nobody reads. Returns the exit status: 1 for a query with nothing to look up, whose reason is reported, 3 for a
-/// failing print and for running out of memory.
+/// Prints how a query, or that of a whole link, is understood: its citation, what of it is looked up, the query that
+/// asks for that, and the keys that nobody reads. Returns the exit status: 1 for a query with nothing to look up, whose
+/// reason is reported, 3 for a failing print and for running out of memory.
 pub fn explain_query<O: Write, F: Write + Drop>(
     query: &str,
     is_json: bool,
     console: &mut Console<'_, O, F>,
 ) -> u8 {
+    let query = query_in(query);
     let Ok(reading) = read(console.rt.alloc(), query) else {
         return console.faults.report("Memory", FAILED);
     };
@@ -38,9 +40,11 @@ pub fn explain_query<O: Write, F: Write + Drop>(
     let status = console.faults.check_print(console.out.flush(), DONE);
     match reading.understood.refusal() {
         Some(refusal) if status == DONE => {
-            console
+            let status = console
                 .faults
-                .report_with(refusal, query, cause_of(refusal), REFUSED)
+                .report_with(refusal, query, cause_of(refusal), REFUSED);
+            note_number(query, console);
+            status
         }
         _ => status,
     }

@@ -1,6 +1,6 @@
 //! `kbfeed serve`: a folder of releases for any HTTP client.
+use crate::address_hints::{note_address, note_listener};
 use crate::folder::Folder;
-use crate::hints::note_port;
 use feed_console::{Console, DONE, FAILED};
 use feed_dial::{TimedReader, TimedWriter};
 use feed_http::{Shelf, serve_one};
@@ -34,8 +34,10 @@ pub fn serve_folder<O: Write, F: Write + Drop>(
     let listener = match TcpListener::bind(console.rt, addr) {
         Ok(listener) => listener,
         Err(error) => {
+            let kind = error.kind();
             let status = console.faults.report_with("Bind", addr, error, FAILED);
-            note_port(addr, console);
+            note_address(addr, console);
+            note_listener(addr, kind, console);
             return status;
         }
     };

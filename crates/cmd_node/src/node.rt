@@ -5,7 +5,7 @@ use crate::site::{note_open_prefixes, read_sites};
 use crate::token::Token;
 use crate::wanted::{note_missing, read_wanted};
 use cmd_database::{Database, begin_feed, close_keeper, open_feed, report_keeper};
-use cmd_files::note_port;
+use cmd_files::{note_address, note_listener};
 use feed_bytes::read_number;
 use feed_console::{Console, DONE, FAILED, MISUSED, REFUSED, open_plain_file};
 use feed_http::is_host;
@@ -97,9 +97,7 @@ fn report_source<O: Write, F: Write + Drop>(addr: &str, console: &mut Console<'_
         "it is no host and port, as 127.0.0.1:8080",
         MISUSED,
     );
-    if is_host(addr.as_bytes()) {
-        note_port(addr, console);
-    }
+    note_address(addr, console);
     status
 }
 
@@ -307,10 +305,12 @@ fn listen<O: Write, F: Write + Drop>(
     let server = match bind(console.rt, options) {
         Ok(server) => server,
         Err(error) => {
+            let kind = error.kind();
             let status = console
                 .faults
                 .report_with("Bind", options.addr, error, FAILED);
-            note_port(options.addr, console);
+            note_address(options.addr, console);
+            note_listener(options.addr, kind, console);
             return Err(status);
         }
     };

@@ -1,4 +1,4 @@
-//! Hints below the cause of a fault: the name or the address that was probably meant.
+//! Hints below the fault of a name: the one that was probably meant.
 use feed_console::{Console, parse_name};
 use feed_names::ReleaseName;
 use std::alloc::{AllocError, Global};
@@ -33,27 +33,6 @@ pub fn parse_meant_name<O: Write, F: Write + Drop>(
     }
 }
 
-/// Notes that an address has no port, if it has none.
-pub fn note_port<O: Write, F: Write + Drop>(addr: &str, console: &mut Console<'_, O, F>) {
-    if lacks_port(addr) {
-        let hint = format_args!("add a port, as {addr}:8080");
-        console.faults.note(addr, hint);
-    }
-}
-
-// Returns whether an address is a host without a port: a name or an IPv4 address without a colon, or an IPv6 address in
-// brackets.
-fn lacks_port(addr: &str) -> bool {
-    let bytes = addr.as_bytes();
-    match bytes
-        .iter()
-        .rposition(|byte| *byte == b':' || *byte == b']')
-    {
-        Some(place) => bytes[place] == b']',
-        None => !bytes.is_empty(),
-    }
-}
-
 fn note_meant_name<O: Write, F: Write + Drop>(
     text: &str,
     advice: Advice,
@@ -69,6 +48,38 @@ fn note_meant_name<O: Write, F: Write + Drop>(
                 .faults
                 .note(text, format_args!("did you mean {name}?")),
         }
+    } else if let Some(package) = package_in(console.rt.alloc(), text) {
+        match advice {
+            Advice::Rename => console.faults.note(
+                text,
+                format_args!("name it {package}_YYYY-MM-DD.txt, with the day of the list"),
+            ),
+            Advice::Give => console.faults.note(
+                text,
+                format_args!("give the name of a release, as {package}_2024-01-01.txt"),
+            ),
+        }
+    }
+}
+
+// Returns the package that a name without a day has: it may have an ending, and has no digit at its end or after its
+// last underscore.
+fn package_in(alloc: Global, text: &str) -> Option<&str> {
+    let package = match text.rsplit_once('.') {
+        Some((front, ending)) if is_ending(ending.as_bytes()) => front,
+        _ => text,
+    };
+    let last = match package.rsplit_once('_') {
+        Some((_, last)) => last.as_bytes(),
+        None => &package.as_bytes()[package.len().saturating_sub(1)..],
+    };
+    if last.iter().any(|byte| byte.is_ascii_digit()) {
+        return None;
+    }
+    let name = format!(in alloc; "{package}_2024-01-01.txt").ok()?;
+    match ReleaseName::parse(alloc, name.as_bytes()) {
+        Ok(_) => Some(package),
+        Err(_) => None,
     }
 }
 
@@ -77,7 +88,7 @@ fn meant_name(alloc: Global, text: &[u8]) -> Result<Option<ReleaseName>, AllocEr
     let Some(place) = text.iter().rposition(|byte| *byte == b'.') else {
         return Ok(None);
     };
-    if !is_ending(&text[place..]) {
+    if !is_ending(&text[place.saturating_add(1)..]) {
         return Ok(None);
     }
     let mut meant = Vec::new(alloc);
@@ -94,9 +105,9 @@ fn meant_name(alloc: Global, text: &[u8]) -> Result<Option<ReleaseName>, AllocEr
 
 // Returns whether a table is saved under such an ending.
 fn is_ending(ending: &[u8]) -> bool {
-    ending.eq_ignore_ascii_case(b".txt".as_slice())
-        || ending.eq_ignore_ascii_case(b".tsv".as_slice())
-        || ending.eq_ignore_ascii_case(b".csv".as_slice())
+    ending.eq_ignore_ascii_case(b"txt".as_slice())
+        || ending.eq_ignore_ascii_case(b"tsv".as_slice())
+        || ending.eq_ignore_ascii_case(b"csv".as_slice())
 }
 
 // Appends the part of a name before its ending, with hyphens in its date.
