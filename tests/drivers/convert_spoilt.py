@@ -4,11 +4,13 @@
 convert_spoilt.py COUNT [SEED]
 
 Each list has titles with known days: ranges with gaps and moving walls, written as products and languages write them,
-in one cell or in columns of dates. It is converted as it is, and five times with spoilt cells or labels: a digit that
-is none, words that nobody knows, misspelt words, signs that are gone, a label without a meaning. For each list
+in one cell or in columns of dates. One list in three has another column, in which some cells take days away. It is
+converted as it is, and five times with spoilt cells or labels: a digit that is none, words that nobody knows, misspelt
+words, signs that are gone, a label without a meaning. For each list
 
 - each day that a row shows is one that the title has, or the report names the record, or a column that is not used;
-- a statement of coverage never shows a day that the title does not have, whatever the report says;
+- statements of coverage and dates never show a day that the title does not have, whatever the report says, unless
+  another column or a label is spoilt;
 - a list that is not spoilt has all days of all titles, and the report names nothing.
 
 Prints how many rows were checked, and exits with 1 at the first that breaks one of these."""
@@ -140,11 +142,34 @@ def columns(ranges, wall, r):
     return [begin, end, wall if wall[:1] == "R" else embargo]
 
 
+def remark(r, ranges, wall):
+    """Returns a cell of another column that takes days away, and the ranges and the wall that it leaves."""
+    first, last = ranges[-1]
+    kind = r.randrange(5)
+    if kind == 0 and not wall:
+        return r.choice(["latest 18 months not available", "die letzten 18 Monate nicht verfügbar"]), ranges, "P18M"
+    if kind == 1 and (last or 1990) - first > 2:
+        year = first + 1
+        left = [*ranges[:-1], (first, first), (year + 1, last)]
+        return r.choice(["{} missing", "lacks {}", "fehlt {}", "v.5 ({}) missing", "not {}"]).format(year), left, wall
+    if kind == 2 and last is None and wall[:1] != "R":
+        year = first + 1
+        words = r.choice(["ends with {}", "Online access ends with {}", "ceased {}", "access until {}", "bis {}"])
+        return words.format(year), [*ranges[:-1], (first, year)], ""
+    if kind == 3 and last is None and wall[:1] != "R":
+        words = r.choice(["abstracts only from {}", "ab {} nur gedruckt", "print only from {}"])
+        return words.format(first + 1), [*ranges[:-1], (first, first)], ""
+    return r.choice(["", "peer reviewed", "ask at the desk"]), ranges, wall
+
+
 def random_list(r):
-    """Returns the header, the records and the days of each title, and whether the coverage is in one cell."""
+    """Returns the header, the records and the days of each title, whether the coverage is in one cell, and whether
+    another column takes days away."""
     is_statement = r.random() < 0.6
     form = r.choice(STATEMENTS)
     header = HEAD + (["Coverage"] if is_statement else ["Coverage begins", "Coverage ends", "Embargo"])
+    has_remarks = r.random() < 0.33
+    header += [r.choice(["Remarks", "Hinweis", "Comment", "Access notes", "Zusatz"])] if has_remarks else []
     records, truth = [], {}
     for number in range(r.randrange(1, 9)):
         ranges, wall = title(r)
@@ -152,9 +177,10 @@ def random_list(r):
             ranges = [(ranges[0][0], ranges[-1][1])]
         key = issn(r)
         cells = [form(ranges, wall, r)] if is_statement else columns(ranges, wall, r)
-        records.append([f"Journal {number}", key, f"https://a.example/{number}", *cells])
+        said, ranges, wall = remark(r, ranges, wall) if has_remarks else ("", ranges, wall)
+        records.append([f"Journal {number}", key, f"https://a.example/{number}", *cells, *[said] * has_remarks])
         truth[key] = days(ranges, wall)
-    return header, records, truth, is_statement
+    return header, records, truth, is_statement, has_remarks
 
 
 def days(ranges, wall):
@@ -303,11 +329,11 @@ def main():
         folder = pathlib.Path(name)
         for number in range(given.count):
             r = random.Random(given.seed * 1_000_003 + number)
-            header, records, truth, is_statement = random_list(r)
+            header, records, truth, is_statement, has_remarks = random_list(r)
             rows += check(r, (header, records), truth, False, True, folder)
             for _ in range(5):
                 *bad, only_cells = spoilt(r, header, records, is_statement)
-                rows += check(r, bad, truth, True, is_statement and only_cells, folder)
+                rows += check(r, bad, truth, True, only_cells and not has_remarks, folder)
     print(f"{given.count} lists and {given.count * 5} spoilt ones: no day too many")
     print(f"{rows} rows", file=sys.stderr)
 

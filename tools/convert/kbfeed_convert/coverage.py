@@ -29,8 +29,9 @@ SEPARATORS = ";|"
 # The part that is not read, if a statement has no range.
 NO_DATE = "no date"
 # The other signs that change nothing, as in `1995?`.
-KNOWN = "()[]{}.,:=&+-~/?!*#_\"'`°«»…"
+KNOWN = "()[]{}.,:=&+-~/?!*#@_\"'`°«»…"
 DAY = datetime.timedelta(days=1)
+FILLER = frozenset({"filler"})
 
 
 class Range(NamedTuple):
@@ -76,17 +77,18 @@ class Piece(NamedTuple):
 
 
 @remembered
-def read(cell: str, order: str, has_volumes: bool = False) -> Statement:
+def read(cell: str, order: str, has_volumes: bool = False, has_quarters: bool = False) -> Statement:
     """Returns what a statement says. `order` is that of day and month, empty if the list does not decide it.
 
-    `has_volumes` says that `1.1990` is a volume and its year all over the list, and no month."""
+    `has_volumes` says that `1.1990` is a volume and its year all over the list, and no month, and `has_quarters` that
+    `1990/4` may be a quarter."""
     if len(cell) > LONGEST:
         return Statement((), "", f"a statement of more than {LONGEST} characters")
     if not order:
         decided = dates.Order()
         decided.look([cell])
         order = str(decided)
-    reader = Reader(tokens(with_signs(thresholds.written_out(cell))), order, has_volumes)
+    reader = Reader(tokens(with_signs(thresholds.written_out(cell))), order, has_volumes, has_quarters)
     reader.run()
     return reader.statement()
 
@@ -195,8 +197,8 @@ def end_of(point: Point) -> End | None:
 class Reader:
     """Reads the tokens of one statement from left to right."""
 
-    def __init__(self, many: list[Token], order: str, has_volumes: bool):
-        self.order = order
+    def __init__(self, many: list[Token], order: str, has_volumes: bool, has_quarters: bool):
+        self.order, self.has_quarters = order, has_quarters
         # One statement has one notation: where 16.1940 is a volume and its year, so is 1.1990.
         self.has_volumes = has_volumes or any(it.kind == "my" and month_of(it.text) > 12 for it in many)
         self.is_undecided = False
@@ -208,7 +210,7 @@ class Reader:
         self.tokens = self.without_walls(joined_lengths(many))
         # Where the piece began that a separator or a bracket ends, and whether it is one that is missing.
         self.piece = 0
-        self.is_missing = self.is_negated = self.is_lesser = self.is_all = self.is_broken = False
+        self.is_missing = self.is_negated = self.is_lesser = self.is_only = self.is_all = self.is_broken = False
         self.left: Point | None = None
         self.point = Point()
         # A word or a dash connects the two ends, or only a word behind the first date.
@@ -278,6 +280,14 @@ class Reader:
             left.append(Token("word", "", frozenset({"open" if is_end else "wall"}), True))
         elif said & {"recent", "embargo"} or "current" in said:
             kind = "P" if said & HIDDEN else "R"
+            if kind == "R" and any("lesser" in it.meanings for it in many):
+                # `last 12 months only in print`: nobody has them online.
+                if not any("only" in it.meanings for it in many):
+                    self.is_hidden = True
+                    return 0
+                kind = "P"
+                for tokens_of in (many, left):
+                    tokens_of[:] = [it._replace(meanings=FILLER) if "lesser" in it.meanings else it for it in tokens_of]
             del left[before:]
             rest = list(itertools.dropwhile(self.is_connector, many[behind:behind + 2]))
             if kind == "R" and not before and rest and "open" in rest[0].meanings:
@@ -345,8 +355,11 @@ class Reader:
     def date(self, token: Token, at: int) -> None:
         """Reads a date in numbers."""
         found = date_of(token, self.order)
-        self.is_undecided = self.is_undecided or (token.kind == "dmy" and not self.order and found is not None
-                                                  and found[0] != found[1])
+        if self.has_quarters and (both := dates.quarter_or_month(token.text)):
+            found = both
+        self.is_undecided = self.is_undecided or (
+            (token.kind == "dmy" and not self.order or token.kind == "ym" and self.has_quarters)
+            and found is not None and found[0] != found[1])
         point = self.point
         if found is None:
             self.leave(token)
@@ -388,11 +401,14 @@ class Reader:
         point.date_at = point.count
 
     def is_behind_numbers(self, at: int) -> bool:
-        """Returns whether the range of dates that begins at a place is behind one of numbers."""
+        """Returns whether the range of dates that begins at a place is behind one of numbers, as in `v.1-10 1990-1999`
+        and `v.5- 2001-`."""
         rest = self.tokens[at + 1:at + 3]
+        is_range = bool(rest) and self.is_connector(rest[0]) and (
+            len(rest) == 1 or rest[1].kind in DATES or "open" in rest[1].meanings)
+        has_numbers = bool(self.point.volume or self.point.bare) or self.point.is_empty() and self.tokens[at].is_apart
         return (self.left is not None and not self.left.has_date() and bool(self.left.volume)
-                and not self.point.has_date() and bool(self.point.volume) and self.depth == 0
-                and len(rest) == 2 and self.is_connector(rest[0]) and rest[1].kind in DATES)
+                and not self.point.has_date() and has_numbers and self.depth == 0 and is_range)
 
     def has_issue_behind(self, at: int) -> bool:
         """Returns whether an issue follows a date, as in `1.1990,2`: the number before the year is a volume."""
@@ -409,6 +425,7 @@ class Reader:
         """Reads a word by what it means here."""
         token, point = self.tokens[at], self.point
         means = token.meanings
+        self.is_only = self.is_only or "only" in means
         following = self.number_at(at + 1)
         if following and means & {"volume", "issue"}:
             number = self.tokens[following]
@@ -539,6 +556,9 @@ class Reader:
             self.leave(token)
             self.is_spoilt = True
         elif text == "+" and self.point.has_date():
+            if self.left is not None and self.left.has_date() and not token.is_apart:
+                # `2000-2005+` has come to 2005, and goes on.
+                self.point = Point()
             self.open_end()
         elif text not in KNOWN and not self.is_paired(at):
             # `>1995` is not 1995.
@@ -647,15 +667,19 @@ class Reader:
             # `lacks v.3-5`: nobody knows their dates.
             self.leave(self.tokens[at])
             self.is_broken = True
-        elif 0 < self.piece < len(self.pieces):
+        elif self.piece < len(self.pieces) and (self.piece or at and "filler" not in self.tokens[at - 1].meanings):
+            # `v.5 (1994) missing`, and not `1990-2000 with gaps`
             self.pieces[self.piece:] = [it._replace(is_missing=True) for it in self.pieces[self.piece:]]
         else:
             self.leave(self.tokens[at])
 
     def lesser(self) -> None:
-        """Notes that a piece is about something less than the text online: it has no range."""
+        """Notes that a piece is about something less than the text online: it has no range, or one that is missing if
+        only that is there."""
         self.is_lesser = True
-        if self.pieces[self.piece:]:
+        if self.is_only:
+            self.pieces[self.piece:] = [it._replace(is_missing=True) for it in self.pieces[self.piece:]]
+        elif self.pieces[self.piece:]:
             del self.pieces[self.piece:]
             self.unread.append("a range of something else")
 
@@ -685,7 +709,7 @@ class Reader:
             # `not available` without what is not.
             self.unread.append("not")
             self.is_hidden = True
-        self.is_missing = self.is_negated = self.is_lesser = self.is_broken = False
+        self.is_missing = self.is_negated = self.is_lesser = self.is_only = self.is_broken = False
         self.piece = len(self.pieces)
 
     def end_range(self) -> None:
@@ -702,6 +726,8 @@ class Reader:
         two = end_of(point) if left is not None else None
         if self.is_negated:
             # `1995-2001, not 1997`, and `1997 not available` in a note.
+            self.is_missing = True
+        elif self.is_lesser and self.is_only:
             self.is_missing = True
         elif self.is_lesser:
             is_spoilt = True
@@ -760,15 +786,18 @@ class Reader:
         # 1998`, is one more gap.
         whole: Range | None = None
         for piece in merged(self.pieces):
-            if piece.is_missing and not held:
+            if not held and (piece.is_missing or gaps and piece.range.first and piece.range.last
+                             and not any(is_within([it], piece.range) for it in gaps)):
+                # `lacks 1975, 1981-1982`
                 gaps.append(piece.range)
             elif piece.is_missing or whole and piece.range.has_dates() and is_within([piece.range], whole):
                 whole = whole or hull(held)
                 held = [it for one in held for it in without(one, piece.range)]
+            elif piece.range.has_dates() and self.unread and held and is_within([piece.range], held[-1]):
+                # Of `1966-1994 [1970 incomplete]`, a part that does not read may be missing.
+                held[-1:] = without(held[-1], piece.range)
             elif piece.range.has_dates():
-                # Of `1966-1994 [1970 incomplete]`, a part that does not read has no row of its own.
-                if not (self.unread and held and is_within([piece.range], held[-1])):
-                    held.append(piece.range)
+                held.append(piece.range)
             else:
                 self.unread.append("numbers without a date")
         for gap in gaps:
@@ -894,6 +923,21 @@ def within(held: Range, limit: Range) -> Range | None:
     if end and (not last or end[1] < last[1]):
         found = found._replace(last=limit.last, last_volume="", last_issue="")
     return None if found.is_reversed() else found
+
+
+def are_apart(many: Iterable[Statement]) -> bool:
+    """Returns whether no day is in two of some statements."""
+    return not any(within(a, b) for one, two in itertools.combinations(many, 2) for a in one.ranges for b in two.ranges)
+
+
+def common(many: list[Statement]) -> Statement:
+    """Returns what all of some statements say, as one that is only partly read if they differ."""
+    ranges, embargo = many[0].ranges, many[0].embargo
+    for one in many[1:]:
+        ranges = tuple(both for a in ranges for b in one.ranges if (both := within(a, b)))
+        embargo = combined(embargo, one.embargo)
+    is_same = all(it.ranges == ranges and it.embargo == embargo for it in many)
+    return Statement(ranges, embargo, "" if is_same else "statements that differ")
 
 
 def shortest(day: datetime.date, turn: tuple[int, int]) -> str:

@@ -56,7 +56,19 @@ DAY = datetime.timedelta(days=1)
 SERIAL = re.compile("[1-4][0-9]{4}")
 FIRST_SERIAL = datetime.date(1899, 12, 30)
 
-NOT_READ = "a date that does not read is open"
+# Years of two digits: behind an apostrophe, a month or the numbers of a day, and in a range of their own.
+SHORT_YEAR = re.compile(r"['’]\s?[0-9]{2}(?![0-9])|(?<![0-9])[0-9]{2}(?![0-9])")
+SHORT_END = r"(?=$|[\s,;:)\]|]|-(?![0-9?]))"
+APOSTROPHE = re.compile(rf"(?<![^\W_])['’]([0-9]{{2}}){SHORT_END}")
+SHORT_DATE = re.compile(rf"(?<![0-9/.-])([0-9]{{1,2}}[/.][0-9]{{1,2}}[/.])([0-9]{{2}}){SHORT_END}")
+SHORT_RANGE = re.compile(r"([0-9]{2})(?:/([0-9]{2}))? ?[-‐‑–—] ?([0-9]{2})(?:/([0-9]{2}))?")
+MONTH_SHORT = re.compile(r"(?<![^\W_])(?<![0-9] )(?<![0-9]-)([^\W\d_]{3,9})\.?(?:[/-]| ?['’])"
+                         rf"([0-9]{{2}}){SHORT_END}")
+# A number from one to four behind a year, which may be a quarter.
+QUARTER = re.compile(rf"{YEAR}/([1-4])")
+QUARTERS_IN = re.compile(rf"(?<![0-9/.-]){YEAR}/([0-9]{{1,2}})(?![0-9/.-])")
+
+NOT_READ = "not read: the other date counts alone"
 UNDECIDED = "day and month are not decided: the narrower"
 
 
@@ -68,6 +80,8 @@ class Order:
         self.fixed = fixed
         self.seen: set[str] = set()
         self.has_volumes = self.is_needed = False
+        # The numbers behind a year and a slash: `1990/4` is a quarter, or a month.
+        self.numbers: set[int] = set()
 
     def look(self, cells: Iterable[str]) -> None:
         """Notes the orders that the cells prove, and whether a cell needs one."""
@@ -89,6 +103,16 @@ class Order:
         """Notes whether a statement has a volume and its year, as `16.1940`."""
         self.has_volumes = self.has_volumes or any(VOLUME_NOTATION.search(it) for it in cells)
 
+    def look_for_quarters(self, cells: Iterable[str]) -> None:
+        """Notes the numbers behind a year and a slash."""
+        for cell in cells:
+            if "/" in cell:
+                self.numbers |= {int(it[1]) if it[1][0] != "0" else 12 for it in QUARTERS_IN.findall(cell)}
+
+    def has_quarters(self) -> bool:
+        """Returns whether no number behind a year is above those of quarters."""
+        return bool(self.numbers) and max(self.numbers) <= 4
+
     def __str__(self) -> str:
         """`dmy`, `mdy`, or nothing if the list does not decide it."""
         return self.fixed or (min(self.seen) if len(self.seen) == 1 else "")
@@ -98,6 +122,35 @@ class Read(NamedTuple):
     """What a cell says, and the rule that read it. The text is empty if that end is open, None if nothing is read."""
     text: str | None
     rule: str
+
+
+def long_years(text: str) -> str:
+    """Returns a text in which years of two digits have four, if its signs or words say that they are years."""
+    if YEARS.search(text) or not SHORT_YEAR.search(text):
+        return text
+    if found := SHORT_RANGE.fullmatch(text.strip()):
+        years = [int(it) for it in found.groups() if it]
+        # `95-01`, `88/89-92/93`, and no volumes as `12-15`.
+        if found[2] or found[4] or years[0] > years[-1] and whole_year(found[1]) < whole_year(found[3]):
+            return re.sub("[0-9]{2}", lambda it: whole_year(it[0]), text)
+    text = APOSTROPHE.sub(lambda it: whole_year(it[1]), text)
+    text = SHORT_DATE.sub(lambda it: it[1] + whole_year(it[2]), text)
+    return MONTH_SHORT.sub(lambda it: f"{it[1]} {whole_year(it[2])}" if folded(it[1]) in MONTHS else it[0], text)
+
+
+def whole_year(digits: str) -> str:
+    """Returns the year of two digits: the last one that is not after the next year."""
+    now = datetime.date.today().year + 1
+    return str(now - (now - int(digits)) % 100)
+
+
+def quarter_or_month(text: str) -> tuple[str, str] | None:
+    """Returns the narrower first and last date of `1990/4`, which may be a quarter or a month, or None."""
+    found = QUARTER.fullmatch(text)
+    if not found:
+        return None
+    year, number = int(found[1]), int(found[2])
+    return date_text(year, 3 * number - 2), date_text(year, number)
 
 
 def date_text(year: int, month: int = 0, day: int = 0) -> str:
@@ -123,7 +176,7 @@ def outside(date: str, is_after: bool) -> str:
 def read(cell: str, is_last: bool, order: str) -> Read:
     """Reads the date of a cell, as a first or as a last one. `order` is that of day and month, empty if undecided."""
     bare = cell.strip(" ")
-    now = APART.sub(r"\1", re.sub(r"\.0+$", "", TIME.sub("", plain(cell))))
+    now = APART.sub(r"\1", re.sub(r"\.0+$", "", TIME.sub("", plain(long_years(cell)))))
     if is_last and re.search(r"(?<![0-9])9999", now):
         return Read("", "9999 is an open end")
     if not bare or strict.date(bare):

@@ -162,15 +162,20 @@ def find(text: TextIO, renamed: dict[str, str]) -> Form:
 
 
 def with_second_line(form: Form, first: list[tuple[int, str]], renamed: dict[str, str]) -> Form:
-    """Returns a form whose header is joined with the line below, if that is its second line."""
-    found = records(iter(first), SEPARATORS[form.separator], COLUMNS)
-    second = next((it for it in found if it.line > form.line), None)
-    if not second or len(second.cells) > COLUMNS:
-        return form
+    """Returns a form whose header is joined with the line below, if that is its second line, or with the line above, if
+    the header is the second line of that."""
+    found = [it for it in records(iter(first), SEPARATORS[form.separator], COLUMNS) if len(it.cells) <= COLUMNS]
+
     def label(cell: str) -> str | None:
         return renamed.get(cell.strip()) or labels.label(cell)
-    joined = labels.with_second(form.header, second.cells, label)
-    return form._replace(header=joined, line=second.line) if joined else form
+
+    second = next((it for it in found if it.line > form.line), None)
+    if second and (joined := labels.with_second(form.header, second.cells, label)):
+        return form._replace(header=joined, line=second.line)
+    above = next((it for it in reversed(found) if it.line < form.line), None)
+    joined = labels.with_second(above.cells, form.header, label) if above else []
+    is_better = len({*map(label, joined)} - {None}) > len({*map(label, form.header)} - {None})
+    return form._replace(header=joined) if is_better else form
 
 
 def nearest(counted: list[tuple[int, Form]], first: list[tuple[int, str]]) -> str:

@@ -198,6 +198,21 @@ def statement_of(many: list[dict[str, str]]) -> str:
                      for first, last in ends)
 
 
+def written_out(cell: str) -> str:
+    """Returns a list of ranges in a cell, as `[{"start": "1990", "end": null}]`, as a statement, or nothing."""
+    try:
+        value = json.loads(cell if '"' in cell else cell.replace("'", '"').replace("None", "null"))
+    except (json.JSONDecodeError, RecursionError):
+        return ""
+    many = value if isinstance(value, list) else [value]
+    if not many or not all(isinstance(it, dict) for it in many) or len(many) > MOST_RANGES:
+        return ""
+    found = ranges_of([(it, Flat(it, "", 0)) for it in many])
+    # A text that is no date may be an embargo, or a note.
+    is_whole = all(label(key) in DATES for it in found for key, text in it.items() if text)
+    return statement_of(found) if found and is_whole else ""
+
+
 def numbers_of(many: list[Flat], name: str) -> dict[str, str]:
     """Returns the numbers of a list of objects by what their other texts say they are, or nothing if it has another
     object, as one with a title. Objects without an ISSN or ISBN are other numbers of the title."""

@@ -283,7 +283,7 @@ class Columns:
         stated = dated or stated
         own = [it for it in stated if is_own(self.header[it])]
         is_apart = all(APART & {*folded(self.header[it]).split()} for it in stated)
-        if len(stated) == 1 or len(stated) == 2 and len(own) == 1 or stated and is_apart:
+        if stated and (not own or is_apart or len(stated) == 1 or len(stated) == 2 and len(own) == 1):
             for place in sorted(stated, key=lambda it: it in own):
                 self.give(place, "coverage")
             return ", ".join(self.header[it] for it in stated)
@@ -292,6 +292,25 @@ class Columns:
             return ""
         first = self.give(found[0], "date_first_issue_online")
         return f"{first}, {self.give(found[1], 'date_last_issue_online')}"
+
+    def guess_end(self, records: list[list[str]], is_date: Callable[[str, str], bool],
+                  is_range: Callable[[str, str], bool]) -> str:
+        """Gives the label of the one end of dates to the only column without one that has dates, if a column has the
+        label of the other end, and no record would end before it begins. Returns its header."""
+        missing = [it for it in ("date_first_issue_online", "date_last_issue_online") if it not in self.places]
+        if len(missing) != 1 or not (other := self.places.get(
+                "date_first_issue_online" if missing[0].startswith("date_last") else "date_last_issue_online")):
+            return ""
+        is_last = missing[0].startswith("date_last")
+        found = []
+        for place in self.guess_dates(records, is_date):
+            text = folded(self.header[place])
+            ends = [(it[place] if place < len(it) else "", it[other[0]] if other[0] < len(it) else "")
+                    for it in records]
+            if not has_word("first" if is_last else "last", text, frozenset(text.split())) and all(
+                    is_range(there, here) if is_last else is_range(here, there) for here, there in ends):
+                found.append(place)
+        return self.give(found[0], missing[0]) if len(found) == 1 else ""
 
     def find_marks(self, records: list[list[str]], range_of: Callable[[str], tuple[str, str] | None],
                    is_mark: Callable[[str], bool]) -> None:
@@ -340,6 +359,12 @@ class Columns:
     def filled(self, cells: list[str], name: str) -> list[str]:
         """Returns the different values of a label in a record."""
         return list(dict.fromkeys(it.strip() for it in self.cells(cells, name) if it.strip()))
+
+    def foremost(self, cells: list[str], name: str) -> list[str]:
+        """Returns the different values of a label in a record, of the columns with the best rank that have any."""
+        filled = [(rank(self.header[at]), cells[at].strip()) for at in self.places.get(name, ())
+                  if at < len(cells) and cells[at].strip()]
+        return list(dict.fromkeys(text for ranked, text in filled if ranked == min(filled)[0]))
 
     def cells(self, cells: list[str], name: str, skipped: int = 0) -> list[str]:
         """Returns the cells of all columns of a label, after the first `skipped` ones."""

@@ -8,6 +8,7 @@ import re
 from typing import Any, Callable, NamedTuple
 
 from . import coverage, dates, kinds, labels, strict, values, volumes
+from .beside import NOTHING
 from .form import Record
 from .record import (DATE, DATES, IN_PAIRS, ISSUES, LONG, NUMBERS, PUBLISHED, SIGNS, VOLUMES, WIDENING, Converter,
                      has_number_beside, has_year_beside)
@@ -80,9 +81,11 @@ class Shortcut:
         settings, places = converter.settings, converter.columns.places
         self.is_open = not (
             converter.several or converter.cited or converter.status or converter.columns.marks or converter.numbered
-            or converter.columns.is_free or settings.constants or settings.replaced or settings.unwrapped
-            or converter.chooser.choices or converter.chooser.where or any(it in places for it in OWN))
+            or converter.columns.is_free or settings.has_quarters or settings.constants or settings.replaced
+            or settings.unwrapped or converter.chooser.choices or converter.chooser.where
+            or any(it in places for it in OWN))
         self.converter, self.width = converter, converter.width
+        self.beside = [it for it, _ in converter.beside_columns]
         self.first_cell = converter.header[0] if converter.header else ""
         at = {label: place for place, label in enumerate(strict.LABELS)}
         self.url, self.embargo, self.notes = at["title_url"], at["embargo_info"], at["notes"]
@@ -135,9 +138,11 @@ class Shortcut:
                 cells[place] = text
             read.append(taken)
         first, last, one, two = read[4:8]
+        if self.beside and any(self.converter.said(at, it) != NOTHING for at in self.beside for it in given[at:at + 1]):
+            return None
         if not first and cells[self.embargo][:1] in ("R", "r") or cells[self.notes] and not self.converter.is_kbart:
             return None
-        if not first and not last and any(has_year_beside(cells[it]) for it in self.issues):
+        if not first and not last and (self.beside or any(has_year_beside(cells[it]) for it in self.issues)):
             return None
         if first and last and first > last or one is not None and two is not None and one > two:
             return None

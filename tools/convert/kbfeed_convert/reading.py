@@ -3,6 +3,7 @@ import argparse
 import codecs
 import io
 import os
+import re
 from typing import IO, Any, Iterator, NamedTuple
 
 from . import dates, encoding, form, identifiers, labels, mapping, source, strict, unused
@@ -74,7 +75,7 @@ def opened(given: argparse.Namespace, name: str) -> Opened:
         "columns": [{"header": cell, "label": label} for cell, label in zip(columns.header, columns.names)],
         "unused": [cell for cell in columns.unused() if not rules.uses(cell)]}
     settings = Settings(given.type, rules.constants, rules.replaced, str(order), tuple(rules.unwrapped),
-                        order.has_volumes)
+                        order.has_volumes, order.has_quarters())
     return Opened(text, shape, columns, rules, settings, head, warnings)
 
 
@@ -129,6 +130,8 @@ def guessed_columns(text: io.TextIOWrapper, shape: form.Form, columns: labels.Co
         found["titles"] = columns.guess_title(cells)
     if "coverage" not in columns.places and not any(it in columns.places for it in DATES):
         columns.find_marks(cells, unused.range_of, unused.is_mark)
+    if is_guessed and "coverage" not in columns.places:
+        found["other end of the dates"] = columns.guess_end(cells, unused.is_date, unused.is_range)
     columns.keep_dates(cells, lambda cell: bool(dates.YEARS.search(cell)))
     return [f"no label says which column has the {what}: it is guessed to be {header!r}"
             for what, header in found.items() if header]
@@ -140,6 +143,8 @@ def held_titles(text: io.TextIOWrapper, shape: form.Form, columns: labels.Column
     available`, or for the only one whose cells all say whether it is, by yes and no, and a warning for each."""
     places = [it for it, header in columns.left_over() if unused.may_be_held(header)]
     places += columns.places.get("access_type", [])
+    sure = {*places}
+    places += [it for it, header in columns.left_over() if it not in sure and unused.label_kind(header) != "harmless"]
     if shape.is_kbart:
         places = [it for it, header in columns.left_over() if folded(header) == ACTION]
     if any(mapping.place_of(shape.header, it) >= 0 for it in rules.where) or not places:
@@ -151,7 +156,8 @@ def held_titles(text: io.TextIOWrapper, shape: form.Form, columns: labels.Column
             if len(cells) <= HELD_CELLS and any(map(str.strip, record.cells)):
                 cells.add(folded("".join(record.cells[place:place + 1])))
     few = {it: cells for it, cells in found.items() if len(cells) <= HELD_CELLS}
-    held = {it: values for it, cells in few.items() if (values := unused.others(cells))}
+    held = {it: values for it, cells in few.items()
+            if (values := unused.others(cells)) and (it in sure or unused.are_held(cells))}
     said = {it: values for it, cells in few.items() if (values := unused.held_values(columns.header[it], cells))}
     held = said if len(said) == 1 and not held else held
     columns.left_out |= {columns.header[it].strip() for it in held}
@@ -177,14 +183,16 @@ def date_order(text: io.TextIOWrapper, shape: form.Form, columns: labels.Columns
     stated |= chooser.alternatives(stated)
     places = {at for label in DATES for at in columns.places.get(label, ())}
     places |= chooser.alternatives(places) | stated
-    may_have_days, may_have_volumes = may_have(text) if places else (False, False)
+    may_have_days, may_have_volumes, may_have_quarters = may_have(text) if places else (False, False, False)
     has_days = may_have_days and not fixed
-    if has_days or may_have_volumes and stated:
+    if has_days or may_have_quarters or may_have_volumes and stated:
         text.seek(0)
         for record in form.body(text, shape):
             cells = record.cells
             if has_days:
                 order.look(cells[at] for at in places if at < len(cells))
+            if may_have_quarters:
+                order.look_for_quarters(cells[at] for at in places if at < len(cells))
             if may_have_volumes:
                 order.look_for_volumes(cells[at] for at in stated if at < len(cells))
     if order.is_needed and not order.seen:
@@ -199,20 +207,23 @@ def date_order(text: io.TextIOWrapper, shape: form.Form, columns: labels.Columns
 SHAPES = bytes(48 if 48 <= it <= 57 else it if it == 46 else 47 if it in b"/- " or it >= 0xC0 else 120
                for it in range(256))
 BEHIND = bytes(range(0x80, 0xC0))
+QUARTER = re.compile(rb"[12][0-9]{3}/[1-4](?![0-9])")
 
 
-def may_have(text: io.TextIOWrapper) -> tuple[bool, bool]:
-    """Returns whether a list may have a date as 13/04/2001, and a volume as 13.2001, in any cell: a fast look at the
-    bytes of UTF-8."""
+def may_have(text: io.TextIOWrapper) -> tuple[bool, bool, bool]:
+    """Returns whether a list may have a date as 13/04/2001, a volume as 13.2001, and a quarter as 2001/4, in any cell:
+    a fast look at the bytes of UTF-8."""
     if text.encoding not in ("utf-8", "utf-8-sig"):
-        return True, True
+        return True, True, True
     text.seek(0)
-    rest = b""
-    has_days = has_volumes = False
-    while not (has_days and has_volumes) and (chunk := text.buffer.read(1 << 20)):
+    rest = rest_of = b""
+    has_days = has_volumes = has_quarters = False
+    while not (has_days and has_volumes and has_quarters) and (chunk := text.buffer.read(1 << 20)):
         # Digits of full width are digits, too.
         if b"\xef\xbc" in chunk or b"\xf0\x9d" in chunk:
-            return True, True
+            return True, True, True
+        has_quarters = has_quarters or QUARTER.search(rest_of + chunk) is not None
+        rest_of = chunk[-8:]
         shape = rest + chunk.translate(SHAPES, BEHIND)
         rest = shape[-16:]
         has_volumes = has_volumes or b"00.0000" in shape
@@ -221,7 +232,7 @@ def may_have(text: io.TextIOWrapper) -> tuple[bool, bool]:
             while b"//" in shape:
                 shape = shape.replace(b"//", b"/")
             has_days = b"0/0/0000" in shape or b"0/00/0000" in shape
-    return has_days, has_volumes
+    return has_days, has_volumes, has_quarters
 
 
 def name_warnings(given: argparse.Namespace, name: str) -> list[str]:
@@ -272,7 +283,8 @@ def form_warnings(shape: form.Form, shown: str, columns: labels.Columns, order: 
     for label in columns.twice:
         is_joined = label == "coverage" and not any(labels.is_own(columns.header[it]) for it in columns.places[label])
         how = "the numbers of all count" if label in NUMBERS else \
-            "all count" if is_joined else "the first with a value counts"
+            "those count that are apart, and of others what all say" if is_joined else \
+            "the narrowest counts" if label in DATES else "the first with a value counts"
         warnings.append(f"several columns are {label}: {how}")
     if not order.fixed and len(order.seen) > 1:
         warnings.append("some dates have the day first, and some the month: only their year counts. A map decides it")

@@ -5,11 +5,11 @@ import operator
 import re
 from typing import NamedTuple, Sequence
 
-from . import coverage, dates, form, identifiers, jsonlist, kinds, strict, unused, values, volumes
+from . import beside, coverage, dates, form, identifiers, jsonlist, kinds, strict, unused, values, volumes
 from .choosing import Chooser
 from .coverage import Range
 from .identifiers import Number
-from .labels import PARTS, WORDS, Columns, has_word, is_own, rank
+from .labels import ADDRESS, PARTS, WORDS, Columns, has_word, is_own, rank
 from .texts import folded, forget, plain, word_set
 from .tokens import MEANINGS, NONE
 
@@ -33,6 +33,8 @@ DATE = len("2001-12-31")
 MOST_ROWS = 1_000
 
 
+# The texts that separators may have made several cells, and the most cells that they made.
+JOINED, MOST_MORE = ("publication_title", "coverage", "notes", "publisher_name", "first_author"), 20
 VOLUME_YEAR = re.compile(r"\s*([0-9]{1,4}) ?/ ?([0-9]{4})\s*")
 # `12 (1990)`
 NUMBER_FIRST = re.compile(r"\s*[0-9]{1,4} ?\([^()0-9]*[0-9]{4}[^()0-9]*\)\W*")
@@ -51,18 +53,23 @@ IN_PAIRS = {"two years in a date", "a range in one cell"}
 IN_TEXTS = {"the name of a month", "a date in a text", "a year in a text"}
 # The rules by which a row may say more than its source. A list with one of them is not passed on in silence.
 EMBARGO_NOT_READ = "not read: an embargo in another form"
-REVERSED = "the end is before the beginning: both are open"
+REVERSED = "not read: the end is before the beginning"
+EMPTY = "a list without ranges: both ends are open"
+LOST = "not read: the row has no other dates"
+MORE_CELLS = "not read: more cells than the header has"
+CANCELLED = "not read: until when a cancelled title is there"
 PARTLY_READ = "only partly read: the rest is left out"
 STATEMENT_NOT_READ = "not read: no range of it"
-GAP_NOT_READ = "only partly read: a gap in a note"
+GAP_NOT_READ = "only partly read: it may leave something out"
 YEAR_NOT_READ = "not read: a year beside a number"
 ACCESS_NOT_READ = "not read: a year in a kind of access"
 BESIDE = "not read: the dates count beside it"
 NOT_PAIRED = "several dates that make no pairs: the narrowest range"
-SEVERAL = "several columns have a date: the first counts"
+SEVERAL = "several columns have a date: the narrowest counts"
 MANY_ROWS = f"only {MOST_ROWS} rows of a record are made"
 WIDENING = {NOT_PAIRED, EMBARGO_NOT_READ, REVERSED, PARTLY_READ, STATEMENT_NOT_READ, BESIDE, SEVERAL, MANY_ROWS,
-            GAP_NOT_READ, YEAR_NOT_READ, ACCESS_NOT_READ, dates.NOT_READ, dates.UNDECIDED}
+            EMPTY, LOST, MORE_CELLS, CANCELLED, GAP_NOT_READ, YEAR_NOT_READ, ACCESS_NOT_READ, dates.NOT_READ,
+            dates.UNDECIDED}
 
 
 class Change(NamedTuple):
@@ -91,6 +98,7 @@ class Settings(NamedTuple):
     order: str = ""
     unwrapped: tuple[str, ...] = ()
     has_volumes: bool = False
+    has_quarters: bool = False
 
 
 class Draft:
@@ -156,6 +164,9 @@ class Converter:
         self.status = [at for at, header in columns.left_over()
                        if unused.label_kind(header) == "status" and not self.is_kbart
                        and not ENDS & {*folded(header).split()}]
+        # The other columns that no label names, and that may say something of the coverage.
+        self.beside_columns = [(at, plain(header)[:100]) for at, header in columns.left_over()
+                               if unused.label_kind(header) != "harmless" and not self.is_kbart]
         # Whether the header of each column of numbers says that all of them are of its side, as `P-ISSN`.
         self.sided_columns = [not self.is_kbart and bool(of := places.get(label, [])) and all(
             has_word(side, text, frozenset(text.split())) for text in (folded(columns.header[it]) for it in of))
@@ -178,8 +189,8 @@ class Converter:
             return Outcome([], "Header", "the header once more", [])
         if why := self.chooser.not_held(given.cells):
             return Outcome([], "NotHeld", why, [])
-        fields = self.realigned(given.cells)
-        is_realigned = fields is not given.cells
+        fields, joined = self.realigned(given.cells)
+        more = "" if joined else " ".join(given.cells[self.width:]).strip()
         fields = self.chooser.fields(fields)
         cells = self.cells(fields)
         draft = Draft(fields, dict(cells))
@@ -188,10 +199,10 @@ class Converter:
                 draft.put(label, value, "a constant of the map")
             cells = dict(draft.cells)
         before = strict.row(cells)
-        if is_realigned:
-            place = self.columns.places["publication_title"][0]
-            change = Change("publication_title", given.cells[place], fields[place], "separators in a title")
-            draft.changes.append(change)
+        if joined:
+            draft.changes.append(Change(joined, self.sign.join(given.cells)[:LONG], "", "separators in a text"))
+        if more and not self.is_kbart:
+            draft.note("coverage", more[:LONG], MORE_CELLS)
         if self.has_parts:
             self.join_dates(draft)
         self.texts(draft, not text.isprintable())
@@ -204,19 +215,19 @@ class Converter:
         ranges = [Range(draft.cells[DATES[0]], draft.cells[DATES[1]])]
         if kind == "serial":
             ranges = self.ranges(draft)
-            if not self.is_kbart and not any(it.has_dates() for it in ranges):
-                self.note_years(draft)
             self.volumes(draft)
         elif not self.is_kbart:
             if draft.cells[DATES[0]] == jsonlist.EMPTY:
                 # A book has no coverage.
                 draft.cells[DATES[0]] = ""
-            ranges = [self.dates(draft)]
+            ranges = [self.date_columns(draft) or Range("", "")]
         if not ranges:
-            unread = [self.columns.cell(draft.fields, it) for it in ("coverage", *DATES)]
+            said = [self.columns.cell(draft.fields, it) for it in ("coverage", *DATES)]
+            unread = dict.fromkeys([*said, *(it.old for it in draft.unread() if it.rule in WIDENING)])
             why = "no coverage that reads: " + " | ".join(it for it in unread if it)
             return Outcome([], "BadDate", why[:200], draft.unread())
-        if isinstance(before, strict.Row) and not draft.changes and len(ranges) == 1 and pairs == [before_pair(before)]:
+        if (isinstance(before, strict.Row) and not draft.changes and pairs == [before_pair(before)]
+                and ranges == [Range(draft.cells[DATES[0]], draft.cells[DATES[1]])]):
             # Most records of a good list.
             return Outcome([(draft.cells, before)], "", "", [])
         rows: list[tuple[Cells, strict.Row]] = []
@@ -226,9 +237,15 @@ class Converter:
             # The volumes at the two ends of a coverage with gaps are known.
             ends = at == 0, at == len(ranges) - 1
             row, found = self.row(draft, kind, pair, one, ends, bool(rows))
+            if found == "Reversed":
+                draft.changes += [Change(label, day, day, REVERSED) for label, day in zip(DATES, one[:2])]
+                continue
             if isinstance(found, str):
                 return Outcome([], found, reason(draft.cells, kind), draft.unread())
             rows.append((row, found))
+        if not rows:
+            return Outcome([], "Reversed", f"the end is before the beginning: {coverage.shown(ranges)}"[:200],
+                           draft.unread())
         if self.is_kbart and isinstance(before, strict.Row) and not strict.keeps(before, rows[0][1]):
             # A row that the reader takes is passed on, whatever the rules above say.
             return Outcome([(cells, before)], "", "", [])
@@ -260,17 +277,27 @@ class Converter:
                 and (before.print_identifier is not None or not cells[NUMBERS[0]].strip(" "))
                 and (before.online_identifier is not None or not cells[NUMBERS[1]].strip(" ")))
 
-    def realigned(self, fields: list[str]) -> list[str]:
-        """Returns the cells of a record with its title in one, if separators in the title made more cells.
+    def realigned(self, fields: list[str]) -> tuple[list[str], str]:
+        """Returns the cells of a record with a text in one cell whose separators made more cells than the header has,
+        and the label of that cell, if more cells then are what their labels say."""
+        more = len(fields) - self.width
+        if not 0 < more <= MOST_MORE or self.is_kbart or not any(map(str.strip, fields[self.width:])):
+            return fields, ""
+        found = [([*fields[:at], self.sign.join(fields[at:at + more + 1]), *fields[at + more + 1:]], label)
+                 for label in JOINED for at in self.columns.places.get(label, [])]
+        best = max(found, key=lambda it: self.fitting(it[0]), default=(fields, ""))
+        # A coverage that reads with all its parts does so without the last ones, too.
+        is_better = self.fitting(best[0]) + (best[1] == "coverage") > self.fitting(fields)
+        return best if is_better else (fields, "")
 
-        They did if the record has more cells than the header, and an identifier is in its column only then."""
-        more = len(fields) - len(self.header)
-        place = self.columns.places.get("publication_title", [-1])[0]
-        if more <= 0 or place < 0 or self.is_kbart:
-            return fields
-        joined = fields[:place] + [self.sign.join(fields[place:place + more + 1])] + fields[place + more + 1:]
-        found = [any(identifiers.numbers(self.columns.cell(it, label)) for label in NUMBERS) for it in (fields, joined)]
-        return joined if found == [False, True] else fields
+    def fitting(self, fields: list[str]) -> int:
+        """Returns how many columns of a record have what their labels say: numbers, addresses, dates."""
+        cell = self.columns.cell
+        return (sum(bool(identifiers.numbers(cell(fields, it))) for it in NUMBERS)
+                + (ADDRESS.match(cell(fields, "title_url")) is not None)
+                + sum(dates.read(it, bool(at), "").rule != dates.NOT_READ for at, label in enumerate(DATES)
+                      if (it := cell(fields, label)))
+                + bool((said := self.read(cell(fields, "coverage"))).ranges and not said.unread))
 
     def texts(self, draft: Draft, is_unsafe: bool) -> None:
         """Mends the cells that are neither numbers nor dates."""
@@ -293,9 +320,8 @@ class Converter:
                 else:
                     draft.note("embargo_info", recent, EMBARGO_NOT_READ)
         if cells["embargo_info"] and not values.is_embargo(cells["embargo_info"]):
-            if self.is_kbart:
-                draft.note("embargo_info", cells["embargo_info"], EMBARGO_NOT_READ)
-            put("embargo_info", cells["embargo_info"] if self.is_kbart else "", EMBARGO_NOT_READ)
+            draft.note("embargo_info", cells["embargo_info"], EMBARGO_NOT_READ)
+            cells["embargo_info"] = cells["embargo_info"] if self.is_kbart else ""
         for label in [it for it in PUBLISHED if cells[it] and not self.is_kbart]:
             put(label, dates.published(cells[label], self.settings.order), "a date of publication")
         put("coverage_depth", values.depth(cells["coverage_depth"]), "the depth in words")
@@ -381,80 +407,126 @@ class Converter:
                 draft.changes.append(Change(label, cell, cell, rule))
 
     def ranges(self, draft: Draft) -> list[Range]:
-        """Returns the ranges of a record without the gaps that a column of its own has."""
-        noted = self.noted(draft)
+        """Returns the ranges of a record. All days of rows go out here: each cell that may say something of them is
+        used, makes them fewer, or is noted."""
+        if self.is_kbart:
+            return self.held(draft)
+        cells = [(*it, beside.said(*it[:2], self.settings.order, self.settings.has_volumes))
+                 for it in self.beside_cells(draft)]
+        for *_, one in cells:
+            self.wall(draft, one.embargo)
         held = self.held(draft)
-        for gap in noted:
-            held = [part for it in held for part in coverage.without(it, gap)]
-        if not self.is_kbart:
-            held = self.limited(draft, held)
+        if held and not any(it.has_dates() for it in held) and self.has_lost(draft):
+            return []
+        for label, cell, is_limit, one in cells:
+            held = self.lessened(draft, held, label, cell, one.gaps)
+            if one.limits and one.is_used(is_limit):
+                held = self.limited(draft, held, label, cell, one.limits)
+                if one.is_unread:
+                    draft.note(label, cell, GAP_NOT_READ)
+            elif label == "access_type" and has_year_beside(cell):
+                draft.note(label, cell, ACCESS_NOT_READ)
+            elif one.may_lessen(held):
+                draft.note(label, cell, GAP_NOT_READ)
+        for label, cell in self.cancelled(draft, held):
+            limits = [it for *_, one in cells for it in one.limits]
+            if not limits:
+                draft.note(label, cell, CANCELLED)
+                return []
+            held = self.limited(draft, held, label, cell, tuple(limits))
+        return [] if any(it.rule == EMBARGO_NOT_READ for it in draft.changes) else self.without_gaps(draft, held)
+
+    def cancelled(self, draft: Draft, held: list[Range]) -> list[tuple[str, str]]:
+        """Returns the status by which a title is cancelled whose coverage has no end."""
+        if all(it.last for it in held):
+            return []
+        return [(header, cell) for at, header in self.beside_columns for cell in draft.fields[at:at + 1]
+                if at in self.status and folded(cell) in beside.CANCELLED][:1]
+
+    def beside_cells(self, draft: Draft) -> list[tuple[str, str, bool]]:
+        """Returns the cells beside the coverage that may say something of it, with the labels of their columns, and
+        whether a range there is what the library has."""
+        given = [(label, cell, True) for label in ("access_type", "notes")
+                 for cell in dict.fromkeys([draft.cells[label], *self.columns.cells(draft.fields, label)])]
+        given += [(header, cell, at in self.status) for at, header in self.beside_columns
+                  for cell in draft.fields[at:at + 1]]
+        return [it for it in given if beside.may_say(it[1])]
+
+    def said(self, place: int, cell: str) -> beside.Said:
+        """Returns what a cell of a column that no label names says of the coverage."""
+        return beside.said(self.header[place], cell, self.settings.order,
+                           self.settings.has_volumes) if beside.may_say(cell) else beside.NOTHING
+
+    def uses(self, place: int, cell: str) -> bool:
+        """Returns whether a cell of a column that no label names takes days away."""
+        return self.said(place, cell).is_used(place in self.status)
+
+    def has_lost(self, draft: Draft) -> bool:
+        """Notes the cells of columns that are not used that have dates, if no other column has any, and the years in
+        columns of numbers, as `Vol. 3 (1995)`."""
+        lost = [(label, cell, YEAR_NOT_READ) for label in (*VOLUMES, *ISSUES, "volumes")
+                for cell in self.columns.cells(draft.fields, label) if has_year_beside(cell)]
+        lost += [(header, cell, LOST) for at, header in self.beside_columns for cell in draft.fields[at:at + 1]
+                 if beside.is_dated(header, cell)]
+        for it in lost:
+            draft.note(*it)
+        return bool(lost)
+
+    def limited(self, draft: Draft, held: list[Range], label: str, cell: str,
+                limits: tuple[Range, ...]) -> list[Range]:
+        """Returns the ranges without the days that an access, a status or a note leaves out, as `access until 2017`."""
+        left = beside.within(held, limits)
+        if left is None:
+            draft.note(label, cell, GAP_NOT_READ)
+        elif left != held:
+            draft.changes.append(Change(label, cell, coverage.shown(left), "a coverage in other words"))
+        return held if left is None else left
+
+    def without_gaps(self, draft: Draft, held: list[Range]) -> list[Range]:
+        """Returns the ranges without what the column of gaps has."""
         cell = self.columns.cell(draft.fields, "gaps") if "gaps" in self.columns.places else ""
-        if self.is_kbart or not cell or folded(cell) in dates.NONE or values.YES_NO.get(folded(cell)) == "no":
+        if not cell or beside.says_no(cell):
             return held
         gaps = self.read(cell)
-        if gaps.unread or not gaps.ranges:
+        if gaps.unread or not gaps.ranges and not gaps.gaps:
             draft.note("coverage", cell, PARTLY_READ)
-        for gap in gaps.ranges:
-            held = [part for it in held for part in coverage.without(it, gap)] if gap.has_dates() else held
-        return held
+        return self.lessened(draft, held, "coverage", cell, gaps.ranges + gaps.gaps)
 
-    def limited(self, draft: Draft, held: list[Range]) -> list[Range]:
-        """Returns the ranges without the days that an access, a status or a note leaves out, as `access until 2017`."""
-        given = [("access_type", draft.cells["access_type"]), ("notes", draft.cells["notes"]),
-                 *(("status", it) for at in self.status for it in draft.fields[at:at + 1])]
-        for label, cell in given:
-            if not has_year_beside(cell):
-                continue
-            said = self.read(cell)
-            # `Open access since 2015` says nothing of what else the library has.
-            is_range = (not said.unread and any(it.first != it.last for it in said.ranges)
-                        and len(held) * len(said.ranges) <= MOST_ROWS and not FREE & {*folded(cell).split()})
-            left = [part for it in held for limit in said.ranges if (part := coverage.within(it, limit))] \
-                if is_range else []
-            if is_range and left:
-                if left != held:
-                    draft.changes.append(Change(label, cell, coverage.shown(left), "a coverage in other words"))
-                    held = left
-            elif label == "access_type":
-                draft.note(label, cell, ACCESS_NOT_READ)
-        return held
+    @staticmethod
+    def lessened(draft: Draft, held: list[Range], label: str, cell: str, gaps: tuple[Range, ...]) -> list[Range]:
+        """Returns the ranges without the gaps that a cell says."""
+        left = beside.without(held, gaps)
+        if left != held:
+            draft.changes.append(Change(label, cell, coverage.shown(left), "a gap in other words"))
+        return left
 
     def read(self, cell: str) -> coverage.Statement:
         """Returns what a statement says in the notation of the list."""
-        return coverage.read(cell, self.settings.order, self.settings.has_volumes)
+        return coverage.read(cell, self.settings.order, self.settings.has_volumes, self.settings.has_quarters)
 
-    def noted(self, draft: Draft) -> tuple[Range, ...]:
-        """Puts the embargo that a note says and nothing else, as `Latest 12 months not available`, and returns the gaps
-        that it says."""
-        note = draft.cells["notes"]
-        if not note or self.is_kbart or note.isalpha():
-            return ()
-        said = self.read(note)
-        if not said.unread and not any(it.has_dates() for it in said.ranges):
-            self.wall(draft, said.embargo)
-        if said.gaps and said.unread != coverage.NO_DATE:
-            draft.note("notes", note, GAP_NOT_READ)
-        return said.gaps
-
-    def stated_cell(self, fields: list[str]) -> str:
-        """Returns the coverage in one cell. Of several columns all count, unless one is the library's own."""
+    def statement(self, fields: list[str]) -> tuple[str, coverage.Statement | None]:
+        """Returns the coverage in one cell, and what it says. Of several columns all count whose ranges are apart, and
+        of others what all of them say, unless one is the library's own."""
         places = self.columns.places.get("coverage", [])
-        if len(places) < 2 or any(is_own(self.columns.header[it]) for it in places) or self.chooser.choices:
-            return self.columns.cell(fields, "coverage")
-        cells = [fields[it].strip() for it in sorted(places) if it < len(fields)]
-        return "; ".join(dict.fromkeys(it for it in cells if it))
+        cell = self.columns.cell(fields, "coverage")
+        if len(places) > 1 and not any(is_own(self.columns.header[it]) for it in places) and not self.chooser.choices:
+            cells = dict.fromkeys(it for at in sorted(places) for it in map(str.strip, fields[at:at + 1])
+                                  if it and folded(it) not in dates.NONE)
+            cell, many = "; ".join(cells), [self.read(it) for it in cells]
+            if len(many) > 1 and all(it.ranges and not it.unread for it in many) and not coverage.are_apart(many):
+                return cell, coverage.common(many)
+        return cell, self.read(cell) if folded(cell) not in dates.NONE else None
 
     def held(self, draft: Draft) -> list[Range]:
         """Returns the range of each row: several if a coverage in one cell has gaps, none if nothing of it reads."""
-        cell = self.stated_cell(draft.fields)
-        statement = self.read(cell) if folded(cell) not in dates.NONE else None
+        cell, statement = self.statement(draft.fields)
         if statement and not any(draft.cells[it].strip() for it in DATES):
             return self.stated(draft, cell, statement)
         for rule in () if self.is_kbart else (self.pairs, self.grouped, self.alone, self.marked):
             if (apart := rule(draft)) is not None:
                 return apart
-        given = self.dates(draft)
-        if given.is_reversed() and any(it.rule == dates.UNDECIDED for it in draft.changes):
+        given = self.date_columns(draft)
+        if given is None or given.is_reversed() and any(it.rule == dates.UNDECIDED for it in draft.changes):
             # No day is in the coverage for certain.
             return []
         if statement and not self.is_kbart:
@@ -462,6 +534,9 @@ class Converter:
                 return self.stated(draft, cell, statement)
             if dates.YEARS.search(cell) or statement.embargo:
                 draft.note("coverage", cell, BESIDE)
+                self.wall(draft, statement.embargo)
+                if statement.ranges and not statement.unread:
+                    return beside.within([given], statement.ranges) or []
         begin = coverage.window(draft.cells["embargo_info"], self.today)
         if begin and not given.first and not self.is_kbart:
             draft.put(DATES[0], begin, "the recent issues of an embargo")
@@ -502,8 +577,10 @@ class Converter:
         if embargo and (not old or values.is_embargo(old)):
             draft.put("embargo_info", coverage.combined(old, embargo) if old else embargo, "an embargo in a coverage")
 
-    def dates(self, draft: Draft) -> Range:
-        """Returns the range of the two columns of dates."""
+    def date_columns(self, draft: Draft) -> Range | None:
+        """Returns the range of the two columns of dates. If one of them does not read it is the other one alone, and
+        None if both do not."""
+        unread = set()
         for at, label in enumerate(DATES):
             cell = draft.cells[label]
             if label in self.numbered and (parts := VOLUME_YEAR.fullmatch(cell)):
@@ -511,25 +588,50 @@ class Converter:
                 draft.put(label, parts[2], "a number beside a date")
                 draft.put(VOLUMES[at], parts[1], "a number beside a date")
                 continue
-            if label in self.several and len(given := self.columns.filled(draft.fields, label)) > 1:
-                draft.note(label, " | ".join(given), SEVERAL)
-            found = dates.read(cell, bool(at), self.settings.order)
+            found = self.narrowest(draft, label, bool(at))
             # A date that reads as it is says nothing else.
             if len(cell) > DATE or found.rule == dates.NOT_READ:
                 embargo = coverage.wall(cell, bool(at))
                 self.wall(draft, embargo)
                 if embargo and found.rule == dates.NOT_READ:
                     found = dates.Read("", "an embargo in a coverage")
+            if found.rule == dates.NOT_READ:
+                draft.note(label, cell, EMPTY if cell == jsonlist.EMPTY else found.rule)
+                draft.cells[label] = ""
+                if cell != jsonlist.EMPTY:
+                    unread.add(at)
             draft.put(label, found.text or "", found.rule)
             if has_number_beside(cell, found.rule):
                 self.numbers_beside(draft, cell, at)
-        return Range(draft.cells[DATES[0]], draft.cells[DATES[1]])
+        ends = [draft.cells[it] for it in DATES]
+        known = [it for at, it in enumerate(ends) if at not in unread and it]
+        if unread:
+            return Range(known[0], known[0]) if known else None
+        return Range(*ends)
+
+    def narrowest(self, draft: Draft, label: str, is_last: bool) -> dates.Read:
+        """Returns the date of a label. Of several columns it is the latest first date, or the earliest last one, of
+        those that are the library's own, or else of all."""
+        cell = draft.cells[label]
+        given: list[str] = []
+        if label in self.several:
+            if len(every := self.columns.filled(draft.fields, label)) > 1:
+                draft.note(label, " | ".join(every), SEVERAL)
+            given = self.columns.foremost(draft.fields, label)
+        if len(given) < 2:
+            if self.settings.has_quarters and (both := dates.quarter_or_month(cell.strip())):
+                return dates.Read(both[is_last], dates.UNDECIDED)
+            return dates.read(cell, is_last, self.settings.order)
+        found = [dates.read(it, is_last, self.settings.order) for it in given]
+        days = [(strict.date(it.text), it) for it in found if it.text]
+        return (min if is_last else max)(days, key=lambda it: it[0] or (), default=(None, found[0]))[1]
 
     def alone(self, draft: Draft) -> list[Range] | None:
         """Returns the ranges of a cell that has both dates, if the column of the other one is empty, or None."""
         for at, label in enumerate(DATES):
             cell = draft.cells[label]
-            if cell.strip() and not draft.cells[DATES[1 - at]].strip() and len(dates.YEARS.findall(cell)) > 1:
+            years = dates.YEARS.findall(dates.long_years(cell))
+            if cell.strip() and not draft.cells[DATES[1 - at]].strip() and len(years) > 1:
                 said = self.read(cell)
                 # `1887-1888` may be the two years of one volume.
                 if not said.unread and any(it.last and it.first[:4] != it.last[:4] and not is_next(it)
@@ -611,13 +713,6 @@ class Converter:
             if numbers[at] and labels[at] not in self.columns.places:
                 draft.put(labels[at], numbers[at], "a number beside a date")
 
-    def note_years(self, draft: Draft) -> None:
-        """Notes the years in columns of numbers of a record without dates, as `Vol. 3 (1995)`."""
-        for label in (*VOLUMES, *ISSUES, "volumes"):
-            for cell in self.columns.cells(draft.fields, label):
-                if has_year_beside(cell):
-                    draft.note(label, cell, YEAR_NOT_READ)
-
     def volumes(self, draft: Draft) -> None:
         """Puts the volumes of a record, unless the reader would take none of them."""
         old = draft.cells[VOLUMES[0]], draft.cells[VOLUMES[1]]
@@ -651,12 +746,7 @@ class Converter:
                     row[label] = number
         if is_further and one[:2] != (draft.cells[DATES[0]], draft.cells[DATES[1]]):
             draft.changes.append(Change("coverage", "", coverage.shown([one]), "a row of its own for a further range"))
-        found = strict.row(row)
-        if found == "Reversed":
-            draft.changes += [Change(label, day, "", REVERSED) for label, day in zip(DATES, one[:2])]
-            row[DATES[0]] = row[DATES[1]] = ""
-            found = strict.row(row)
-        return row, found
+        return row, strict.row(row)
 
 
 def groups(columns: Columns) -> list[list[int]]:

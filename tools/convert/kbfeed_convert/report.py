@@ -11,7 +11,8 @@ from .texts import counted
 from .values import PLACEHOLDER
 
 # The rules that guess, lose or add something.
-DOUBTFUL = re.compile("not read|not decided|placeholder|no link|rows|begin again|is open|are open|decide the type")
+DOUBTFUL = re.compile("not read|partly read|narrowest|not decided|placeholder|no link|rows|begin again|are open"
+                      "|decide the type")
 PLACEHOLDER_BEGIN = re.compile(r"[\[{<%$]")
 # How many different placeholders are counted.
 PLACEHOLDERS = 100
@@ -203,7 +204,7 @@ quoted = json.JSONEncoder(ensure_ascii=False).encode
 
 def change_text(label: str, old: str, new: str, rule: str) -> str:
     """Returns a change as a part of JSON, without the number of its record."""
-    return f'"label": "{label}", "from": {quoted(old)}, "to": {quoted(new)}, "rule": {quoted(rule)}}}'
+    return f'"label": {quoted(label)}, "from": {quoted(old)}, "to": {quoted(new)}, "rule": {quoted(rule)}}}'
 
 
 def as_json(value: Any) -> str:

@@ -1,20 +1,25 @@
 """Coverage as databases have it: `$obj->parsedDate(">=",1995,1,undef) && $obj->timediff(">","1y")` of SFX, and lists of
-issues, `(1995)[1]1,2,3,4(1996)[2]1,2`, of Crossref.
+issues, `(1995)[1]1,2,3,4(1996)[2]1,2` or `1995:(1,2,3,4)`, of Crossref, and lists of ranges in JSON.
 
 They are written out as a statement, which the grammar of coverage reads."""
 import re
+
+from . import jsonlist
 
 CALL = re.compile(r"(?:\$?\w{1,20} ?-> ?)?(parsedDate|timediff) ?\(([^()]{0,100})\)", re.I)
 DATES = {">=": "from", ">": "after", "<=": "until", "<": "before", "==": "in", "=": "in"}
 UNITS = {"y": "years", "m": "months", "d": "days", "w": "weeks"}
 LENGTH = re.compile(r"([0-9]{1,4})([ymdw])", re.I)
 # A year, its volume and its issues, any of which but the year may be absent.
-ISSUES = re.compile(r"\(([0-9]{4})\)\[([0-9]{0,9})\]([^()\[\]]{0,400})")
+ISSUES = re.compile(r"\(([0-9]{4})\)\[([0-9]{0,9})\]([^()\[\]]{0,400})"
+                    r"|(?<![0-9])([0-9]{4}) ?: ?\([0-9,; -]{0,400}\)")
 
 
 def written_out(cell: str) -> str:
     """Returns a statement in which each call of a threshold is in words. Another text stays as it is."""
-    if cell[:1] == "(" and ISSUES.match(cell):
+    if cell[:1] in ("[", "{") and (found := jsonlist.written_out(cell)):
+        return found
+    if ISSUES.match(cell):
         return years(cell)
     if "parsedDate" not in cell and "timediff" not in cell:
         return cell
@@ -41,7 +46,7 @@ def years(cell: str) -> str:
     if ISSUES.sub("", cell).strip(" ;,"):
         return cell
     runs: list[list[tuple[int, str]]] = []
-    for one in sorted(((int(it[1]), it[2]) for it in ISSUES.finditer(cell)), key=lambda it: it[0]):
+    for one in sorted(((int(it[1] or it[4]), it[2] or "") for it in ISSUES.finditer(cell)), key=lambda it: it[0]):
         if runs and one[0] - runs[-1][1][0] <= 1:
             runs[-1][1] = one
         else:

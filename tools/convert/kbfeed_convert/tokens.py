@@ -54,6 +54,8 @@ FOREVER = re.compile(r"(?<![0-9])9999(?:[-/.]12[-/.]31)?(?![0-9])")
 AROUND = re.compile(r"\b(?:pre|post)-(?=[0-9]{4}(?![0-9]))")
 AFTER = re.compile(r"\bafter (?=(?:an? |the |first |initial )?[0-9]{1,3}[ -]?(?:day|week|month|year))")
 LAST_YEAR = re.compile(r"(?<=[-o] )(?:the )?(?:last|previous|prior) year\b")
+# A year and its quarter, as `2001-IV`.
+ROMAN = re.compile(r"(?<![0-9/-])([0-9]{4})[-/](i{1,3}|iv)(?![^\W_])")
 # The mark of a series before a volume, as in `n.s. v.1` and `ser. 2, v.1`, and `[L=1968]`, which is lacking.
 SERIES = re.compile(r"\b(?:[no]\. ?[sf]\.|ser(?:ies?)?\.? ?[0-9]{1,2}(?=[:, ])) ?[:,]? ?"
                     r"(?=(?:(?:v|vol|bd|t|jg|no|n)\.? ?)?[0-9])")
@@ -69,7 +71,7 @@ def meanings() -> dict[str, frozenset[str]]:
     found: dict[str, set[str]] = {}
     for meaning, many in [*TABLE.items(), *((it, TABLES["dates"][it]) for it in ("open", "after", "before"))]:
         for word in many:
-            found.setdefault(folded(word), set()).add(meaning)
+            found.setdefault(folded(word), set()).update({meaning, "to"} if meaning == "ended" else {meaning})
     for meaning, table in (("month", MONTHS), ("unit", UNITS), ("number", NUMBERS)):
         for word in table:
             found.setdefault(word, set()).add(meaning)
@@ -96,10 +98,11 @@ def simplified(cell: str) -> str:
     """Returns a statement in lower case, without accents, with the signs of ASCII, and its lines apart."""
     text = ";".join(plain(it) for it in LINE_END.split(NUMERO.sub("num ", cell)))
     text = "".join(it for it in unicodedata.normalize("NFKD", text) if unicodedata.category(it) != "Mn")
-    text = ENDING.sub("", unicodedata.normalize("NFC", text).casefold())
+    text = dates.long_years(ENDING.sub("", unicodedata.normalize("NFC", text).casefold()))
     text = DAY_MONTH.sub(lambda it: f"{it[1]} {it[2]} " if it[2] in MONTHS else it[0], text)
     text = MONTH_YEAR.sub(lambda it: f"{it[1]} " if it[1] in MONTHS else it[0], text)
     text = YEAR_MONTH.sub(lambda it: f"{it[1]} {it[2]}" if it[2] in MONTHS else it[0], text)
+    text = ROMAN.sub(lambda it: f"q{('i', 'ii', 'iii', 'iv').index(it[2]) + 1} {it[1]}", text)
     text = FOREVER.sub("present", INTERVAL.sub(" - ", text.replace("post-cancel", "postcancel")))
     text = AROUND.sub(lambda it: "before " if it[0] == "pre-" else "after ", text)
     if "year" in text or "month" in text or "current" in text:

@@ -2,20 +2,21 @@
 
 A column looks so by its label or by its cells. A map that gives it no label says that it may be left out."""
 import re
-from typing import Any
+from typing import Any, Callable
 
 from . import coverage, dates, values
 from .labels import Columns
-from .texts import counted, folded, remembered, word_set
+from .texts import counted, folded, remembered, word_set, words
 
 KINDS = ("dates", "embargo", "status")
 SHOWN = {"dates": "dates", "embargo": "an embargo", "status": "a status"}
 LABELS = {kind: word_set("suspects", kind) for kind in KINDS}
-HARMLESS = word_set("suspects", "harmless")
+HARMLESS, TO_READERS = word_set("suspects", "harmless"), word_set("suspects", "access")
 STATUS = word_set("suspects", "status_cells")
 HELD, NOT_HELD, HELD_LABELS, HELD_COLUMNS = (word_set("held", it) for it in ("yes", "no", "labels", "columns"))
 # The year in `Subscribed 2026`.
 YEAR_BEHIND = re.compile(" [0-9]{4}$")
+UNITS = frozenset(it for it, unit in words("units").items() if len(it) > 3 and unit in ("D", "M", "W"))
 # The share of the cells that have to look like one kind, and how many different ones the report has.
 MOST = 0.5
 CELLS = 5
@@ -111,6 +112,11 @@ def may_be_held(header: str) -> bool:
     return label_kind(header) == "status" or any(it in HELD_COLUMNS or it.endswith("status") for it in said)
 
 
+def are_held(cells: set[str]) -> bool:
+    """Returns whether each cell of a column says something of a status."""
+    return all(not it or it in HELD or it in NOT_HELD or it in STATUS or it in values.YES_NO for it in cells)
+
+
 def others(cells: set[str]) -> set[str]:
     """Returns the cells of a column besides those that say that a title is not held, if it has both."""
     return cells - NOT_HELD if cells & NOT_HELD else set()
@@ -118,7 +124,11 @@ def others(cells: set[str]) -> set[str]:
 
 def held_values(header: str, cells: set[str]) -> set[str]:
     """Returns the cells of a column that say that a title is held, if all say that or the opposite, and some each."""
-    says_yes_no = YEAR_BEHIND.sub("", folded(header)) in HELD_LABELS
+    label = YEAR_BEHIND.sub("", folded(header))
+    says_yes_no = label in HELD_LABELS or any(" " in it and f" {it} " in f" {label} " for it in HELD_LABELS)
+    if says_yes_no and len(cells) == 2 and "" in cells and values.YES_NO.get(max(cells)) == "yes":
+        # A mark, or nothing.
+        return {max(cells)}
     said = {it: "yes" if it in HELD else "no" if it in NOT_HELD else values.YES_NO.get(it, "") if says_yes_no else ""
             for it in cells}
     return {it for it in cells if said[it] == "yes"} if {*said.values()} == {"yes", "no"} else set()
@@ -127,8 +137,11 @@ def held_values(header: str, cells: set[str]) -> set[str]:
 def label_kind(header: str) -> str:
     """Returns what a column looks like by its label, or nothing; `harmless` if its dates are not those of a title."""
     tokens = set(folded(header).split())
-    if tokens & HARMLESS:
+    if tokens & HARMLESS and not tokens & TO_READERS:
         return "harmless"
+    if tokens and tokens <= UNITS:
+        # `Months`, of which nobody knows what they are
+        return "embargo"
     return next((kind for kind in ("embargo", "status", "dates") if tokens & LABELS[kind]), "")
 
 
@@ -166,15 +179,17 @@ class Column:
 
 
 class Unused:
-    """Looks at the columns of a list that are not used."""
+    """Looks at the columns of a list that are not used. `uses` says of a place and a cell whether that is used."""
 
-    def __init__(self, columns: Columns):
+    def __init__(self, columns: Columns, uses: Callable[[int, str], bool]):
+        self.uses = uses
         self.columns = [Column(place, header.strip()) for place, header in columns.left_over()]
 
     def look(self, cells: list[str]) -> None:
         """Counts the cells of a record."""
         for column in self.columns:
-            if column.place < len(cells) and (cell := cells[column.place].strip()):
+            cell = cells[column.place].strip() if column.place < len(cells) else ""
+            if cell and not self.uses(column.place, cell):
                 column.look(cell)
 
     def suspects(self) -> list[dict[str, Any]]:

@@ -104,6 +104,7 @@ HIDDEN = word_set("embargo", "hidden")
 # A sign by which something may be lost, as in `?5Y`, and the sign of a moving wall: `+5Y` is the last five years.
 UNCLEAR = re.compile(r"[^\w\s.,:;()\[\]/'+-]")
 SIGNED = re.compile(r"([+-])\s?[0-9]")
+SPAN = re.compile(r"(?<![0-9])[0-9]{1,3} ?(?:-|to|bis|à|a) ?[0-9]{1,3}(?![0-9])")
 
 
 @remembered
@@ -132,6 +133,10 @@ def embargo(cell: str, unit: str = "") -> str:
             tokens[at:at + 4] = [str(int(one[:9]) * 12 + int(two[:9])), months]
             break
     numbers = [int(it[:9]) for it in tokens if it.isascii() and it.isdigit()]
+    is_recent = sign[1] == "+" if sign else bool(RECENT & set(tokens)) and not HIDDEN & set(tokens)
+    if len(numbers) == 2 and SPAN.search(plain(cell)):
+        # Of `12-24 months` the length counts that hides more.
+        numbers = [min(numbers) if is_recent else max(numbers)]
     units = {UNITS[it] for it in tokens if it in UNITS} or ({unit} if unit else set())
     if len(numbers) != 1 or len(units) != 1 or numbers[0] > 99_999:
         return cell
@@ -140,7 +145,6 @@ def embargo(cell: str, unit: str = "") -> str:
         return ""
     if one == "W":
         count, one = count * 7, "D"
-    is_recent = sign[1] == "+" if sign else bool(RECENT & set(tokens)) and not HIDDEN & set(tokens)
     return f"{'R' if is_recent else 'P'}{count}{one}"
 
 
