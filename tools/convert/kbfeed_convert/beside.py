@@ -42,6 +42,7 @@ class Said(NamedTuple):
     limits: tuple[Range, ...] = ()
     is_unread: bool = False
     years: tuple[str, ...] = ()
+    is_cancelled: bool = False
 
     def is_used(self, is_limit: bool) -> bool:
         """Returns whether it takes days away. `is_limit` says that a range there is what the library has."""
@@ -56,8 +57,8 @@ NOTHING = Said()
 
 
 def may_say(cell: str) -> bool:
-    """Returns whether a cell may say something of a coverage: it has a digit, or a word as `year`."""
-    if NUMBERED.search(cell):
+    """Returns whether a cell may say something of a coverage: it has a digit or a word as `year`, or is `cancelled`."""
+    if NUMBERED.search(cell) or folded(cell) in CANCELLED:
         return True
     return len(cell) > 1 and (not UNITS.isdisjoint(APART.split(cell.casefold())) or not WRITTEN.isdisjoint(cell))
 
@@ -76,6 +77,8 @@ def said(header: str, cell: str, order: str, has_volumes: bool) -> Said:
     years = tuple(dict.fromkeys(dates.YEARS.findall(plain(cell[:LONGEST]))))
     if years and is_last(header) and (end := dates.read(cell, True, order).text or ""):
         return Said(limits=(Range("", end),))
+    if folded(cell) in CANCELLED:
+        return Said(is_cancelled=True)
     words = folded(cell[:LONGEST]).split()
     # `No. 5` is an issue.
     means = {it for word in words for it in MEANINGS.get(word, NONE) if "issue" not in MEANINGS.get(word, NONE)}

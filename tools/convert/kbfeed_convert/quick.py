@@ -142,7 +142,7 @@ class Shortcut:
             return None
         if not first and cells[self.embargo][:1] in ("R", "r") or cells[self.notes] and not self.converter.is_kbart:
             return None
-        if not first and not last and (self.beside or any(has_year_beside(cells[it]) for it in self.issues)):
+        if not first and (self.beside or not last and any(has_year_beside(cells[it]) for it in self.issues)):
             return None
         if first and last and first > last or one is not None and two is not None and one > two:
             return None

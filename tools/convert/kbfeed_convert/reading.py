@@ -116,6 +116,8 @@ def guessed_columns(text: io.TextIOWrapper, shape: form.Form, columns: labels.Co
         pairs = [it for numbers in (ISSUES, VOLUMES) for it in zip(numbers, DATES)]
         pairs += [("volumes", "coverage")] if not any(it in columns.places for it in DATES) else []
         found["dates"] = ", ".join(filter(None, (columns.relabel(*it, serials, unused.is_dated_issue) for it in pairs)))
+    if is_guessed and "coverage" not in columns.places and not columns.guess_dates(cells, unused.is_statement):
+        found["ends of the dates"] = columns.guess_ends(cells, unused.is_date)
     if is_guessed and not any(it in columns.places for it in ("coverage", *DATES)):
         for label in PUBLISHED:
             columns.take_away(label, [it for it in cells if has_serials(columns, [it])], unused.is_statement)

@@ -9,7 +9,7 @@ from . import beside, coverage, dates, form, identifiers, jsonlist, kinds, stric
 from .choosing import Chooser
 from .coverage import Range
 from .identifiers import Number
-from .labels import ADDRESS, PARTS, WORDS, Columns, has_word, is_own, rank
+from .labels import ADDRESS, APART, PARTS, WORDS, Columns, has_word, is_own, rank
 from .texts import folded, forget, plain, word_set
 from .tokens import MEANINGS, NONE
 
@@ -416,7 +416,7 @@ class Converter:
         for *_, one in cells:
             self.wall(draft, one.embargo)
         held = self.held(draft)
-        if held and not any(it.has_dates() for it in held) and self.has_lost(draft):
+        if any(not it.first for it in held) and self.has_lost(draft):
             return []
         for label, cell, is_limit, one in cells:
             held = self.lessened(draft, held, label, cell, one.gaps)
@@ -428,20 +428,13 @@ class Converter:
                 draft.note(label, cell, ACCESS_NOT_READ)
             elif one.may_lessen(held):
                 draft.note(label, cell, GAP_NOT_READ)
-        for label, cell in self.cancelled(draft, held):
+        for label, cell, *_ in [it for it in cells if it[-1].is_cancelled and not all(one.last for one in held)][:1]:
             limits = [it for *_, one in cells for it in one.limits]
             if not limits:
                 draft.note(label, cell, CANCELLED)
                 return []
             held = self.limited(draft, held, label, cell, tuple(limits))
         return [] if any(it.rule == EMBARGO_NOT_READ for it in draft.changes) else self.without_gaps(draft, held)
-
-    def cancelled(self, draft: Draft, held: list[Range]) -> list[tuple[str, str]]:
-        """Returns the status by which a title is cancelled whose coverage has no end."""
-        if all(it.last for it in held):
-            return []
-        return [(header, cell) for at, header in self.beside_columns for cell in draft.fields[at:at + 1]
-                if at in self.status and folded(cell) in beside.CANCELLED][:1]
 
     def beside_cells(self, draft: Draft) -> list[tuple[str, str, bool]]:
         """Returns the cells beside the coverage that may say something of it, with the labels of their columns, and
@@ -462,8 +455,8 @@ class Converter:
         return self.said(place, cell).is_used(place in self.status)
 
     def has_lost(self, draft: Draft) -> bool:
-        """Notes the cells of columns that are not used that have dates, if no other column has any, and the years in
-        columns of numbers, as `Vol. 3 (1995)`."""
+        """Notes the cells of columns that are not used that have dates, and the years in columns of numbers, as
+        `Vol. 3 (1995)`, of a record whose beginning no other column says."""
         lost = [(label, cell, YEAR_NOT_READ) for label in (*VOLUMES, *ISSUES, "volumes")
                 for cell in self.columns.cells(draft.fields, label) if has_year_beside(cell)]
         lost += [(header, cell, LOST) for at, header in self.beside_columns for cell in draft.fields[at:at + 1]
@@ -657,8 +650,13 @@ class Converter:
         if not self.groups:
             return None
         found = []
+        is_lessened = False
         for places in self.groups:
             cells = [draft.fields[it] if 0 <= it < len(draft.fields) else "" for it in places]
+            if any(beside.says_no(cell) for at in self.purchased(places) for cell in draft.fields[at:at + 1]):
+                # `No` below `Backfile purchased`
+                is_lessened = True
+                continue
             ends = [dates.read(cell, bool(at), self.settings.order) for at, cell in enumerate(cells)]
             if not any(it.strip() for it in cells):
                 continue
@@ -666,11 +664,17 @@ class Converter:
                 return None
             found.append(Range(ends[0].text or "", ends[1].text or ""))
         found.sort()
-        if len(found) < 2 or any(it.is_reversed() for it in found) or any(
+        if len(found) < 2 - is_lessened or any(it.is_reversed() for it in found) or any(
                 not one.last or one.last >= two.first for one, two in itertools.pairwise(found)):
             return None
         draft.changes += [Change(label, draft.cells[label], "", "several dates, in pairs") for label in DATES]
         return found
+
+    def purchased(self, places: list[int]) -> list[int]:
+        """Returns the places of the columns that say whether the library has the part that a group of dates is of."""
+        words = {it for at in places if at >= 0 for it in folded(self.header[at]).split()} & APART
+        return [at for at, header in self.beside_columns if words & {*folded(header).split()}
+                and unused.label_kind(header) == "status"]
 
     def pairs(self, draft: Draft) -> list[Range] | None:
         """Returns the ranges of two columns of dates that have several each, as `1975|1985` and `1980|`, or None.

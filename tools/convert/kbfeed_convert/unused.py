@@ -7,6 +7,7 @@ from typing import Any, Callable
 from . import coverage, dates, values
 from .labels import Columns
 from .texts import counted, folded, remembered, word_set, words
+from .tokens import MEANINGS, NONE
 
 KINDS = ("dates", "embargo", "status")
 SHOWN = {"dates": "dates", "embargo": "an embargo", "status": "a status"}
@@ -114,12 +115,20 @@ def may_be_held(header: str) -> bool:
 
 def are_held(cells: set[str]) -> bool:
     """Returns whether each cell of a column says something of a status."""
-    return all(not it or it in HELD or it in NOT_HELD or it in STATUS or it in values.YES_NO for it in cells)
+    return bool(negated(cells)) or all(
+        not it or it in HELD or it in NOT_HELD or it in STATUS or it in values.YES_NO for it in cells)
+
+
+def negated(cells: set[str]) -> set[str]:
+    """Returns the cells of a column that are another one with a word as `not`, as `не активна` beside `активна`."""
+    said = {it: [word for word in it.split() if "not" not in MEANINGS.get(word, NONE)] for it in cells}
+    return {it for it, words in said.items() if words and " ".join(words) != it and " ".join(words) in cells}
 
 
 def others(cells: set[str]) -> set[str]:
     """Returns the cells of a column besides those that say that a title is not held, if it has both."""
-    return cells - NOT_HELD if cells & NOT_HELD else set()
+    no = cells & NOT_HELD | negated(cells)
+    return cells - no if no else set()
 
 
 def held_values(header: str, cells: set[str]) -> set[str]:
