@@ -75,6 +75,10 @@ def is_last(header: str) -> bool:
 def said(header: str, cell: str, order: str, has_volumes: bool) -> Said:
     """Returns what a cell beside a coverage says. `order` is that of day and month."""
     years = tuple(dict.fromkeys(dates.YEARS.findall(plain(cell[:LONGEST]))))
+    if any("missing" in MEANINGS.get(it, NONE) for it in folded(header).split()):
+        found = coverage.read(cell[:LONGEST + 1], order, has_volumes)
+        gaps = tuple(it for it in (*found.ranges, *found.gaps) if it.has_dates())
+        return Said(gaps=gaps, is_unread=not gaps or found.unread not in ("", coverage.NO_DATE))
     if years and is_last(header) and (end := dates.read(cell, True, order).text or ""):
         return Said(limits=(Range("", end),))
     if folded(cell) in CANCELLED:
@@ -94,6 +98,9 @@ def said(header: str, cell: str, order: str, has_volumes: bool) -> Said:
         return Said(embargo=found.embargo)
     if is_whole and any(it.first != it.last for it in dated) and not FREE & {*words}:
         return Said(found.embargo, limits=found.ranges)
+    if dated and is_end(tuple(dated)) and not FREE & {*words}:
+        # `Through 2011; abstracts thereafter`
+        return Said(found.embargo, limits=tuple(dated), is_unread=not is_whole)
     if "ended" in means and years and not is_whole:
         # `Cancelled in the end of 2015, ..`
         return Said(limits=(Range("", max(years)),), is_unread=True)

@@ -472,6 +472,13 @@ class Reader:
                 self.leave(token)
         elif "open" in means and (self.is_to or point.has_date()) and not (self.is_to and not point.is_empty()):
             self.open_end()
+        elif "ended" in means and self.left is None and point.has_date() and not self.has_date_ahead(at + 1):
+            # `2012 ceased`
+            self.left = Point()
+            self.end_range()
+        elif "ended" in means and self.left is not None and point.has_date() and not self.has_date_ahead(at + 1):
+            # `1990-2012, ceased`
+            self.end_range()
         elif "to" in means and ("filler" not in means or point.has_date()):
             self.connect(at)
         elif "from" in means:

@@ -227,6 +227,8 @@ class Columns:
         repeat count once: they may be publishers."""
         texts = {place: [it[:80] for cells in records for it in cells[place:place + 1] if not ADDRESS.match(it)]
                  for place, name in enumerate(self.names) if not name and self.header[place].strip()}
+        # Nearly all records have a title.
+        texts = {place: it for place, it in texts.items() if sum(map(bool, map(str.strip, it))) >= SURE * len(records)}
         place = max(texts, key=lambda it: letters(set(texts[it])), default=-1)
         return self.give(place, "publication_title") if place >= 0 and letters(texts[place]) >= 3 * len(records) else ""
 

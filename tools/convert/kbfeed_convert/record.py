@@ -441,7 +441,7 @@ class Converter:
         whether a range there is what the library has."""
         given = [(label, cell, True) for label in ("access_type", "notes")
                  for cell in dict.fromkeys([draft.cells[label], *self.columns.cells(draft.fields, label)])]
-        given += [(header, cell, at in self.status) for at, header in self.beside_columns
+        given += [(header, cell, self.is_limit(at)) for at, header in self.beside_columns
                   for cell in draft.fields[at:at + 1]]
         return [it for it in given if beside.may_say(it[1])]
 
@@ -452,7 +452,11 @@ class Converter:
 
     def uses(self, place: int, cell: str) -> bool:
         """Returns whether a cell of a column that no label names takes days away."""
-        return self.said(place, cell).is_used(place in self.status)
+        return self.said(place, cell).is_used(self.is_limit(place))
+
+    def is_limit(self, place: int) -> bool:
+        """Returns whether a range of a column that no label names is what the library has: a status, or its own."""
+        return place in self.status or is_own(self.header[place])
 
     def has_lost(self, draft: Draft) -> bool:
         """Notes the cells of columns that are not used that have dates, and the years in columns of numbers, as
