@@ -347,9 +347,10 @@ class Node:
         return self.exchange([f"GET {target} HTTP/1.0\r\n\r\n".encode()], True)
 
     def counters(self):
-        """Returns the counters of the node, but those of times."""
+        """Returns the counters of the node, but those of times and of turns."""
         found = re.findall(r"^(kbfeed_\S+) (\d+)$", self.get("/metrics").decode("latin-1"), re.M)
-        return {name: int(value) for name, value in found if not re.search("_bucket|_sum|since|request_bytes", name)}
+        others = "_bucket|_sum|since|turn_duration|request_bytes"
+        return {name: int(value) for name, value in found if not re.search(others, name)}
 
     def counted(self):
         """Returns by how much each counter grew. Of the bytes sent, those that the client received are taken off."""
