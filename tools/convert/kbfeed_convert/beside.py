@@ -4,10 +4,10 @@ Each of them makes a row's days fewer, says nothing of them, or is named in the 
 import re
 from typing import NamedTuple
 
-from . import coverage, dates, unused, values
+from . import coverage, dates, statuses, unused, values
 from .coverage import Range
 from .texts import TABLES, folded, plain, remembered, word_set
-from .tokens import MEANINGS, NONE
+from .tokens import CJK, MEANINGS, NONE, tokens
 
 # The characters of the longest cell that is looked at, and the ranges that a record has at most.
 LONGEST, MOST = 1_000, 1_000
@@ -15,6 +15,11 @@ LONGEST, MOST = 1_000, 1_000
 FREE = word_set("access", "F")
 # The meanings of words by which a cell takes something away.
 LESS = {"not", "except", "missing", "embargo", "recent", "ended", "only"}
+# Words of time and of access.
+TIMES = {"unit", "recent", "available", "embargo"}
+LIMITING = frozenset(it for it, many in MEANINGS.items() if many & {"recent", "embargo", "available"} and len(it) > 3)
+# A script without spaces between words.
+WRITTEN_TOGETHER = re.compile(f"[{CJK}]")
 # A volume or an issue that is missing: nobody knows its year.
 NUMBERED = re.compile(r"\d")
 # Words of units as they are written, those of one character, and what is between words.
@@ -31,7 +36,6 @@ HISTORY = word_set("suspects", "history")
 ENDS = word_set("suspects", "ends")
 # Words by which a title has gone to another place, as in `transferred to Acme in 2010`.
 GONE = word_set("suspects", "gone")
-CANCELLED = word_set("held", "cancelled")
 
 
 class Said(NamedTuple):
@@ -58,9 +62,11 @@ NOTHING = Said()
 
 def may_say(cell: str) -> bool:
     """Returns whether a cell may say something of a coverage: it has a digit or a word as `year`, or is `cancelled`."""
-    if NUMBERED.search(cell) or folded(cell) in CANCELLED:
+    if NUMBERED.search(cell) or statuses.verdict(cell) in ("cancelled", "no"):
         return True
-    return len(cell) > 1 and (not UNITS.isdisjoint(APART.split(cell.casefold())) or not WRITTEN.isdisjoint(cell))
+    words = APART.split(cell.casefold())
+    return len(cell) > 1 and (not UNITS.isdisjoint(words) or not LIMITING.isdisjoint(words)
+                              or not WRITTEN.isdisjoint(cell))
 
 
 def is_last(header: str) -> bool:
@@ -81,13 +87,15 @@ def said(header: str, cell: str, order: str, has_volumes: bool) -> Said:
         return Said(gaps=gaps, is_unread=not gaps or found.unread not in ("", coverage.NO_DATE))
     if years and is_last(header) and (end := dates.read(cell, True, order).text or ""):
         return Said(limits=(Range("", end),))
-    if folded(cell) in CANCELLED:
-        return Said(is_cancelled=True)
+    if (verdict := statuses.verdict(cell)) in ("cancelled", "no"):
+        return Said(is_cancelled=verdict == "cancelled", is_unread=verdict == "no")
     words = folded(cell[:LONGEST]).split()
+    if WRITTEN_TOGETHER.search(cell):
+        words += [it.text for it in tokens(cell[:LONGEST]) if it.kind == "word"]
     # `No. 5` is an issue.
     means = {it for word in words for it in MEANINGS.get(word, NONE) if "issue" not in MEANINGS.get(word, NONE)}
     is_less = bool(means & LESS) or "to" in means and ALMOST.search(cell) is not None
-    if not years and not (is_less and ("unit" in means or NUMBERED.search(cell))):
+    if not years and not (is_less and (means & TIMES or NUMBERED.search(cell))):
         return NOTHING
     found = coverage.read(cell[:LONGEST + 1], order, has_volumes)
     is_whole = not found.unread and len(cell) <= LONGEST

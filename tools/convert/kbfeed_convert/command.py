@@ -49,7 +49,7 @@ def convert(given: argparse.Namespace, name: str, out: Output, report_out: Repor
     opened = reading.opened(given, name)
     report = Report(report_out.write_text if report_out else None, opened.head, opened.warnings)
     converter = opened.converter()
-    left_over = unused.Unused(opened.columns, converter.uses)
+    left_over = unused.Unused(opened.columns, converter.uses, converter.said_held)
     shortcut = quick.Shortcut(converter)
     line = ("\t".join(strict.LABELS) + "\n").encode()
     out.write(line)

@@ -9,7 +9,7 @@ import re
 from typing import Iterable, NamedTuple
 
 from . import dates, strict, thresholds
-from .texts import remembered, with_signs
+from .texts import remembered, with_signs, word_set
 from .tokens import MONTHS, NUMBERS, UNITS, Token, tokens
 
 # The characters of the longest statement, and the tokens that are looked at ahead.
@@ -22,7 +22,7 @@ DATES = {"ymd", "dmy", "cjk", "compact", "ym", "my", "year"}
 WALL = {"recent", "current", "not", "available", "except", "embargo", "ago", "filler", "number"}
 HIDDEN = {"not", "except", "embargo", "missing"}
 # Units that are one without a number, as in `last year not available`.
-ONE = {"year", "month", "jahr", "monat"}
+ONE = word_set("single", "units")
 # The tokens that a wall has at each side of its length.
 WALL_SIDE = 8
 SEPARATORS = ";|"

@@ -305,7 +305,7 @@ def run(given: argparse.Namespace, day: str, report: Callable[..., Report],
     made = report(opened.head, opened.warnings)
     library = Library(opened, row_line)
     shared, own = opened.converter(is_shared=True), opened.converter()
-    left_over = unused.Unused(opened.columns, own.uses)
+    left_over = unused.Unused(opened.columns, own.uses, own.said_held)
     for record in opened.records():
         outcome, mine = shared.convert(record), own.convert(record)
         left_over.look(record.cells)

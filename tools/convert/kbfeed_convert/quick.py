@@ -138,6 +138,8 @@ class Shortcut:
                 cells[place] = text
             read.append(taken)
         first, last, one, two = read[4:8]
+        if self.converter.refused(given):
+            return None
         if self.beside and any(self.converter.said(at, it) != NOTHING for at in self.beside for it in given[at:at + 1]):
             return None
         if not first and cells[self.embargo][:1] in ("R", "r") or cells[self.notes] and not self.converter.is_kbart:

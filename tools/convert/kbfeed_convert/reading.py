@@ -158,14 +158,14 @@ def held_titles(text: io.TextIOWrapper, shape: form.Form, columns: labels.Column
             if len(cells) <= HELD_CELLS and any(map(str.strip, record.cells)):
                 cells.add(folded("".join(record.cells[place:place + 1])))
     few = {it: cells for it, cells in found.items() if len(cells) <= HELD_CELLS}
-    held = {it: values for it, cells in few.items()
-            if (values := unused.others(cells)) and (it in sure or unused.are_held(cells))}
+    held = {it: cells - no for it, cells in few.items()
+            if (no := unused.not_held(cells)) and (it in sure or cells - no and unused.are_held(cells))}
     said = {it: values for it, cells in few.items() if (values := unused.held_values(columns.header[it], cells))}
     held = said if len(said) == 1 and not held else held
-    columns.left_out |= {columns.header[it].strip() for it in held}
     where = {columns.header[it].strip(): sorted(values) for it, values in held.items()}
     return (rules._replace(where=where) if where else rules,
-            [f"the column {header!r} says which titles are held: those with {' or '.join(map(repr, values))}"
+            [f"the column {header!r} says which titles are held: "
+             + (f"those with {' or '.join(map(repr, values))}" if values else "none")
              for header, values in where.items()])
 
 

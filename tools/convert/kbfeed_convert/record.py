@@ -5,7 +5,7 @@ import operator
 import re
 from typing import NamedTuple, Sequence
 
-from . import beside, coverage, dates, form, identifiers, jsonlist, kinds, strict, unused, values, volumes
+from . import beside, coverage, dates, form, identifiers, jsonlist, kinds, statuses, strict, unused, values, volumes
 from .choosing import Chooser
 from .coverage import Range
 from .identifiers import Number
@@ -164,6 +164,11 @@ class Converter:
         self.status = [at for at, header in columns.left_over()
                        if unused.label_kind(header) == "status" and not self.is_kbart
                        and not ENDS & {*folded(header).split()}]
+        # The columns in which a cell may say that the title is not held.
+        self.refusing = [] if self.is_kbart else [*places.get("notes", []), *places.get("access_type", []), *(
+            at for at, header in columns.left_over() if unused.may_be_held(header))]
+        # The columns that say which titles are held, and which of them are free.
+        self.said_held = {*self.refusing, *chooser.where}
         # The other columns that no label names, and that may say something of the coverage.
         self.beside_columns = [(at, plain(header)[:100]) for at, header in columns.left_over()
                                if unused.label_kind(header) != "harmless" and not self.is_kbart]
@@ -187,7 +192,7 @@ class Converter:
             return Outcome([], "Blank", "no cell has a text", [])
         if given.cells[0].strip() == self.header[0] and [it.strip() for it in given.cells[:self.width]] == self.header:
             return Outcome([], "Header", "the header once more", [])
-        if why := self.chooser.not_held(given.cells):
+        if why := self.chooser.not_held(given.cells) or self.refused(given.cells):
             return Outcome([], "NotHeld", why, [])
         fields, joined = self.realigned(given.cells)
         more = "" if joined else " ".join(given.cells[self.width:]).strip()
@@ -220,7 +225,8 @@ class Converter:
             if draft.cells[DATES[0]] == jsonlist.EMPTY:
                 # A book has no coverage.
                 draft.cells[DATES[0]] = ""
-            ranges = [self.date_columns(draft) or Range("", "")]
+            self.published(draft)
+            ranges = [Range("", "")]
         if not ranges:
             said = [self.columns.cell(draft.fields, it) for it in ("coverage", *DATES)]
             unread = dict.fromkeys([*said, *(it.old for it in draft.unread() if it.rule in WIDENING)])
@@ -250,6 +256,14 @@ class Converter:
             # A row that the reader takes is passed on, whatever the rules above say.
             return Outcome([(cells, before)], "", "", [])
         return Outcome(rows, "", "", draft.changes)
+
+    def refused(self, fields: list[str]) -> str:
+        """Returns which note or status of a record says that it is not held, or nothing."""
+        for at in self.refusing:
+            for cell in fields[at:at + 1]:
+                if statuses.verdict(cell) == "no":
+                    return f"the column {self.header[at]!r} has {cell.strip()[:100]!r}"
+        return ""
 
     def cells(self, fields: list[str]) -> Cells:
         """Returns the cells of a record by the standard's labels, in their order."""
@@ -331,8 +345,9 @@ class Converter:
         put("access_type", values.access(cells["access_type"]), "the access in words")
         if not cells["access_type"] and "open_access" in columns.places:
             put("access_type", values.open_access(columns.cell(draft.fields, "open_access")), "the access in words")
-        if not cells["access_type"] and columns.is_free:
-            put("access_type", "F", "a list of free titles")
+        if not cells["access_type"] and (columns.is_free or any(
+                statuses.verdict(it) == "free" for at in self.said_held for it in draft.fields[at:at + 1])):
+            put("access_type", "F", "a list of free titles" if columns.is_free else "the access in words")
 
     def embargo(self, fields: list[str]) -> str:
         """Returns the embargo of the columns of its years, months and days: `1` and `6` are 18 months."""
@@ -451,7 +466,9 @@ class Converter:
                            self.settings.has_volumes) if beside.may_say(cell) else beside.NOTHING
 
     def uses(self, place: int, cell: str) -> bool:
-        """Returns whether a cell of a column that no label names takes days away."""
+        """Returns whether a cell of a column that no label names takes days away, or says that a title is held."""
+        if place in self.said_held and unused.is_understood(cell):
+            return True
         return self.said(place, cell).is_used(self.is_limit(place))
 
     def is_limit(self, place: int) -> bool:
@@ -573,6 +590,14 @@ class Converter:
         old = draft.cells["embargo_info"]
         if embargo and (not old or values.is_embargo(old)):
             draft.put("embargo_info", coverage.combined(old, embargo) if old else embargo, "an embargo in a coverage")
+
+    def published(self, draft: Draft) -> None:
+        """Takes the first date of a book for that of its publication online: no book has a first issue."""
+        found = self.date_columns(draft)
+        if found and found.first and not draft.cells[PUBLISHED[1]]:
+            draft.put(PUBLISHED[1], found.first, "the first date of a book")
+        for label in DATES:
+            draft.cells[label] = ""
 
     def date_columns(self, draft: Draft) -> Range | None:
         """Returns the range of the two columns of dates. If one of them does not read it is the other one alone, and

@@ -96,7 +96,7 @@ NONE: frozenset[str] = frozenset()
 
 def simplified(cell: str) -> str:
     """Returns a statement in lower case, without accents, with the signs of ASCII, and its lines apart."""
-    text = ";".join(plain(it) for it in LINE_END.split(NUMERO.sub("num ", cell)))
+    text = ";".join(plain(it) for it in LINE_END.split(NUMERO.sub("num ", cell.replace("、", ","))))
     text = "".join(it for it in unicodedata.normalize("NFKD", text) if unicodedata.category(it) != "Mn")
     text = dates.long_years(ENDING.sub("", unicodedata.normalize("NFC", text).casefold()))
     text = DAY_MONTH.sub(lambda it: f"{it[1]} {it[2]} " if it[2] in MONTHS else it[0], text)

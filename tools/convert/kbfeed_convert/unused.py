@@ -4,7 +4,7 @@ A column looks so by its label or by its cells. A map that gives it no label say
 import re
 from typing import Any, Callable
 
-from . import coverage, dates, values
+from . import coverage, dates, statuses, values
 from .labels import Columns
 from .texts import counted, folded, remembered, word_set, words
 from .tokens import MEANINGS, NONE
@@ -12,6 +12,8 @@ from .tokens import MEANINGS, NONE
 KINDS = ("dates", "embargo", "status")
 SHOWN = {"dates": "dates", "embargo": "an embargo", "status": "a status"}
 LABELS = {kind: word_set("suspects", kind) for kind in KINDS}
+# Those of scripts without spaces, which are anywhere in a label.
+WRITTEN = {kind: [it for it in many if it >= "\u3000" and kind == "status"] for kind, many in LABELS.items()}
 HARMLESS, TO_READERS = word_set("suspects", "harmless"), word_set("suspects", "access")
 STATUS = word_set("suspects", "status_cells")
 HELD, NOT_HELD, HELD_LABELS, HELD_COLUMNS = (word_set("held", it) for it in ("yes", "no", "labels", "columns"))
@@ -33,7 +35,7 @@ def cell_kind(cell: str) -> str:
     text = folded(cell)
     if cell.startswith(NESTED) and dates.YEARS.search(cell):
         return "nested"
-    if text in STATUS:
+    if text in STATUS or statuses.verdict(cell) in ("no", "cancelled"):
         return "status"
     if text in dates.OPEN:
         return "open"
@@ -113,22 +115,26 @@ def may_be_held(header: str) -> bool:
     return label_kind(header) == "status" or any(it in HELD_COLUMNS or it.endswith("status") for it in said)
 
 
+def is_understood(cell: str) -> bool:
+    """Returns whether a cell says, as a whole, whether a title is held."""
+    text = folded(cell)
+    return not text or bool(statuses.verdict(cell)) or text in STATUS or text in values.YES_NO
+
+
 def are_held(cells: set[str]) -> bool:
-    """Returns whether each cell of a column says something of a status."""
-    return bool(negated(cells)) or all(
-        not it or it in HELD or it in NOT_HELD or it in STATUS or it in values.YES_NO for it in cells)
+    """Returns whether at least as many cells of a column say something of a status as do not."""
+    return bool(negated(cells)) or 2 * sum(map(is_understood, cells)) >= len(cells)
+
+
+def not_held(cells: set[str]) -> set[str]:
+    """Returns the cells of a column that say that a title is not held."""
+    return {it for it in cells if statuses.verdict(it) == "no"} | negated(cells)
 
 
 def negated(cells: set[str]) -> set[str]:
     """Returns the cells of a column that are another one with a word as `not`, as `не активна` beside `активна`."""
     said = {it: [word for word in it.split() if "not" not in MEANINGS.get(word, NONE)] for it in cells}
     return {it for it, words in said.items() if words and " ".join(words) != it and " ".join(words) in cells}
-
-
-def others(cells: set[str]) -> set[str]:
-    """Returns the cells of a column besides those that say that a title is not held, if it has both."""
-    no = cells & NOT_HELD | negated(cells)
-    return cells - no if no else set()
 
 
 def held_values(header: str, cells: set[str]) -> set[str]:
@@ -151,14 +157,15 @@ def label_kind(header: str) -> str:
     if tokens and tokens <= UNITS:
         # `Months`, of which nobody knows what they are
         return "embargo"
-    return next((kind for kind in ("embargo", "status", "dates") if tokens & LABELS[kind]), "")
+    return next((kind for kind in ("embargo", "status", "dates") if tokens & LABELS[kind]
+                 or any(it in token for it in WRITTEN[kind] for token in tokens)), "")
 
 
 class Column:
     """A column that is not used, with counts of what its cells look like."""
 
-    def __init__(self, place: int, header: str):
-        self.place, self.header, self.kind = place, header, label_kind(header)
+    def __init__(self, place: int, header: str, says_held: bool):
+        self.place, self.header, self.kind = place, header, "status" if says_held else label_kind(header)
         self.filled = 0
         self.counts = dict.fromkeys((*KINDS, "open"), 0)
         self.cells: dict[str, None] = {}
@@ -181,6 +188,9 @@ class Column:
             return ""
         if self.kind and (self.kind != "dates" or self.counts["dates"] or self.counts["embargo"]):
             return self.kind
+        if self.counts["status"]:
+            # One title that is not held is enough.
+            return "status"
         kind = max(KINDS, key=lambda it: self.counts[it])
         # `present` is a date beside other dates.
         count = self.counts[kind] + (self.counts["open"] if kind == "dates" and self.counts[kind] else 0)
@@ -188,11 +198,12 @@ class Column:
 
 
 class Unused:
-    """Looks at the columns of a list that are not used. `uses` says of a place and a cell whether that is used."""
+    """Looks at the columns of a list that are not used. `uses` says of a place and a cell whether that is used, and
+    `held` has the places of the columns that say which titles are held."""
 
-    def __init__(self, columns: Columns, uses: Callable[[int, str], bool]):
+    def __init__(self, columns: Columns, uses: Callable[[int, str], bool], held: set[int]):
         self.uses = uses
-        self.columns = [Column(place, header.strip()) for place, header in columns.left_over()]
+        self.columns = [Column(place, header.strip(), place in held) for place, header in columns.left_over()]
 
     def look(self, cells: list[str]) -> None:
         """Counts the cells of a record."""
