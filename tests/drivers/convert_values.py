@@ -9,7 +9,7 @@ import sys
 
 sys.dont_write_bytecode = True
 sys.path.insert(0, str(pathlib.Path(__file__).resolve().parent.parent.parent / "tools" / "convert"))
-from kbfeed_convert import coverage, dates, identifiers, kinds, labels, names, record, values, volumes
+from kbfeed_convert import coverage, dates, identifiers, kinds, labels, names, record, statuses, values, volumes
 from kbfeed_convert.faults import Refused
 from kbfeed_convert.texts import folded
 
@@ -55,6 +55,7 @@ RULES = {
     "address": lambda cell: values.address(cell, {}),
     "depth": values.depth,
     "access": values.access,
+    "held": statuses.verdict,
     "type": lambda cell: kinds.KINDS.get(folded(cell), "unknown"),
     "label": lambda cell: labels.label(cell) or "unknown",
     "pair": pair,

@@ -7,7 +7,7 @@ import operator
 import re
 from typing import Any, Callable, NamedTuple
 
-from . import coverage, dates, kinds, labels, strict, values, volumes
+from . import coverage, dates, kinds, labels, statuses, strict, values, volumes
 from .beside import NOTHING
 from .form import Record
 from .record import (DATE, DATES, IN_PAIRS, ISSUES, LONG, NUMBERS, PUBLISHED, SIGNS, VOLUMES, WIDENING, Converter,
@@ -164,7 +164,7 @@ def depth(cell: str) -> Cell:
 
 def access(cell: str) -> Cell | None:
     """Reads the access. One with a year may widen the row, and one may be a depth."""
-    if has_year_beside(cell) or values.depth(cell) == "abstracts":
+    if has_year_beside(cell) or values.depth(cell) == "abstracts" or statuses.is_negated(cell):
         return None
     return changed("access_type", cell, values.access(cell), "the access in words")
 

@@ -62,7 +62,7 @@ PARTLY_READ = "only partly read: the rest is left out"
 STATEMENT_NOT_READ = "not read: no range of it"
 GAP_NOT_READ = "only partly read: it may leave something out"
 YEAR_NOT_READ = "not read: a year beside a number"
-ACCESS_NOT_READ = "not read: a year in a kind of access"
+ACCESS_NOT_READ = "not read: a year or a limit in a kind of access"
 BESIDE = "not read: the dates count beside it"
 NOT_PAIRED = "several dates that make no pairs: the narrowest range"
 SEVERAL = "several columns have a date: the narrowest counts"
@@ -430,6 +430,8 @@ class Converter:
                  for it in self.beside_cells(draft)]
         for *_, one in cells:
             self.wall(draft, one.embargo)
+        if statuses.is_negated(access := draft.cells["access_type"]):
+            draft.note("access_type", access, ACCESS_NOT_READ)
         held = self.held(draft)
         if any(not it.first for it in held) and self.has_lost(draft):
             return []
@@ -467,7 +469,7 @@ class Converter:
 
     def uses(self, place: int, cell: str) -> bool:
         """Returns whether a cell of a column that no label names takes days away, or says that a title is held."""
-        if place in self.said_held and unused.is_understood(cell):
+        if place in self.chooser.where and unused.is_understood(cell):
             return True
         return self.said(place, cell).is_used(self.is_limit(place))
 

@@ -12,6 +12,8 @@ PATTERN = re.compile("|".join(re.escape(it) if it[0] >= "\u3000" else rf"\b{re.e
 KINDS = dict(reversed(PHRASES))
 NOT_BEFORE = re.compile("[未不無无非]$")
 LONGEST = 100
+# Words beside a phrase that say nothing, as in `no longer subscribed`.
+BESIDE = word_set("held", "beside")
 
 
 @remembered
@@ -28,8 +30,13 @@ def verdict(cell: str) -> str:
     if any("not" in MEANINGS.get(it, NONE) for it in rest):
         # `not currently subscribed`
         said = {"no"} if said == {"yes"} else set()
-    is_whole = all(MEANINGS.get(it, NONE) & {"filler", "not", "and", "available"} for it in rest)
+    is_whole = all(it in BESIDE or MEANINGS.get(it, NONE) & {"filler", "not", "and", "available"} for it in rest)
     if not said or not is_whole:
         return ""
     return next(it for it in ("cancelled" if said == {"cancelled", "yes"} else "no", "cancelled", "free", "yes")
                 if it in said)
+
+
+def is_negated(cell: str) -> bool:
+    """Returns whether a cell has a word as `not`, and is not understood as a whole."""
+    return not verdict(cell) and any("not" in MEANINGS.get(it, NONE) for it in folded(cell[:LONGEST]).split()[:-1])
