@@ -1,4 +1,4 @@
-"""What a cell says of whether readers have a title, by words of many languages: subscribed, not available, cancelled."""
+"""What a cell says of whether readers have a title, in many languages: subscribed, not available, cancelled."""
 import re
 
 from .texts import folded, remembered, word_set

@@ -166,13 +166,14 @@ class Column:
 
     def __init__(self, place: int, header: str, says_held: bool):
         self.place, self.header, self.kind = place, header, "status" if says_held else label_kind(header)
-        self.filled = 0
+        self.filled = self.held = 0
         self.counts = dict.fromkeys((*KINDS, "open"), 0)
         self.cells: dict[str, None] = {}
 
     def look(self, cell: str) -> None:
         """Counts a cell that is not empty."""
         self.filled += 1
+        self.held += statuses.verdict(cell) == "yes"
         kind = cell_kind(cell)
         if not kind and self.kind == "dates" and dates.YEARS.search(cell):
             # Its label says what it has, though nobody reads it.
@@ -188,8 +189,8 @@ class Column:
             return ""
         if self.kind and (self.kind != "dates" or self.counts["dates"] or self.counts["embargo"]):
             return self.kind
-        if self.counts["status"]:
-            # One title that is not held is enough.
+        if self.counts["status"] or self.filled > self.held >= MOST * self.filled:
+            # One title that is not held is enough, and a value that nobody understands beside some that are.
             return "status"
         kind = max(KINDS, key=lambda it: self.counts[it])
         # `present` is a date beside other dates.
