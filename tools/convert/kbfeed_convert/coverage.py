@@ -19,7 +19,7 @@ AHEAD = 60
 DEPTH = 3
 DATES = {"ymd", "dmy", "cjk", "compact", "ym", "my", "year"}
 # The meanings of words around the length of a moving wall, and which of them make it one of what is not there.
-WALL = {"recent", "current", "not", "available", "except", "embargo", "ago", "filler", "number"}
+WALL = {"recent", "current", "not", "available", "except", "embargo", "ago", "filler", "number", "missing"}
 HIDDEN = {"not", "except", "embargo", "missing"}
 # Units that are one without a number, as in `last year not available`.
 ONE = word_set("single", "units")
