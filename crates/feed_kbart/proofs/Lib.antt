@@ -18,7 +18,6 @@ pub mod Ordered
 pub mod Listed
 pub mod RowContents
 pub mod Stored
-pub mod Wholes
 pub mod Drafts
 pub mod Tabled
 pub mod Readings

@@ -40,11 +40,6 @@ unfoldable pub texts_in : ℕ → List ℕ → List (List ℕ)
 texts_in zero bytes = []
 texts_in (suc n) bytes = (split_text bytes).0 ∷ texts_in n (split_text bytes).1
 
--- the bytes after the first texts
-unfoldable pub after_texts : ℕ → List ℕ → List ℕ
-after_texts zero bytes = bytes
-after_texts (suc n) bytes = after_texts n (split_text bytes).1
-
 -- the columns of labels in the order in which the cells of a record are stored
 abbrev pub in_order : Columns → List (Option ℕ)
 in_order columns = map (column_of columns) stored_labels

@@ -1,16 +1,12 @@
 //! Texts in a block of bytes, each behind its length.
-ghost use Rattle.std.specs.Prelude.{◌≡◌, ◌≤◌, ◌↔◌, ◌++◌, IfOk, IsTrue, OnOk, length, take, drop};
-ghost use Rattle.std.specs.Bool.{OnTrue};
-ghost use Rattle.feed_kbart.specs.Stored.{IsShort, after_texts, length_bytes, split_long, split_text};
+ghost use Rattle.std.specs.Prelude.{◌≡◌, ◌↔◌, ◌++◌, IfOk, IsTrue, OnOk, length, take, drop};
+ghost use Rattle.feed_kbart.specs.Stored.{IsShort, length_bytes, split_long, split_text};
 ghost use Rattle.feed_kbart.specs.Stored.{text_bytes, texts_in};
 
 use std::alloc::AllocError;
 
 // The byte before a length of four bytes.
 const LONG: u8 = 255;
-
-// Most rows differ in their first bytes, this many. Each row in a block has more.
-const NEAR: usize = 16;
 
 // Returns the length of a text. No text of a file is so long that its length does not fit.
 fn length_of(text: &[u8]) -> Result<u32, AllocError>
@@ -91,47 +87,8 @@ pub(crate) fn split_text(bytes: &[u8]) -> (&[u8], &[u8])
     }
 }
 
-// Returns the bytes after the first texts, so many of them.
-fn after_texts(bytes: &[u8], count: usize) -> &[u8]
-    ensures after { result.now ≡ after_texts count bytes.now }
-    ensures within { length result.now ≤ length bytes.now }
-{
-    let mut left = bytes;
-    for _passed in 0..count {
-        left = split_text(left).1;
-    }
-    left
-}
-
-// Returns whether two blocks have the same bytes up to the end of their first texts. Those of equal rows mostly do.
-fn has_same_bytes(one: &[u8], other: &[u8], count: usize) -> bool
-    ensures { OnTrue result (texts_in count one.now ≡ texts_in count other.now) }
-{
-    // Most rows differ here, in an identifier, so that their texts need not be passed.
-    if one.get(..NEAR) != other.get(..NEAR) {
-        return false;
-    }
-    let rest = after_texts(one, count);
-    // If nothing is left, the last text may be cut off.
-    if rest.is_empty() {
-        return false;
-    }
-    let size = one.len() - rest.len();
-    if size > other.len() {
-        return false;
-    }
-    one[..size] == other[..size]
-}
-
 /// Returns whether the first texts of one block are those of another, so many of them.
 pub(crate) fn has_same_texts(one: &[u8], other: &[u8], count: usize) -> bool
-    ensures { IsTrue result ↔ (texts_in count one.now ≡ texts_in count other.now) }
-{
-    has_same_bytes(one, other, count) || has_texts_alike(one, other, count)
-}
-
-// Compares the texts of two blocks one by one.
-fn has_texts_alike(one: &[u8], other: &[u8], count: usize) -> bool
     ensures { IsTrue result ↔ (texts_in count one.now ≡ texts_in count other.now) }
 {
     let mut left = one;

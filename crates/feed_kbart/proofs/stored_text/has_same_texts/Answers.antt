@@ -2,7 +2,7 @@ use Rattle.std.proofs.Common.{◌≡◌, ◌-◌, ◌∙◌, true, false, eqb, r
 use Rattle.std.proofs.lemmas.Bool.{not-true, not-false}
 use Rattle.std.specs.Cmp.Lexicographic.{bytes_decides, pointwise}
 use Rattle.feed_kbart.proofs.Stored.{differ_here, none_left, same_next}
-use Rattle.feed_kbart.proofs.stored_text.has_texts_alike.Goals as goal
+use Rattle.feed_kbart.proofs.stored_text.has_same_texts.Goals as goal
 
 pub returns-then-ne : goal.returns-then-ne
 returns-then-ne c =
