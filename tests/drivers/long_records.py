@@ -3,10 +3,10 @@
 
 long_records.py [SEED [LISTS]]
 
-A record of more than 131,072 bytes is read field by field while it arrives. Each list is written to the file `list` in
-the current folder, and test_lists reads it in windows of some sizes, from a reader, and from two. The lists have
-records of 131,071 to 131,075 bytes, cut near their tabs, their line ends and the byte-order mark, long headers, rows of
-tabs, spaces in each place, and LISTS random ones.
+A record of more than 32,768 bytes is read in pieces while it arrives. Each list is written to the file `list` in the
+current folder, and test_lists reads it in windows of some sizes, from a reader, and from two. The lists have records of
+32,767 to 32,771 bytes, cut near their tabs, their line ends and the byte-order mark, all of these at the borders of
+pieces, long headers, rows of tabs, spaces in each place, and LISTS random ones.
 Prints a line for each kind of list, and each case that differs. Fails if there is one."""
 import random
 import re
@@ -16,7 +16,7 @@ import sys
 from many_rows import LABELS, issn
 
 # More held bytes than these make a record long.
-LONG = 131_072
+LONG = 32_768
 OTHERS = ["title_id", "embargo_info", "coverage_depth", "publication_type", "access_type"]
 TEXTS = [("title", "publication_title"), ("url", "title_url"), ("title_id", "title_id"), ("depth", "coverage_depth"),
          ("embargo", "embargo_info"), ("access", "access_type")]
@@ -115,6 +115,32 @@ def edges():
             yield before + wide + "\n" + row("Next", 2), [1 << 20, LONG, 65_536, *around(wide, [len(HEADER), size])]
 
 
+def filled(parts, more):
+    """Parts of a line, each but the last filled up so that the next begins so many bytes behind a border of pieces."""
+    line = ""
+    for border, part in enumerate(parts[:-1], 1):
+        line += part
+        line += "x" * (border * (LONG - 1) + more - len(line.encode()))
+    return line + parts[-1]
+
+
+def borders():
+    """Marks, characters of four bytes, spaces, tabs, identifiers, labels and line ends at the borders of pieces."""
+    first = row("", 1).split("\t")[1]
+    for more in range(-10, 4):
+        for probe in (MARK, "\U0001F600", " ", "\u00e9 "):
+            yield HEADER + "\n" + row(filled(["", probe, probe, probe], more), 1), [1 << 20, LONG, 65_536]
+        tabs = row("T", 2, "\t" + filled([row("T", 2) + "\t", "\t", "\tF\tserial\t"], more)[len(row("T", 2)) + 1:])
+        yield HEADER + "\n" + tabs + "\r\n" + row("Next", 3), [1 << 20, LONG, 65_536]
+        split = filled(["", "\t" + first + "\t" * 6 + "https://a.example/"], more)
+        yield HEADER + "\r\n" + split + "\r" + row("Next", 3), [1 << 20, LONG, 65_536]
+        for before in ("", MARK):
+            label = before + filled(["", "\t" + HEADER], more + len(before.encode()))
+            yield label + "\n" + "\t".join(["", *row("T", 4).split("\t")]) + "\n", [1 << 20, LONG, 65_536]
+        ended = row(filled(["", "T"], more - len(row("", 1).encode())), 1)
+        yield HEADER + "\n" + ended + "\n\r\n" + row("Next", 3) + "\n" + ended, [1 << 20, LONG, 65_536]
+
+
 def headers():
     """Long headers: labels far apart, missing, twice, and nearly used ones."""
     gap = "\t" * 40_000
@@ -204,7 +230,7 @@ def check(name, lists):
 def main():
     words = [int(it) for it in sys.argv[1:]]
     seed, lists = words + [1, 12][len(words):]
-    good = [check("edges", edges()), check("headers", headers()), check("rows", rows()),
+    good = [check("edges", edges()), check("borders", borders()), check("headers", headers()), check("rows", rows()),
             check("spaces", spaces()), check("random", randoms(seed, lists))]
     sys.exit(0 if all(good) else 1)
 

@@ -90,6 +90,3 @@ length-records_of text = omega (arith, length-records_in (drop_mark text), lengt
 pub begins-append : (a b : List ℕ) → begins_with_end a ≡ true → begins_with_end (a ++ b) ≡ true
 begins-append [] b is = absurd (true≢false (sym is))
 begins-append (e ∷ a) b is = is
-
-pub cut-append : (front a b : List ℕ) → IsCut front a → IsCut front (a ++ b)
-cut-append front a b cut = elim cut [ inl none ↦ inl none | inr end ↦ inr (begins-append a b end) ]

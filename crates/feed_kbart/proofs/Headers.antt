@@ -1,5 +1,5 @@
 -- The labels among the fields of a header, field by field.
-use Rattle.std.proofs.Common.{◌≡◌, ◌<◌, ◌+◌, ℕ, suc, List, [], ◌∷◌, ◌++◌, length, Some, None, refl, sym, ap, arith, Bool, true, false, cond, ◌∙◌, Option, inl, inr, take, drop, fold, replicate, set}
+use Rattle.std.proofs.Common.{◌≡◌, ◌+◌, ℕ, suc, List, [], ◌∷◌, ◌++◌, length, Some, None, refl, sym, ap, arith, Bool, true, false, cond, ◌∙◌, Option, inl, inr, take, drop, fold, replicate, set}
 use Rattle.std.specs.Prelude.{◌==◌, is_none, is_some, map, nat_lt, find, option_map}
 use Rattle.std.specs.List.{count_by, position_from}
 use Rattle.std.specs.Option.{option_or}
@@ -14,7 +14,6 @@ use Rattle.feed_kbart.specs.declared.header.Found.{Found}
 use Rattle.feed_kbart.specs.declared.header.HeaderLabels.{HeaderLabels}
 use Rattle.feed_kbart.specs.declared.label.Label.{Label}
 use Rattle.feed_kbart.proofs.Labels.{empty-label}
-use Rattle.feed_kbart.proofs.Trimming.{trimmed_twice}
 
 position-append : (test : List ℕ → Bool) (i : ℕ) (fields : List (List ℕ)) (f : List ℕ)
     → position_from test i (fields ++ f ∷ []) ≡ option_or (position_from test i fields) (cond (test f) (Some (i + length fields)) None)
@@ -117,32 +116,10 @@ pub labels-blank : (header : List (List ℕ)) (field : List ℕ) (labels : Heade
 labels-blank header field labels blank is =
     record { found = is.found ∙ sym (all-blank header field used_labels blank) ∙ all-more header field used_labels }
 
--- a field without the spaces at its ends is the same labels
-trimmed-found : (header : List (List ℕ)) (field : List ℕ) (l : Label) → found_of (header ++ trimmed field ∷ []) l ≡ found_of (header ++ field ∷ []) l
-trimmed-found header field l =
-    let same : is_label l (trimmed field) ≡ is_label l field = rw (trimmed_twice field) refl in
-    let next : with_field (length header) (trimmed field) (found_of header l) ≡ with_field (length header) field (found_of header l) = rw same refl in
-    sym (found-more header (trimmed field) l) ∙ next ∙ found-more header field l
-
-all-trimmed : (header : List (List ℕ)) (field : List ℕ) (ls : List Label)
-    → map (found_of (header ++ trimmed field ∷ [])) ls ≡ map (found_of (header ++ field ∷ [])) ls
-all-trimmed header field [] = refl
-all-trimmed header field (l ∷ ls) =
-    ap (λ (x : Found). x ∷ map (found_of (header ++ trimmed field ∷ [])) ls) (trimmed-found header field l)
-    ∙ ap (λ (xs : List Found). found_of (header ++ field ∷ []) l ∷ xs) (all-trimmed header field ls)
-
-pub labels-trimmed : (header : List (List ℕ)) (field : List ℕ) (labels : HeaderLabels) → AreLabelsOf (header ++ trimmed field ∷ []) labels
-    → AreLabelsOf (header ++ field ∷ []) labels
-labels-trimmed header field labels is = record { found = is.found ∙ all-trimmed header field used_labels }
-
 -- a text of no bytes
 pub nil_of : (text : List ℕ) → (length text == 0) ≡ true → text ≡ []
 nil_of [] e = refl
 nil_of (b ∷ text) e = absurd (omega (arith, eqb-true (suc (length text)) 0 e))
-
--- a text of some bytes
-pub not_nil : (text : List ℕ) → (length text == 0) ≡ false → 0 < length text
-not_nil text e = grind (arith, nat_tests)
 
 -- the first label that no field is
 pub missing-found : (header : List (List ℕ)) (ls : List Label)

@@ -1,6 +1,6 @@
--- A record and its cells as they are kept are the same row, or are skipped for the same reason.
-use Rattle.std.proofs.Common.{◌≡◌, ◌∙◌, ℕ, List, Option, Some, None, ap, option_map, codes, refl}
-use Rattle.std.specs.Prelude.{◌||◌, ◌&&◌, not, if◌then◌else◌, is_none, is_some}
+-- A record and its cells as they are kept are the same row.
+use Rattle.std.proofs.Common.{◌≡◌, ◌∙◌, ℕ, List, Option, Some, None, ap, option_map, codes}
+use Rattle.std.specs.Prelude.{◌||◌, if◌then◌else◌}
 use Rattle.std.specs.List.{filter}
 use Rattle.std.specs.Str.{str_eq_ignore_ascii_case}
 use Rattle.csv.specs.Records.{field_at}
@@ -9,12 +9,11 @@ use Rattle.feed_identifiers.specs.Isbn.{isbn_of_characters}
 use Rattle.feed_bytes.specs.Trim.{is_no_hyphen, trimmed}
 use Rattle.feed_identifiers.specs.Issn.{issn_of_characters}
 use Rattle.feed_kbart.specs.Columns.{field_of}
-use Rattle.feed_kbart.specs.Coverage.{book_coverage, book_reason, coverage_by, coverage_of, is_empty, is_reversed, kind_of, reason_by, reason_of, serial_coverage, serial_reason, volumes}
+use Rattle.feed_kbart.specs.Coverage.{book_coverage, coverage_by, coverage_of, is_empty, kind_of, serial_coverage, volumes}
 use Rattle.feed_kbart.specs.RowValue.{row_with}
 use Rattle.feed_kbart.specs.Rows.{row_of, texts_of}
 use Rattle.feed_kbart.specs.Stored.{cells_of, kept_cells, row_with_cells, stored_columns}
 use Rattle.feed_kbart.specs.Volumes.{volume_of}
-use Rattle.feed_kbart.specs.declared.fault.Reason.TheVariants.{NoIssn, NoIsbn, BadDate, Reversed}
 use Rattle.feed_kbart.specs.declared.header.Columns.{Columns}
 use Rattle.feed_kbart.specs.declared.identifiers.Identifiers.TheVariants.{Serial, Book}
 use Rattle.feed_kbart.specs.declared.identifiers.Kind.{Kind}
@@ -63,35 +62,6 @@ module _ (columns : Columns) (fields : List (List ℕ)) where
       go None = serial-coverage
       go (Some of.Serial) = serial-coverage
       go (Some of.Book) = book-coverage
-
-  serial-reason : serial_reason stored_columns (kept_cells (cells_of columns fields)) ≡ serial_reason columns fields
-  unfolding field_at
-  serial-reason i =
-      if is_none (issn_of_characters (twice PrintIdentifier i)) && is_none (issn_of_characters (twice OnlineIdentifier i)) then Some NoIssn
-      else if not (
-      (is_empty (twice DateFirstIssueOnline i) || is_some (days_of (twice DateFirstIssueOnline i)))
-      && (is_empty (twice DateLastIssueOnline i) || is_some (days_of (twice DateLastIssueOnline i)))
-      ) then Some BadDate
-      else if is_reversed (days_of (twice DateFirstIssueOnline i)) (days_of (twice DateLastIssueOnline i)) then Some Reversed
-      else None
-
-  book-reason : book_reason stored_columns (kept_cells (cells_of columns fields)) ≡ book_reason columns fields
-  unfolding field_at
-  book-reason i =
-      if is_none (isbn_of_characters (filter is_no_hyphen (twice PrintIdentifier i))) && is_none (isbn_of_characters (filter is_no_hyphen (twice OnlineIdentifier i)))
-      then Some NoIsbn else None
-
-  -- why the record is skipped
-  pub reason_of_kept : reason_of stored_columns (kept_cells (cells_of columns fields)) ≡ reason_of columns fields
-  unfolding field_at
-  reason_of_kept =
-      ap (λ kind. reason_by kind stored_columns (kept_cells (cells_of columns fields))) (kind-kept (field_of columns PublicationType fields))
-      ∙ go (kind_of (field_of columns PublicationType fields))
-    where
-      go : (kind : Option Kind) → reason_by kind stored_columns (kept_cells (cells_of columns fields)) ≡ reason_by kind columns fields
-      go None = refl
-      go (Some of.Serial) = serial-reason
-      go (Some of.Book) = book-reason
 
   -- the row
   pub row_of_kept : (number : ℕ) → row_with_cells number (kept_cells (cells_of columns fields)) ≡ row_of columns number fields

@@ -1,21 +1,15 @@
 -- The cells that are read from a block are those that were stored.
 use Rattle.std.proofs.Common.{◌≡◌, ◌↔◌, ◌<◌, ◌+◌, ◌-◌, ◌∙◌, ℕ, suc, true, false, ltb, eqb, List, [], ◌∷◌, ◌++◌, length, drop, get_or}
-use Rattle.std.proofs.Common.{Option, Some, None, refl, sym, ap, arith, append_assoc}
+use Rattle.std.proofs.Common.{refl, sym, ap, arith, append_assoc}
 use Rattle.std.specs.Int.{to_le_bytes, w32}
 use Rattle.std.specs.List.{All, flat_map}
 use Rattle.std.proofs.Math.Seq.{drop-append_seam, take-append_seam}
 use Rattle.std.proofs.lemmas.Bool.Decides.{nat_tests}
 use Rattle.std.proofs.lemmas.List.{get_or_default}
 use Rattle.std.proofs.lemmas.Nat.{from_le_bytes-to_le_bytes_4}
-use Rattle.csv.specs.Records.{field_at}
-use Rattle.feed_kbart.specs.Columns.{field_of}
-use Rattle.feed_kbart.specs.Coverage.{kind_of}
 use Rattle.feed_kbart.specs.Rows.{row_of}
 use Rattle.feed_kbart.specs.Stored.{IsShort, cells_of, cut, kept_cells, row_at, row_with_cells, split_long, split_text, text_bytes, texts_in}
 use Rattle.feed_kbart.specs.declared.header.Columns.{Columns}
-use Rattle.feed_kbart.specs.declared.identifiers.Kind.{Kind}
-use Rattle.feed_kbart.specs.declared.identifiers.Kind.TheVariants as of
-use Rattle.feed_kbart.specs.declared.label.Label.TheVariants.{PublicationType}
 use Rattle.feed_kbart.proofs.Keeping.{row_of_kept}
 
 not_mark : (n : ℕ) → ltb n 255 ≡ true → eqb n 255 ≡ false
@@ -42,17 +36,6 @@ texts_stored (text ∷ texts) bytes short =
     let first = text_stored text (flat_map text_bytes texts ++ bytes) (short 0 text (omega arith)) in
     let rest = texts_stored texts bytes (λ k d within. short (suc k) d (omega (arith, within))) in
     rw (append_assoc (text_bytes text) (flat_map text_bytes texts) bytes, first, rest) refl
-
--- the row of the cells of a record is the row of the record
-pub row_of_cells : (columns : Columns) (number : ℕ) (fields : List (List ℕ)) → row_with_cells number (cells_of columns fields) ≡ row_of columns number fields
-unfolding field_at
-row_of_cells columns number fields = go (kind_of (field_of columns PublicationType fields)) refl
-  where
-    go : (kind : Option Kind) → kind_of (field_of columns PublicationType fields) ≡ kind
-        → row_with_cells number (cells_of columns fields) ≡ row_of columns number fields
-    go None e = rw e refl
-    go (Some of.Serial) e = rw e refl
-    go (Some of.Book) e = rw e refl
 
 -- the row that is stored after other bytes
 pub row_stored : (before more : List ℕ) (columns : Columns) (number : ℕ) (fields : List (List ℕ)) → All IsShort (kept_cells (cells_of columns fields))

@@ -14,15 +14,12 @@ pub mod Rows
 pub mod Stored
 pub mod RowCells
 pub mod RecordBytes
-pub mod RecordValue
 pub mod Store
 pub mod IndexedStores
 pub mod HoldingsValue
 pub mod HeaderLabels
-pub mod Lines
-pub mod HeaderFronts
-pub mod CellFronts
-pub mod RowFronts
+pub mod Joined
+pub mod LongRows
 pub mod Windows
 pub mod ListTexts
 pub mod Holdings

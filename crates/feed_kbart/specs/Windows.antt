@@ -1,7 +1,7 @@
--- A text that is read in parts, cut before a line end: the last line of it.
-use Rattle.std.specs.Prelude.{◌≡◌, ◌⊎◌, Bool, false, true, ◌∷◌, [], ℕ, List, drop, if◌then◌else◌}
+-- A text that is read in parts, cut before a line end.
+use Rattle.std.specs.Prelude.{◌≡◌, ◌⊎◌, Bool, false, true, ◌∷◌, [], ℕ, List}
 use Rattle.std.specs.List.{All}
-use Rattle.feed_text.specs.Records.{drop_mark, ends_line}
+use Rattle.feed_text.specs.Records.{ends_line}
 
 -- whether a text begins with a line end
 abbrev pub begins_with_end : List ℕ → Bool
@@ -15,7 +15,3 @@ IsCut front back = (front ≡ []) ⊎ (begins_with_end back ≡ true)
 -- the bytes have no line end
 abbrev pub HasNoEnd : List ℕ → Type 0
 HasNoEnd bytes = All (λ b. ends_line b ≡ false) bytes
-
--- the line after a line end, or the first line of a text
-abbrev pub line_of : List ℕ → List ℕ
-line_of bytes = if begins_with_end bytes then drop 1 bytes else drop_mark bytes

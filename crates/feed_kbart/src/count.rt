@@ -4,7 +4,6 @@ ghost use Rattle.std.specs.Prelude.{◌≡◌, ◌≤◌, ◌<◌, ◌+◌, ◌^
 use crate::header::Columns;
 use crate::holdings::{Aside, HoldingsBuilder, KeepRows};
 use crate::identifiers::Identifiers;
-use crate::long_record::LongRecord;
 use csv::ByteRecord;
 use std::alloc::{AllocError, Global};
 use std::marker::Model;
@@ -43,17 +42,6 @@ impl KeepRows for RowCount {
         _number: u32,
         _columns: &Columns,
         _fields: &ByteRecord,
-        _identifiers: &Identifiers,
-    ) -> Result<(), AllocError> {
-        self.rows = self.rows.saturating_add(1);
-        Ok(())
-    }
-
-    fn add_long(
-        &mut self,
-        _alloc: Global,
-        _number: u32,
-        _cells: LongRecord,
         _identifiers: &Identifiers,
     ) -> Result<(), AllocError> {
         self.rows = self.rows.saturating_add(1);

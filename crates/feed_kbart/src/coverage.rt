@@ -1,5 +1,6 @@
 //! Parsing the kind, the days and the volumes of a record, and the reasons to skip a record.
 ghost use Rattle.std.specs.Prelude.{◌≡◌, true, false, None, Some, MatchResult};
+ghost use Rattle.csv.specs.Records.{fields_of};
 ghost use Rattle.feed_kbart.specs.Coverage.{book_coverage, book_reason, coverage_days, coverage_of, is_coverage_date};
 ghost use Rattle.feed_kbart.specs.Coverage.{is_reversed, kind_of, reason_of, serial_coverage, serial_reason, volumes};
 ghost use Rattle.feed_bytes.specs.Trim.{trimmed};
@@ -7,9 +8,10 @@ ghost use Rattle.feed_kbart.specs.Volumes.{volume_of};
 ghost use Rattle.feed_kbart.specs.declared.fault.Reason.TheVariants as reason;
 
 use crate::fault::Reason;
-use crate::header::{Cells, Columns};
+use crate::header::{Columns, cell_of};
 use crate::identifiers::{Identifiers, Kind};
 use crate::label::Label;
+use csv::ByteRecord;
 use feed_bytes::trim_spaces;
 use feed_dates::DayRange;
 use feed_identifiers::{Isbn, Issn};
@@ -74,19 +76,19 @@ pub(crate) fn read_volumes(first: &[u8], last: &[u8]) -> (Option<u32>, Option<u3
 }
 
 // Checks a serial's record, and returns its identifiers. The error is the first reason to skip it.
-fn check_serial<C: Cells>(columns: &Columns, fields: &C) -> Result<Identifiers, Reason>
+fn check_serial(columns: &Columns, fields: &ByteRecord) -> Result<Identifiers, Reason>
     ensures { MatchResult result
-        (λ own. (serial_reason columns.now (C.fields fields.now) ≡ None)
-        × (own ≡ (serial_coverage columns.now (C.fields fields.now)).identifiers))
-        (λ why. serial_reason columns.now (C.fields fields.now) ≡ Some why) }
+        (λ own. (serial_reason columns.now (fields_of fields.now) ≡ None)
+        × (own ≡ (serial_coverage columns.now (fields_of fields.now)).identifiers))
+        (λ why. serial_reason columns.now (fields_of fields.now) ≡ Some why) }
 {
-    let print = Issn::parse(fields.cell(columns.of(Label::PrintIdentifier)));
-    let online = Issn::parse(fields.cell(columns.of(Label::OnlineIdentifier)));
+    let print = Issn::parse(cell_of(fields, columns.of(Label::PrintIdentifier)));
+    let online = Issn::parse(cell_of(fields, columns.of(Label::OnlineIdentifier)));
     if print.is_none() && online.is_none() {
         return Err(Reason::NoIssn);
     }
-    let first = read_date(fields.cell(columns.of(Label::DateFirstIssueOnline)))?;
-    let last = read_date(fields.cell(columns.of(Label::DateLastIssueOnline)))?;
+    let first = read_date(cell_of(fields, columns.of(Label::DateFirstIssueOnline)))?;
+    let last = read_date(cell_of(fields, columns.of(Label::DateLastIssueOnline)))?;
     if is_reversed(first, last) {
         return Err(Reason::Reversed);
     }
@@ -95,14 +97,14 @@ fn check_serial<C: Cells>(columns: &Columns, fields: &C) -> Result<Identifiers, 
 
 // Checks a book's record, and returns its identifiers. The error is the first reason to skip it. Ignores its dates and
 // volumes.
-fn check_book<C: Cells>(columns: &Columns, fields: &C) -> Result<Identifiers, Reason>
+fn check_book(columns: &Columns, fields: &ByteRecord) -> Result<Identifiers, Reason>
     ensures { MatchResult result
-        (λ own. (book_reason columns.now (C.fields fields.now) ≡ None)
-        × (own ≡ (book_coverage columns.now (C.fields fields.now)).identifiers))
-        (λ why. book_reason columns.now (C.fields fields.now) ≡ Some why) }
+        (λ own. (book_reason columns.now (fields_of fields.now) ≡ None)
+        × (own ≡ (book_coverage columns.now (fields_of fields.now)).identifiers))
+        (λ why. book_reason columns.now (fields_of fields.now) ≡ Some why) }
 {
-    let print = Isbn::parse(fields.cell(columns.of(Label::PrintIdentifier)));
-    let online = Isbn::parse(fields.cell(columns.of(Label::OnlineIdentifier)));
+    let print = Isbn::parse(cell_of(fields, columns.of(Label::PrintIdentifier)));
+    let online = Isbn::parse(cell_of(fields, columns.of(Label::OnlineIdentifier)));
     if print.is_none() && online.is_none() {
         return Err(Reason::NoIsbn);
     }
@@ -110,13 +112,13 @@ fn check_book<C: Cells>(columns: &Columns, fields: &C) -> Result<Identifiers, Re
 }
 
 /// Checks that a record is a row, and returns its identifiers. The error is the first reason to skip it.
-pub(crate) fn check_record<C: Cells>(columns: &Columns, fields: &C) -> Result<Identifiers, Reason>
+pub(crate) fn check_record(columns: &Columns, fields: &ByteRecord) -> Result<Identifiers, Reason>
     ensures { MatchResult result
-        (λ own. (reason_of columns.now (C.fields fields.now) ≡ None)
-        × (own ≡ (coverage_of columns.now (C.fields fields.now)).identifiers))
-        (λ why. reason_of columns.now (C.fields fields.now) ≡ Some why) }
+        (λ own. (reason_of columns.now (fields_of fields.now) ≡ None)
+        × (own ≡ (coverage_of columns.now (fields_of fields.now)).identifiers))
+        (λ why. reason_of columns.now (fields_of fields.now) ≡ Some why) }
 {
-    match read_kind(fields.cell(columns.of(Label::PublicationType))) {
+    match read_kind(cell_of(fields, columns.of(Label::PublicationType))) {
         Some(Kind::Serial) => check_serial(columns, fields),
         Some(Kind::Book) => check_book(columns, fields),
         None => Err(Reason::OtherType),

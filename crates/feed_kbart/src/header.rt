@@ -169,24 +169,6 @@ impl HeaderLabels {
     }
 }
 
-/// A record whose fields are found by their columns.
-pub(crate) trait Cells {
-    /// The fields of the record.
-    ghost fields: { Self → List (List ℕ) };
-
-    /// Returns the field in a column. It is empty if the record is short or the column is absent.
-    fn cell(&self, column: Option<usize>) -> &[u8]
-        ensures { result.now ≡ cell column (fields self.now) };
-}
-
-impl Cells for ByteRecord {
-    ghost fields = { fields_of };
-
-    fn cell(&self, column: Option<usize>) -> &[u8] {
-        cell_of(self, column)
-    }
-}
-
 /// Returns the field in a column. It is empty if the record is short or the column is absent.
 pub(crate) fn cell_of(fields: &ByteRecord, column: Option<usize>) -> &[u8]
     ensures { result.now ≡ cell column (fields_of fields.now) }
@@ -195,20 +177,4 @@ pub(crate) fn cell_of(fields: &ByteRecord, column: Option<usize>) -> &[u8]
         None => &[],
         Some(place) => fields.get(place).unwrap_or(&[]),
     }
-}
-
-/// Returns the columns of a good header, or the first reason why it is bad.
-pub(crate) fn read_header(header: &ByteRecord) -> Result<Columns, BadFile>
-    ensures { MatchResult result
-        (λ columns. (bad_header (fields_of header.now) ≡ None)
-        × (columns ≡ columns_of (fields_of header.now)))
-        (λ why. bad_header (fields_of header.now) ≡ Some why) }
-{
-    let mut labels = HeaderLabels::new();
-    let mut place = 0usize;
-    while let Some(field) = header.get(place) {
-        labels.add(place, field);
-        place += 1;
-    }
-    labels.columns()
 }

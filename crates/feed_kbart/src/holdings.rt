@@ -2,7 +2,6 @@
 ghost use Rattle.std.specs.Prelude.{◌≡◌, ◌≤◌, ◌<◌, ◌++◌, List, [], ◌∷◌, OnOk, length};
 ghost use Rattle.csv.specs.Records.{fields_of};
 ghost use Rattle.feed_kbart.specs.Kept.{IsKept};
-ghost use Rattle.feed_limits.specs.Limits.{file_limit};
 
 use crate::coverage::check_record;
 use crate::fault::{KbartFault, Reason};
@@ -10,7 +9,6 @@ use crate::header::Columns;
 use crate::identifiers::{Identifiers, isbn_number};
 use crate::index::Index;
 use crate::indexed_store::IndexedStore;
-use crate::long_record::LongRecord;
 use crate::retired::RetiredHoldings;
 use crate::row::Row;
 use csv::ByteRecord;
@@ -50,7 +48,6 @@ pub(crate) trait KeepRows: Drop {
     ghost use Rattle.feed_kbart.specs.Coverage.{coverage_of};
     ghost use Rattle.feed_kbart.specs.RowValue.{RowValue};
     ghost use Rattle.feed_kbart.specs.Rows.{row_of};
-    ghost use Rattle.feed_kbart.specs.Stored.{stored_columns};
 
     /// These rows were added, and no others.
     ghost keeps: { List RowValue → Self → Type 0 };
@@ -70,18 +67,6 @@ pub(crate) trait KeepRows: Drop {
         requires { identifiers.now ≡ (coverage_of columns.now (fields_of fields.now)).identifiers }
         ensures { OnOk result ((rows : List RowValue) → keeps rows self.old
             → keeps (rows ++ row_of columns.now number (fields_of fields.now) ∷ []) self.new) };
-
-    /// Adds the row of a long record.
-    fn add_long(
-        &mut self,
-        alloc: Global,
-        number: u32,
-        cells: LongRecord,
-        identifiers: &Identifiers,
-    ) -> Result<(), AllocError>
-        requires { identifiers.now ≡ (coverage_of stored_columns cells).identifiers }
-        ensures { OnOk result ((rows : List RowValue) → keeps rows self.old
-            → keeps (rows ++ row_of stored_columns number cells ∷ []) self.new) };
 }
 
 /// The rows and the skipped records so far.
@@ -94,7 +79,6 @@ pub(crate) struct HoldingsBuilder<K> {
 impl<K: KeepRows> HoldingsBuilder<K> {
     ghost use Rattle.feed_kbart.specs.Holdings.{holdings_from, join_holdings, no_holdings};
     ghost use Rattle.feed_kbart.specs.HoldingsValue.{HoldingsValue};
-    ghost use Rattle.feed_kbart.specs.Stored.{stored_columns};
 
     pub(crate) fn new(alloc: Global) -> HoldingsBuilder<K>
         ensures { IsKept K.keeps no_holdings result }
@@ -118,23 +102,6 @@ impl<K: KeepRows> HoldingsBuilder<K> {
     {
         match check_record(columns, fields) {
             Ok(identifiers) => self.rows.add(alloc, number, columns, fields, &identifiers)?,
-            Err(reason) => self.aside.push(Aside { number, reason })?,
-        }
-        Ok(())
-    }
-
-    /// Adds a long record, as a row or as a skipped record.
-    pub(crate) fn add_long(
-        &mut self,
-        alloc: Global,
-        number: u32,
-        cells: LongRecord,
-    ) -> Result<(), AllocError>
-        ensures { OnOk result ((held : HoldingsValue) → IsKept K.keeps held self.old → IsKept K.keeps
-            (join_holdings held (holdings_from stored_columns number (cells ∷ []))) self.new) }
-    {
-        match check_record(&Columns::stored(), &cells) {
-            Ok(identifiers) => self.rows.add_long(alloc, number, cells, &identifiers)?,
             Err(reason) => self.aside.push(Aside { number, reason })?,
         }
         Ok(())

@@ -10,7 +10,6 @@ use crate::holdings::KeepRows;
 use crate::identifiers::Identifiers;
 use crate::index::Index;
 use crate::index_builder::IndexBuilder;
-use crate::long_record::LongRecord;
 use crate::row::Row;
 use crate::row_store::RowStore;
 use csv::ByteRecord;
@@ -78,20 +77,6 @@ impl KeepRows for IndexedStore {
     ) -> Result<(), AllocError> {
         let whole = replace(&mut self.whole, false);
         self.store.add(alloc, number, columns, fields, identifiers)?;
-        self.index.add(alloc, identifiers)?;
-        self.whole = whole;
-        Ok(())
-    }
-
-    fn add_long(
-        &mut self,
-        alloc: Global,
-        number: u32,
-        cells: LongRecord,
-        identifiers: &Identifiers,
-    ) -> Result<(), AllocError> {
-        let whole = replace(&mut self.whole, false);
-        self.store.add_long(alloc, number, cells, identifiers)?;
         self.index.add(alloc, identifiers)?;
         self.whole = whole;
         Ok(())

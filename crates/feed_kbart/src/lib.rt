@@ -5,7 +5,6 @@
 //! and volumes with the same functions. `count_of` counts the rows and the skipped records for a report.
 #![tactic(auto)]
 
-mod cell_front;
 mod count;
 mod counts;
 mod coverage;
@@ -14,7 +13,7 @@ mod fault;
 mod file;
 mod file_rows;
 mod header;
-mod header_front;
+mod header_fields;
 mod holdings;
 mod identifiers;
 mod index;
@@ -25,18 +24,16 @@ mod law;
 mod list_check;
 mod list_records;
 mod list_text;
-mod long_record;
+mod long_row;
 mod merge;
 mod retired;
 mod row;
 mod row_cells;
-mod row_front;
 mod row_store;
 mod run;
 mod runs;
 mod stored_record;
 mod stored_text;
-mod take_fields;
 mod window;
 
 pub use count::FileCount;

@@ -35,7 +35,7 @@ impl ListCheck {
     }
 
     /// Receives the next bytes, cut anywhere. Takes time in proportion to these bytes, the short record that they end,
-    /// and the hyphens of an ISBN that ends there. A record of more than 131,072 bytes is read while it arrives.
+    /// and the hyphens of an ISBN that ends there. A record of more than 32,768 bytes is read while it arrives.
     ///
     /// # Errors
     ///

@@ -1,106 +1,131 @@
 //! The records of a list as they are read, one after another: no header yet, a bad one, or the rows so far.
-ghost use Rattle.std.specs.Prelude.{◌≡◌, ◌≤◌, ◌<◌, ◌+◌, ◌++◌, ℕ, true, List, [], ◌∷◌, OnOk, length};
-ghost use Rattle.std.specs.List.{slice_split};
+ghost use Rattle.std.specs.Prelude.{◌≡◌, ◌<◌, ◌++◌, ℕ, List, [], ◌∷◌, None, Some, IfOk, OnOk, length};
 ghost use Rattle.csv.specs.Records.{fields_of};
 ghost use Rattle.feed_limits.specs.Limits.{file_limit};
-ghost use Rattle.feed_text.specs.Records.{is_tab};
+ghost use Rattle.feed_kbart.specs.Joined.{joined};
+ghost use Rattle.feed_kbart.specs.ListRecords.{IsLong};
+ghost use Rattle.feed_kbart.specs.LongRows.{IsLongRow};
+ghost use Rattle.feed_kbart.specs.Stored.{in_order};
 
 use crate::fault::{BadFile, KbartFault};
-use crate::header::{Columns, read_header};
-use crate::header_front::HeaderFront;
+use crate::header::Columns;
+use crate::header_fields::HeaderFields;
 use crate::holdings::{HoldingsBuilder, KeepRows};
-use crate::row_front::RowFront;
-use crate::take_fields::take_part;
+use crate::long_row::LongRow;
 use csv::ByteRecord;
 use std::alloc::{AllocError, Global};
-use std::mem::replace;
 
 // The records after a good header: its columns, the number of the next record, and the rows and the skipped records so
-// far. The front is that of a record whose bytes are arriving.
+// far. The long row is that of a record whose pieces are arriving.
 #[derive(Drop)]
 struct Table<K> {
     columns: Columns,
     number: u32,
     kept: HoldingsBuilder<K>,
-    front: RowFront,
+    long: Option<LongRow>,
 }
 
 // The state after the records so far.
 #[derive(Drop)]
 enum Stage<K> {
-    // There was no record. The bytes of the first may be arriving.
-    Start(HeaderFront),
+    // There was no record. The pieces of the first may be arriving.
+    Start(HeaderFields),
     // The header is bad, so no other record counts.
     Bad(BadFile),
     Good(Table<K>),
 }
 
-/// The records of a list that were read so far. The first one is the header.
+/// The records of a list that were read so far. The first one is the header. A record may be added in pieces: the first
+/// field of each continues the last one so far.
 #[derive(Drop)]
 pub(crate) struct ListRecords<K> {
     stage: Stage<K>,
 }
 
+// Returns the long row with the next piece of its record.
+fn take_long(
+    alloc: Global,
+    columns: &Columns,
+    long: &mut Option<LongRow>,
+    piece: &ByteRecord,
+) -> Result<LongRow, AllocError>
+    ensures row { IfOk result (λ row. (begun : List (List ℕ)) → 0 < length (fields_of piece.now)
+        → IsLong (in_order columns.now) begun long.old
+        → IsLongRow (in_order columns.now) (joined begun (fields_of piece.now)) row) }
+    ensures none { long.new ≡ None }
+{
+    match long.take() {
+        Some(row) => row.with(piece),
+        None => LongRow::new(alloc, columns.in_order()).with(piece),
+    }
+}
+
 impl<K: KeepRows> Table<K> {
-    ghost use Rattle.std.specs.Prelude.{None};
     ghost use Rattle.feed_kbart.specs.Columns.{bad_header, columns_of};
     ghost use Rattle.feed_kbart.specs.ListRecords.{IsTableOf};
 
     // Begins with the columns of the first record.
     fn new(alloc: Global, columns: Columns) -> Table<K>
         ensures { (header : List (List ℕ)) → bad_header header ≡ None → columns ≡ columns_of header
-            → IsTableOf K.keeps (header ∷ []) [] result }
+            → IsTableOf K.keeps (header ∷ []) ([] ∷ []) result }
     {
-        let front = RowFront::new(alloc, columns.in_order());
         Table {
             columns,
             number: 2,
             kept: HoldingsBuilder::new(alloc),
-            front,
+            long: None,
         }
     }
 
     fn add(&mut self, alloc: Global, fields: &ByteRecord) -> Result<(), AllocError>
-        ensures { OnOk result ((records : List (List (List ℕ))) → length records < file_limit
-            → IsTableOf K.keeps records [] self.old
-            → IsTableOf K.keeps (records ++ fields_of fields.now ∷ []) [] self.new) }
+        ensures { OnOk result ((records : List (List (List ℕ))) (begun : List (List ℕ)) → length records < file_limit
+            → 0 < length (fields_of fields.now) → IsTableOf K.keeps records begun self.old
+            → IsTableOf K.keeps (records ++ joined begun (fields_of fields.now) ∷ []) ([] ∷ []) self.new) }
     {
+        if self.long.is_some() {
+            return self.end_long(alloc, fields);
+        }
         self.kept.add(alloc, &self.columns, self.number, fields)?;
         self.number = self.number.saturating_add(1);
         Ok(())
     }
 
-    fn add_part(&mut self, bytes: &[u8]) -> Result<(), AllocError>
-        ensures { OnOk result ((records : List (List (List ℕ))) (line : List ℕ)
-            → length line + length bytes.now ≤ file_limit
-            → IsTableOf K.keeps records line self.old → IsTableOf K.keeps records (line ++ bytes.now) self.new) }
+    // Adds the last piece of a record.
+    fn end_long(&mut self, alloc: Global, piece: &ByteRecord) -> Result<(), AllocError>
+        ensures { OnOk result ((records : List (List (List ℕ))) (begun : List (List ℕ)) → length records < file_limit
+            → 0 < length (fields_of piece.now) → IsTableOf K.keeps records begun self.old
+            → IsTableOf K.keeps (records ++ joined begun (fields_of piece.now) ∷ []) ([] ∷ []) self.new) }
     {
-        take_part(&mut self.front, bytes)
+        let row = take_long(alloc, &self.columns, &mut self.long, piece)?;
+        let record = row.into_record(alloc)?;
+        self.kept
+            .add(alloc, &Columns::stored(), self.number, &record)?;
+        self.number = self.number.saturating_add(1);
+        Ok(())
     }
 
-    fn end_record(&mut self, alloc: Global) -> Result<(), AllocError>
-        ensures { OnOk result ((records : List (List (List ℕ))) (line : List ℕ) → length records < file_limit
-            → IsTableOf K.keeps records line self.old
-            → IsTableOf K.keeps (records ++ slice_split is_tab line ∷ []) [] self.new) }
+    fn add_piece(&mut self, alloc: Global, piece: &ByteRecord) -> Result<(), AllocError>
+        ensures { OnOk result ((records : List (List (List ℕ))) (begun : List (List ℕ))
+            → 0 < length (fields_of piece.now) → IsTableOf K.keeps records begun self.old
+            → IsTableOf K.keeps records (joined begun (fields_of piece.now)) self.new) }
     {
-        let next = RowFront::new(alloc, self.columns.in_order());
-        let cells = replace(&mut self.front, next).into_record(alloc)?;
-        self.kept.add_long(alloc, self.number, cells)?;
-        self.number = self.number.saturating_add(1);
+        let row = take_long(alloc, &self.columns, &mut self.long, piece)?;
+        self.long = Some(row);
         Ok(())
     }
 }
 
 impl<K: KeepRows> Stage<K> {
-    ghost use Rattle.std.specs.Prelude.{None, Some, MatchResult};
+    ghost use Rattle.std.specs.Prelude.{MatchResult};
     ghost use Rattle.feed_kbart.specs.Columns.{bad_header, columns_of};
+    ghost use Rattle.feed_kbart.specs.HeaderLabels.{AreHeaderFields};
     ghost use Rattle.feed_kbart.specs.ListRecords.{IsStageOf};
 
     // The state after the first record.
     fn after_header(alloc: Global, columns: Result<Columns, BadFile>) -> Stage<K>
         ensures { (header : List (List ℕ)) → MatchResult columns
             (λ columns. (bad_header header ≡ None) × (columns ≡ columns_of header))
-            (λ why. bad_header header ≡ Some why) → IsStageOf K.keeps (header ∷ []) [] result }
+            (λ why. bad_header header ≡ Some why) → IsStageOf K.keeps (header ∷ []) ([] ∷ []) result }
     {
         match columns {
             Ok(columns) => Stage::Good(Table::new(alloc, columns)),
@@ -108,22 +133,30 @@ impl<K: KeepRows> Stage<K> {
         }
     }
 
-    // Takes the first record. It is not inlined: its values are large, and each record would make room for them.
+    // Takes the last piece of the first record. It is not inlined: its values are large, and each record would make
+    // room for them.
     #[inline(never)]
-    fn begin(&mut self, alloc: Global, header: &ByteRecord)
-        ensures { IsStageOf K.keeps (fields_of header.now ∷ []) [] self.new }
+    fn end_header(
+        alloc: Global,
+        header: &mut HeaderFields,
+        piece: &ByteRecord,
+    ) -> Result<Stage<K>, AllocError>
+        ensures { IfOk result (λ stage. (begun : List (List ℕ)) → 0 < length (fields_of piece.now)
+            → AreHeaderFields begun header.old
+            → IsStageOf K.keeps (joined begun (fields_of piece.now) ∷ []) ([] ∷ []) stage) }
     {
-        *self = Stage::after_header(alloc, read_header(header));
+        header.add(piece)?;
+        Ok(Stage::after_header(alloc, header.columns()))
     }
 
     fn add(&mut self, alloc: Global, fields: &ByteRecord) -> Result<(), AllocError>
-        ensures { OnOk result ((records : List (List (List ℕ))) → length records < file_limit
-            → IsStageOf K.keeps records [] self.old
-            → IsStageOf K.keeps (records ++ fields_of fields.now ∷ []) [] self.new) }
+        ensures { OnOk result ((records : List (List (List ℕ))) (begun : List (List ℕ)) → length records < file_limit
+            → 0 < length (fields_of fields.now) → IsStageOf K.keeps records begun self.old
+            → IsStageOf K.keeps (records ++ joined begun (fields_of fields.now) ∷ []) ([] ∷ []) self.new) }
     {
         match self {
-            Stage::Start(_) => {
-                self.begin(alloc, fields);
+            Stage::Start(header) => {
+                *self = Stage::end_header(alloc, header, fields)?;
                 Ok(())
             }
             Stage::Bad(_) => Ok(()),
@@ -131,30 +164,15 @@ impl<K: KeepRows> Stage<K> {
         }
     }
 
-    fn add_part(&mut self, bytes: &[u8]) -> Result<(), AllocError>
-        ensures { OnOk result ((records : List (List (List ℕ))) (line : List ℕ)
-            → length line + length bytes.now ≤ file_limit
-            → IsStageOf K.keeps records line self.old → IsStageOf K.keeps records (line ++ bytes.now) self.new) }
+    fn add_piece(&mut self, alloc: Global, piece: &ByteRecord) -> Result<(), AllocError>
+        ensures { OnOk result ((records : List (List (List ℕ))) (begun : List (List ℕ))
+            → 0 < length (fields_of piece.now) → IsStageOf K.keeps records begun self.old
+            → IsStageOf K.keeps records (joined begun (fields_of piece.now)) self.new) }
     {
         match self {
-            Stage::Start(front) => take_part(front, bytes),
+            Stage::Start(header) => header.add(piece),
             Stage::Bad(_) => Ok(()),
-            Stage::Good(table) => table.add_part(bytes),
-        }
-    }
-
-    fn end_record(&mut self, alloc: Global) -> Result<(), AllocError>
-        ensures { OnOk result ((records : List (List (List ℕ))) (line : List ℕ) → length records < file_limit
-            → IsStageOf K.keeps records line self.old
-            → IsStageOf K.keeps (records ++ slice_split is_tab line ∷ []) [] self.new) }
-    {
-        match self {
-            Stage::Start(front) => {
-                *self = Stage::after_header(alloc, front.columns());
-                Ok(())
-            }
-            Stage::Bad(_) => Ok(()),
-            Stage::Good(table) => table.end_record(alloc),
+            Stage::Good(table) => table.add_piece(alloc, piece),
         }
     }
 }
@@ -168,36 +186,26 @@ impl<K: KeepRows> ListRecords<K> {
         ensures { AreRecordsOf K.keeps [] result }
     {
         ListRecords {
-            stage: Stage::Start(HeaderFront::new(alloc)),
+            stage: Stage::Start(HeaderFields::new(alloc)),
         }
     }
 
-    /// Adds the next record. After an error, `finish` returns `Memory`.
+    /// Adds the next record, or the last piece of it. After an error, `finish` returns `Memory`.
     pub(crate) fn add(&mut self, alloc: Global, fields: &ByteRecord) -> Result<(), AllocError>
-        ensures { OnOk result ((records : List (List (List ℕ))) → length records < file_limit
-            → AreRecordsOf K.keeps records self.old
-            → AreRecordsOf K.keeps (records ++ fields_of fields.now ∷ []) self.new) }
+        ensures { OnOk result ((records : List (List (List ℕ))) (begun : List (List ℕ)) → length records < file_limit
+            → 0 < length (fields_of fields.now) → AreRecordsWith K.keeps records begun self.old
+            → AreRecordsOf K.keeps (records ++ joined begun (fields_of fields.now) ∷ []) self.new) }
     {
         self.stage.add(alloc, fields)
     }
 
-    /// Adds more bytes of the next record. None of them ends its line. After an error the records are of no use.
-    pub(crate) fn add_part(&mut self, bytes: &[u8]) -> Result<(), AllocError>
-        ensures { OnOk result ((records : List (List (List ℕ))) (line : List ℕ)
-            → length line + length bytes.now ≤ file_limit
-            → AreRecordsWith K.keeps records line self.old
-            → AreRecordsWith K.keeps records (line ++ bytes.now) self.new) }
+    /// Adds a piece of the next record. After an error the records are of no use.
+    pub(crate) fn add_piece(&mut self, alloc: Global, piece: &ByteRecord) -> Result<(), AllocError>
+        ensures { OnOk result ((records : List (List (List ℕ))) (begun : List (List ℕ))
+            → 0 < length (fields_of piece.now) → AreRecordsWith K.keeps records begun self.old
+            → AreRecordsWith K.keeps records (joined begun (fields_of piece.now)) self.new) }
     {
-        self.stage.add_part(bytes)
-    }
-
-    /// Adds the record whose bytes were added. After an error the records are of no use.
-    pub(crate) fn end_record(&mut self, alloc: Global) -> Result<(), AllocError>
-        ensures { OnOk result ((records : List (List (List ℕ))) (line : List ℕ) → length records < file_limit
-            → AreRecordsWith K.keeps records line self.old
-            → AreRecordsOf K.keeps (records ++ slice_split is_tab line ∷ []) self.new) }
-    {
-        self.stage.end_record(alloc)
+        self.stage.add_piece(alloc, piece)
     }
 
     /// Returns the rows and the skipped records of a list that has exactly these records, or the first reason why it is
@@ -208,7 +216,7 @@ impl<K: KeepRows> ListRecords<K> {
     {
         let ListRecords { stage } = self;
         match stage {
-            Stage::Start(_front) => Err(KbartFault::Bad(BadFile::NoHeader)),
+            Stage::Start(_header) => Err(KbartFault::Bad(BadFile::NoHeader)),
             Stage::Bad(why) => Err(KbartFault::Bad(why)),
             Stage::Good(table) => Ok(table.kept),
         }

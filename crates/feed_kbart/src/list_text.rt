@@ -1,25 +1,24 @@
-//! The text of a list while its bytes arrive. A short record is read when its line has ended, and a long one field by
-//! field.
-ghost use Rattle.std.specs.Prelude.{◌≡◌, ◌≤◌, ◌<◌, ◌+◌, ◌++◌, ℕ, List, [], ◌∷◌, OnOk, drop, false, length, true};
-ghost use Rattle.feed_kbart.specs.Windows.{HasNoEnd, line_of};
+//! The text of a list while its bytes arrive. A record is read when its line has ended, and a long one in pieces.
+ghost use Rattle.std.specs.Prelude.{◌≤◌, ◌<◌, ◌+◌, ◌++◌, ℕ, List, [], OnOk, length};
 ghost use Rattle.feed_limits.specs.Limits.{file_limit};
-ghost use Rattle.feed_text.specs.Records.{ends_line};
 
 use crate::fault::KbartFault;
 use crate::holdings::{HoldingsBuilder, KeepRows};
 use crate::list_records::ListRecords;
-use crate::window::{first_line_end, last_line_end, line_of, read_window};
+use crate::stored_text::cut;
+use crate::window::{last_line_end, read_piece, read_window};
 use std::alloc::{AllocError, Global};
 
-// A record is long if more bytes are held of it than these.
-const LONG: usize = 131_072;
+// If more bytes than these are held of a record, it is long, and these are read as a piece of it. For each field csv
+// takes up to 16 bytes while it splits a piece, so one of tabs alone takes half a MiB.
+const PIECE: usize = 32_768;
 
 /// The text of a list so far.
 #[derive(Drop)]
 pub(crate) struct ListText<K> {
-    // The bytes from the last line end on. No record of them was added. It has none if a long record is arriving.
+    // The bytes from the last line end on. Those of a long record that were read are not held: the others are, behind
+    // a line end.
     held: Vec<u8>,
-    is_long: bool,
     records: ListRecords<K>,
 }
 
@@ -34,7 +33,6 @@ impl<K: KeepRows> ListText<K> {
     {
         ListText {
             held: Vec::new(alloc),
-            is_long: false,
             records: ListRecords::new(alloc),
         }
     }
@@ -49,51 +47,17 @@ impl<K: KeepRows> ListText<K> {
         ensures { OnOk result ((text : List ℕ) → length text + length bytes.now ≤ file_limit
             → IsTextOf K.keeps text self.old → IsTextOf K.keeps (text ++ bytes.now) self.new) }
     {
-        if !self.is_long {
-            return self.add_lines(alloc, bytes);
-        }
-        match first_line_end(bytes) {
-            None => self.records.add_part(bytes),
-            Some(place) => {
-                self.end_long(alloc, &bytes[..place], bytes[place])?;
-                self.add_lines(alloc, &bytes[place + 1..])
-            }
-        }
-    }
-
-    // Receives the last bytes of a long record, and the line end after it.
-    fn end_long(&mut self, alloc: Global, part: &[u8], end: u8) -> Result<(), AllocError>
-        ensures text { OnOk result ((text : List ℕ) → self.old.is_long ≡ true → HasNoEnd part.now → ends_line end ≡ true
-            → length text + length part.now < file_limit → IsTextOf K.keeps text self.old
-            → IsTextOf K.keeps (text ++ (part.now ++ end ∷ [])) self.new) }
-        ensures short { OnOk result (self.new.is_long ≡ false) }
-    {
-        self.records.add_part(part)?;
-        self.records.end_record(alloc)?;
-        self.held.push(end)?;
-        self.is_long = false;
-        Ok(())
-    }
-
-    // Receives bytes if no long record is arriving.
-    fn add_lines(&mut self, alloc: Global, bytes: &[u8]) -> Result<(), AllocError>
-        ensures { OnOk result ((text : List ℕ) → self.old.is_long ≡ false
-            → length text + length bytes.now ≤ file_limit → IsTextOf K.keeps text self.old
-            → IsTextOf K.keeps (text ++ bytes.now) self.new) }
-    {
         self.hold(alloc, bytes)?;
-        if self.held.len() > LONG {
-            return self.begin_long();
+        while self.held.len() > PIECE {
+            self.read_held(alloc)?;
         }
         Ok(())
     }
 
     // Adds the records of bytes up to the last line end, and holds the bytes from there on.
     fn hold(&mut self, alloc: Global, bytes: &[u8]) -> Result<(), AllocError>
-        ensures text { OnOk result ((text : List ℕ) → self.old.is_long ≡ false
-            → length text + length bytes.now ≤ file_limit → IsTextOf K.keeps text self.old
-            → IsTextOf K.keeps (text ++ bytes.now) self.new) }
-        ensures short { OnOk result (self.new.is_long ≡ self.old.is_long) }
+        ensures { OnOk result ((text : List ℕ) → length text + length bytes.now ≤ file_limit
+            → IsTextOf K.keeps text self.old → IsTextOf K.keeps (text ++ bytes.now) self.new) }
     {
         match last_line_end(bytes) {
             None => self.held.extend_from_slice(bytes)?,
@@ -107,14 +71,19 @@ impl<K: KeepRows> ListText<K> {
         Ok(())
     }
 
-    // Adds the held bytes as the front of a long record.
-    fn begin_long(&mut self) -> Result<(), AllocError>
-        ensures { OnOk result ((text : List ℕ) → self.old.is_long ≡ false → 3 < length self.old.held.items
-            → length text ≤ file_limit → IsTextOf K.keeps text self.old → IsTextOf K.keeps text self.new) }
+    // Reads a piece of the held bytes. Those after it are held, so the line has bytes then.
+    fn read_held(&mut self, alloc: Global) -> Result<(), AllocError>
+        ensures text { OnOk result ((text : List ℕ) → PIECE < length self.old.held.items
+            → IsTextOf K.keeps text self.old → IsTextOf K.keeps text self.new) }
+        ensures fewer { OnOk result (PIECE < length self.old.held.items
+            → length self.new.held.items < length self.old.held.items) }
     {
-        self.records.add_part(line_of(&self.held))?;
-        self.held.clear();
-        self.is_long = true;
+        let (piece, rest) = cut(&self.held, PIECE);
+        read_piece(alloc, piece, &mut self.records)?;
+        let mut held = Vec::new(alloc);
+        held.push(b'\n')?;
+        held.extend_from_slice(rest)?;
+        self.held = held;
         Ok(())
     }
 
@@ -127,16 +96,8 @@ impl<K: KeepRows> ListText<K> {
         ensures { (text : List ℕ) → length text ≤ file_limit → IsTextOf K.keeps text self
             → IsBuilt K.keeps (records_of text) result }
     {
-        let ListText {
-            held,
-            is_long,
-            mut records,
-        } = self;
-        if is_long {
-            records.end_record(alloc)?;
-        } else {
-            read_window(alloc, &held, &mut records)?;
-        }
+        let ListText { held, mut records } = self;
+        read_window(alloc, &held, &mut records)?;
         records.finish()
     }
 }

@@ -23,15 +23,17 @@ pub struct Row {
 const _: () = prove!(size_of::<Row>() == 16);
 
 impl Model for Row {
+    ghost use Rattle.feed_kbart.specs.RecordBytes.{cells_in, number_of};
     ghost use Rattle.feed_kbart.specs.RowValue.{RowValue};
     ghost use Rattle.feed_kbart.specs.Stored.{row_with_cells};
 
     ghost Value = { RowValue };
 
-    ghost view = { λ r. row_with_cells r.record.number r.record.cells };
+    ghost view = { λ r. row_with_cells (number_of r.record) (cells_in r.record) };
 }
 
 impl Row {
+    ghost use Rattle.feed_kbart.specs.RecordBytes.{cells_in, number_of};
     ghost use Rattle.feed_kbart.specs.Identifiers.{kind, online_isbn, online_issn, print_isbn, print_issn};
     ghost use Rattle.feed_kbart.specs.RowCells.{content_of};
     ghost use Rattle.feed_kbart.specs.RowValue.{content};
@@ -39,7 +41,7 @@ impl Row {
 
     /// Returns the row of a record. The record must not be one that is skipped.
     pub(crate) fn of(stored: StoredRecord) -> Row
-        ensures { result ≡ row_with_cells stored.number stored.cells }
+        ensures { result ≡ row_with_cells (number_of stored) (cells_in stored) }
     {
         Row { record: stored }
     }

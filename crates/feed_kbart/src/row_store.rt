@@ -2,7 +2,6 @@
 ghost use Rattle.std.specs.Prelude.{◌≡◌, ◌≤◌, ◌<◌, ◌++◌, List, [], IfOk, OnOk, length, map};
 ghost use Rattle.std.specs.Bool.{OnFalse, OnTrue};
 ghost use Rattle.std.specs.Rc.{rc_slice_items};
-ghost use Rattle.csv.specs.Records.{fields_of};
 ghost use Rattle.feed_limits.specs.Limits.{file_limit};
 ghost use Rattle.feed_kbart.specs.RowValue.{RowValue};
 ghost use Rattle.feed_kbart.specs.Store.{AreStored, row_in, stored_rows};
@@ -10,7 +9,6 @@ ghost use Rattle.feed_kbart.specs.Store.{AreStored, row_in, stored_rows};
 use crate::header::Columns;
 use crate::holdings::KeepRows;
 use crate::identifiers::Identifiers;
-use crate::long_record::LongRecord;
 use crate::row::Row;
 use crate::stored_record::{StoredRecord, put_cells};
 use csv::ByteRecord;
@@ -124,18 +122,6 @@ impl KeepRows for RowStore {
         let start = self.block.len() as u16;
         put_cells(&mut self.block, columns, fields)?;
         self.drafts.push(Draft { start, number })?;
-        Ok(())
-    }
-
-    fn add_long(
-        &mut self,
-        alloc: Global,
-        number: u32,
-        cells: LongRecord,
-        _identifiers: &Identifiers,
-    ) -> Result<(), AllocError> {
-        self.seal(alloc)?;
-        self.rows.push(Row::of(StoredRecord::long(cells, number)))?;
         Ok(())
     }
 }

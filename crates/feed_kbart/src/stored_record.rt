@@ -7,26 +7,24 @@ ghost use Rattle.feed_kbart.specs.Columns.{cell};
 ghost use Rattle.feed_kbart.specs.Labels.{label_count};
 ghost use Rattle.feed_kbart.specs.RecordBytes.{cells_in, number_of};
 ghost use Rattle.feed_kbart.specs.RowCells.{in_order};
-ghost use Rattle.feed_kbart.specs.Stored.{IsShort, cells_of, kept_cells, kept_text, stored_columns};
+ghost use Rattle.feed_kbart.specs.Stored.{IsShort, cells_of, kept_cells, kept_text};
 ghost use Rattle.feed_kbart.specs.Stored.{text_bytes, texts_in};
 
 use crate::header::{Columns, cell_of};
 use crate::label::{LABEL_COUNT, PARSED_COUNT};
-use crate::long_record::LongRecord;
 use crate::row_cells::RowCells;
 use crate::stored_text::{has_same_texts, put_text, split_text};
 use csv::ByteRecord;
 use feed_bytes::trim_spaces;
 use std::alloc::AllocError;
-use std::marker::Model;
 use std::rc::RcSlice;
 
 // The bytes of a short record. It has room for nothing but an ISSN, printed or online, with its hyphen or without.
 const SHORT_SIZE: usize = 11;
 
-// The bytes of a record, and its number. Each kind takes 16 bytes.
+/// The number of a record, and its cells in their places. Each kind takes 16 bytes.
 #[derive(Debug, Drop)]
-enum Stored {
+pub(crate) enum StoredRecord {
     // The record has all its cells here, so no block is kept for it.
     Short {
         bytes: [u8; SHORT_SIZE],
@@ -38,110 +36,55 @@ enum Stored {
         number: u32,
         block: RcSlice<u8>,
     },
-    // The record has its cells for itself, since they may be long.
-    Long {
-        number: u32,
-        cells: LongRecord,
-    },
-}
-
-/// The number of a record, and its cells in their places.
-#[derive(Debug, Drop)]
-pub(crate) struct StoredRecord {
-    stored: Stored,
-}
-
-impl Model for StoredRecord {
-    ghost use Rattle.feed_kbart.specs.RecordBytes.{cells_in, number_of};
-    ghost use Rattle.feed_kbart.specs.RecordValue.{RecordValue};
-
-    ghost Value = { RecordValue };
-
-    ghost view = { λ r. record { number = number_of r.stored; cells = cells_in r.stored } };
-}
-
-impl Stored {
-    fn number(&self) -> u32
-        ensures { result ≡ number_of self.now }
-    {
-        match self {
-            Stored::Short { number, .. }
-            | Stored::Shared { number, .. }
-            | Stored::Long { number, .. } => *number,
-        }
-    }
-
-    // Returns the bytes at whose front the cells are. A long record has none.
-    fn bytes(&self) -> Option<&[u8]>
-        ensures { IfSome result (λ bytes. texts_in label_count bytes.now ≡ cells_in self.now) }
-    {
-        match self {
-            Stored::Short { bytes, .. } => Some(bytes),
-            Stored::Shared { start, block, .. } => Some(rest_of(block, *start as usize)),
-            Stored::Long { .. } => None,
-        }
-    }
-
-    // Returns the cells. It is inlined, so that a getter passes no cells after its own.
-    #[inline(always)]
-    fn cells(&self) -> RowCells<'_>
-        ensures { in_order result ≡ cells_in self.now }
-    {
-        match self {
-            Stored::Short { bytes, .. } => cells_of_texts(bytes),
-            Stored::Shared { start, block, .. } => cells_of_texts(rest_of(block, *start as usize)),
-            Stored::Long { cells, .. } => cells.cells(),
-        }
-    }
 }
 
 impl StoredRecord {
     pub(crate) fn new(block: RcSlice<u8>, start: u16, number: u32) -> StoredRecord
-        ensures { result
-            ≡ record { number = number; cells = texts_in label_count (drop start (rc_slice_items block)) } }
+        ensures number { number_of result ≡ number }
+        ensures cells { cells_in result ≡ texts_in label_count (drop start (rc_slice_items block)) }
     {
-        let stored = match short_record(rest_of(&block, start as usize)) {
-            Some(bytes) => Stored::Short { bytes, number },
-            None => Stored::Shared {
+        match short_record(rest_of(&block, start as usize)) {
+            Some(bytes) => StoredRecord::Short { bytes, number },
+            None => StoredRecord::Shared {
                 start,
                 number,
                 block,
             },
-        };
-        StoredRecord { stored }
-    }
-
-    /// Returns a long record, with its cells as they are.
-    pub(crate) fn long(cells: LongRecord, number: u32) -> StoredRecord
-        ensures { result ≡ record { number = number; cells = cells_of stored_columns cells } }
-    {
-        StoredRecord {
-            stored: Stored::Long { number, cells },
         }
     }
 
     pub(crate) fn number(&self) -> u32
-        ensures { result ≡ self.now.number }
+        ensures { result ≡ number_of self.now }
     {
-        self.stored.number()
+        match self {
+            StoredRecord::Short { number, .. } | StoredRecord::Shared { number, .. } => *number,
+        }
+    }
+
+    // Returns the bytes at whose front the cells are. It is inlined, so that a getter passes no cells after its own.
+    #[inline(always)]
+    fn bytes(&self) -> &[u8]
+        ensures { texts_in label_count result.now ≡ cells_in self.now }
+    {
+        match self {
+            StoredRecord::Short { bytes, .. } => bytes,
+            StoredRecord::Shared { start, block, .. } => rest_of(block, *start as usize),
+        }
     }
 
     /// Returns the cells.
     #[inline(always)]
     pub(crate) fn cells(&self) -> RowCells<'_>
-        ensures { in_order result ≡ self.now.cells }
+        ensures { in_order result ≡ cells_in self.now }
     {
-        self.stored.cells()
+        cells_of_texts(self.bytes())
     }
 
     /// Returns whether another record has the same cells.
     pub(crate) fn has_same_cells(&self, other: &StoredRecord) -> bool
-        ensures { IsTrue result ↔ (self.now.cells ≡ other.now.cells) }
+        ensures { IsTrue result ↔ (cells_in self.now ≡ cells_in other.now) }
     {
-        match (self.stored.bytes(), other.stored.bytes()) {
-            (Some(left), Some(right)) => has_same_texts(left, right, LABEL_COUNT),
-            _ => self.cells() == other.cells(),
-        }
+        has_same_texts(self.bytes(), other.bytes(), LABEL_COUNT)
     }
 }
 

@@ -1,9 +1,10 @@
 //! The records of a part of a list.
-ghost use Rattle.std.specs.Prelude.{◌≡◌, ◌≤◌, ◌<◌, ◌+◌, ◌++◌, List, ℕ, MatchOption, OnOk, drop, length, take, true};
-ghost use Rattle.std.specs.Prelude.{slice_index_or};
+ghost use Rattle.std.specs.Prelude.{◌≡◌, ◌⊎◌, ◌≤◌, ◌<◌, ◌+◌, ◌++◌, ◌∷◌, [], List, ℕ, MatchOption, OnOk};
+ghost use Rattle.std.specs.Prelude.{drop, length, true};
 ghost use Rattle.feed_text.specs.Records.{ends_line, records_of};
-ghost use Rattle.feed_kbart.specs.ListRecords.{AreRecordsOf};
-ghost use Rattle.feed_kbart.specs.Windows.{HasNoEnd, begins_with_end, line_of};
+ghost use Rattle.feed_kbart.specs.Joined.{joined, joined_first};
+ghost use Rattle.feed_kbart.specs.ListRecords.{AreRecordsOf, AreRecordsWith};
+ghost use Rattle.feed_kbart.specs.Windows.{HasNoEnd, begins_with_end};
 ghost use Rattle.feed_limits.specs.Limits.{file_limit};
 
 use crate::holdings::KeepRows;
@@ -17,19 +18,6 @@ fn ends_line(byte: u8) -> bool
     ensures { result ≡ ends_line byte }
 {
     byte == b'\r' || byte == b'\n'
-}
-
-/// Returns the place of the first line end.
-pub(crate) fn first_line_end(bytes: &[u8]) -> Option<usize>
-    ensures { MatchOption result (HasNoEnd bytes.now) (λ place. (place < length bytes.now)
-        × HasNoEnd (take place bytes.now) × (ends_line (slice_index_or bytes.now place 0) ≡ true)) }
-{
-    for place in 0..bytes.len() {
-        if ends_line(bytes[place]) {
-            return Some(place);
-        }
-    }
-    None
 }
 
 /// Returns the place of the last line end.
@@ -47,39 +35,18 @@ pub(crate) fn last_line_end(bytes: &[u8]) -> Option<usize>
     None
 }
 
-// Returns whether a text begins with a line end.
-fn begins_with_end(bytes: &[u8]) -> bool
-    ensures { result ≡ begins_with_end bytes.now }
-{
-    match bytes {
-        [first, ..] => ends_line(*first),
-        [] => false,
-    }
-}
-
-/// Returns the line after the line end at the front of bytes, or the first line of a text, without its mark.
-pub(crate) fn line_of(bytes: &[u8]) -> &[u8]
-    ensures { result.now ≡ line_of bytes.now }
-{
-    if begins_with_end(bytes) {
-        &bytes[1..]
-    } else if bytes.starts_with(b"\xEF\xBB\xBF") {
-        &bytes[3..]
-    } else {
-        bytes
-    }
-}
-
 /// Adds the records of a part of a list. The part ends before a line end, or at the end of the list. A byte-order mark
-/// at its front is dropped, so only the first part may begin with one.
+/// at its front is dropped, so only the first part may begin with one. If pieces of a record were added, the first
+/// record of the part is the rest of it.
 pub(crate) fn read_window<K: KeepRows>(
     alloc: Global,
     window: &[u8],
     list: &mut ListRecords<K>,
 ) -> Result<(), AllocError>
-    ensures { OnOk result ((records : List (List (List ℕ))) → length records + length window.now ≤ file_limit
-        → AreRecordsOf K.keeps records list.old
-        → AreRecordsOf K.keeps (records ++ records_of window.now) list.new) }
+    ensures { OnOk result ((records : List (List (List ℕ))) (begun : List (List ℕ))
+        → length records + length (records_of window.now) ≤ file_limit
+        → (begun ≡ [] ∷ []) ⊎ (0 < length (records_of window.now)) → AreRecordsWith K.keeps records begun list.old
+        → AreRecordsOf K.keeps (records ++ joined_first begun (records_of window.now)) list.new) }
 {
     let mut reader = record_reader(alloc, window)?;
     let mut fields = ByteRecord::new(alloc);
@@ -92,4 +59,23 @@ pub(crate) fn read_window<K: KeepRows>(
         }
     }
     Ok(())
+}
+
+/// Adds a part that has one record as a piece of a record.
+pub(crate) fn read_piece<K: KeepRows>(
+    alloc: Global,
+    part: &[u8],
+    list: &mut ListRecords<K>,
+) -> Result<(), AllocError>
+    ensures { OnOk result ((records : List (List (List ℕ))) (begun fields : List (List ℕ))
+        → records_of part.now ≡ fields ∷ [] → AreRecordsWith K.keeps records begun list.old
+        → AreRecordsWith K.keeps records (joined begun fields) list.new) }
+{
+    let mut reader = record_reader(alloc, part)?;
+    let mut fields = ByteRecord::new(alloc);
+    match read_record(&mut reader, &mut fields) {
+        Ok(true) => list.add_piece(alloc, &fields),
+        Ok(false) => Ok(()),
+        Err(_) => Err(AllocError),
+    }
 }

@@ -24,15 +24,12 @@ loop-preserved g c =
     }
 
 pub returns-in-Ok-false : goal.returns-in-Ok-false
-returns-in-Ok-false g c records few is =
+returns-in-Ok-false g c =
     let read = rw (c.in-Ok-false.is, c.in-Ok-false.field-0-test) at c.read_record.ensures.record in
-    let all = taken_end g.K.KeepRows.keeps (λ s. Some s.now) c.loop.reader c.read_record.new.reader (drop_mark c.args.window.now) c.loop.counter c.args.list.now c.loop.list
-    (fields_of c.read_record.new.fields) c.loop.invariant.taken read in
-    all records (omega (arith, few, length-drop_mark c.args.window.now)) is
+    taken_end g.K.KeepRows.keeps (λ s. Some s.now) c.loop.reader c.read_record.new.reader (drop_mark c.args.window.now) c.loop.counter c.args.list.now c.loop.list
+    (fields_of c.read_record.new.fields) c.loop.invariant.taken read
 
 pub returns : goal.returns
-returns g c records few is =
-    let shorter = length-drop_mark c.args.window.now in
-    let all = taken_full g.K.KeepRows.keeps (λ s. Some s.now) c.loop.reader (drop_mark c.args.window.now) c.loop.counter c.args.list.now c.loop.list c.loop.invariant.taken
-    (omega (arith, shorter, c.loop-test.false)) in
-    all records (omega (arith, few, shorter)) is
+returns g c =
+    taken_full g.K.KeepRows.keeps (λ s. Some s.now) c.loop.reader (drop_mark c.args.window.now) c.loop.counter c.args.list.now c.loop.list c.loop.invariant.taken
+    (omega (arith, length-drop_mark c.args.window.now, c.loop-test.false))

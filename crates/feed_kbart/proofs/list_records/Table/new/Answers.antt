@@ -12,5 +12,5 @@ returns g c header good columns = record {
   columns = columns;
   number = refl;
   kept = rw (holdings_from-nil (columns_of header) 2) c.new.ensures;
-  front = rw (c.in_order.ensures, columns) at c.new-front.ensures;
+  long = refl;
 }
