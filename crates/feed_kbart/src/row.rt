@@ -57,6 +57,11 @@ impl Row {
     #[inline(always)]
     pub fn cells(&self) -> RowCells<'_>
         ensures content { content_of result ≡ content self.now }
+        ensures identifiers { (content_of result).identifiers ≡ self.now.identifiers }
+        ensures first_day { (content_of result).first_day ≡ self.now.first_day }
+        ensures last_day { (content_of result).last_day ≡ self.now.last_day }
+        ensures first_volume { (content_of result).first_volume ≡ self.now.first_volume }
+        ensures last_volume { (content_of result).last_volume ≡ self.now.last_volume }
         ensures title { result.publication_title.now ≡ self.now.title }
         ensures url { result.title_url.now ≡ self.now.url }
         ensures title_id { result.title_id.now ≡ self.now.title_id }
