@@ -1,7 +1,10 @@
 -- The labels of a file's columns.
-use Rattle.std.specs.Prelude.{◌-◌, ◌==◌, if◌then◌else◌, ℕ, Bool, List, [], ◌∷◌, ◌++◌, Option, None, codes, slice_get}
+use Rattle.std.specs.Prelude.{◌-◌, ◌==◌, if◌then◌else◌, ℕ, Bool, List, [], ◌∷◌, ◌++◌, Option, None, codes, slice_get, unwrap_or}
+use denote.Enum.Declared.{tag_of}
+use Rattle.std.specs.List.{position_from}
 use Rattle.std.specs.Str.{str_eq_ignore_ascii_case}
 use Rattle.feed_bytes.specs.Trim.{trimmed}
+use Rattle.feed_kbart.specs.contracts.label.Label.{the_type}
 use Rattle.feed_kbart.specs.declared.label.Label.{Label}
 use Rattle.feed_kbart.specs.declared.label.Label.TheVariants.{PublicationTitle, PrintIdentifier, OnlineIdentifier, DateFirstIssueOnline, NumFirstVolOnline}
 use Rattle.feed_kbart.specs.declared.label.Label.TheVariants.{DateLastIssueOnline, NumLastVolOnline, TitleUrl, TitleId, EmbargoInfo, CoverageDepth}
@@ -53,16 +56,4 @@ stored_labels =
 
 -- the place of a label in that order, from 0
 abbrev pub slot : Label → ℕ
-slot PrintIdentifier = 0
-slot OnlineIdentifier = 1
-slot PublicationType = 2
-slot DateFirstIssueOnline = 3
-slot DateLastIssueOnline = 4
-slot NumFirstVolOnline = 5
-slot NumLastVolOnline = 6
-slot TitleId = 7
-slot TitleUrl = 8
-slot PublicationTitle = 9
-slot CoverageDepth = 10
-slot EmbargoInfo = 11
-slot AccessType = 12
+slot label = unwrap_or (position_from (λ other. tag_of the_type other == tag_of the_type label) 0 stored_labels) 0
