@@ -1,11 +1,11 @@
 -- The cells of a row, and the values that they have.
-use Rattle.std.proofs.Common.{◌≡◌, ◌∙◌, ℕ, suc, Bool, true, false, List, [], ◌∷◌, Option, Some, None, ap, refl, sym}
+use Rattle.std.proofs.Common.{◌≡◌, ◌∙◌, ℕ, Bool, true, false, List, Option, Some, None, ap, refl, sym}
 use Rattle.csv.specs.Records.{field_at}
 use Rattle.feed_kbart.specs.Coverage.{kind_of}
 use Rattle.feed_kbart.specs.Identifiers.{kind}
 use Rattle.feed_kbart.specs.RowCells.{book_cells, content_of, in_order, is_book, serial_cells, texts_of_cells}
 use Rattle.feed_kbart.specs.RowValue.{content, row_with}
-use Rattle.feed_kbart.specs.Stored.{row_with_cells, split_text, texts_in}
+use Rattle.feed_kbart.specs.Stored.{row_with_cells}
 use Rattle.feed_kbart.specs.declared.identifiers.Kind.{Kind}
 use Rattle.feed_kbart.specs.declared.identifiers.Kind.TheVariants as of
 use Rattle.feed_kbart.specs.declared.row_cells.RowCells.{RowCells}
@@ -41,13 +41,3 @@ module _ (cells : RowCells) where
       go : (book : Bool) → is_book cells ≡ book → content_of cells ≡ row_with 0 (book_cells cells) (texts_of_cells cells)
       go true e = rw e refl
       go false e = absurd (differ (sym (rw e at is)))
-
--- a first text, and those after it
-pub texts-cons : (n : ℕ) (bytes text rest : List ℕ) (texts : List (List ℕ)) → text ≡ (split_text bytes).0 → rest ≡ (split_text bytes).1
-    → texts ≡ texts_in n rest → text ∷ texts ≡ texts_in (suc n) bytes
-unfolding texts_in
-texts-cons n bytes text rest texts first after are = rw (first, are, after) refl
-
-pub texts-nil : (bytes : List ℕ) → [] ≡ texts_in 0 bytes
-unfolding texts_in
-texts-nil bytes = refl

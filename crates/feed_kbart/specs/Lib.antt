@@ -3,7 +3,6 @@ pub mod Labels
 pub mod Columns
 pub mod Coverage
 pub mod Reasons
-pub mod Texts
 pub mod Identifiers
 pub mod RowValue
 pub mod Places

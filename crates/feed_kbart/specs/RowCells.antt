@@ -5,8 +5,7 @@ use Rattle.feed_identifiers.specs.Isbn.{isbn_of}
 use Rattle.feed_identifiers.specs.Issn.{issn_of}
 use Rattle.feed_kbart.specs.Coverage.{CoverageValue, coverage_days, kind_of, volumes}
 use Rattle.feed_kbart.specs.Identifiers.{kind}
-use Rattle.feed_kbart.specs.RowValue.{RowValue, content, row_with}
-use Rattle.feed_kbart.specs.Texts.{TextsValue}
+use Rattle.feed_kbart.specs.RowValue.{RowValue, TextsValue, content, row_with}
 use Rattle.feed_kbart.specs.Volumes.{volume_of}
 use Rattle.feed_kbart.specs.declared.identifiers.Identifiers.TheVariants.{Serial, Book}
 use Rattle.feed_kbart.specs.declared.identifiers.Kind.{Kind}

@@ -1,8 +1,16 @@
--- The model value of a row.
+-- The model value of a row, and that of its texts.
 use Rattle.std.specs.Prelude.{ℕ, List, Option, ℤ}
 use Rattle.feed_kbart.specs.Coverage.{CoverageValue}
-use Rattle.feed_kbart.specs.Texts.{TextsValue}
 use Rattle.feed_kbart.specs.declared.identifiers.Identifiers.{Identifiers}
+
+-- the texts of a row, unchanged from the file
+pub record TextsValue : Type 0 where
+  pub title : List ℕ
+  pub url : List ℕ
+  pub title_id : List ℕ
+  pub depth : List ℕ
+  pub embargo : List ℕ
+  pub access : List ℕ
 
 -- a row: its number, its texts and the printed bytes of its identifiers
 pub record RowValue : Type 0 where

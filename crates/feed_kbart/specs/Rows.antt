@@ -2,8 +2,7 @@
 use Rattle.std.specs.Prelude.{ℕ, List}
 use Rattle.feed_kbart.specs.Columns.{field_of}
 use Rattle.feed_kbart.specs.Coverage.{coverage_of}
-use Rattle.feed_kbart.specs.RowValue.{RowValue, row_with}
-use Rattle.feed_kbart.specs.Texts.{TextsValue}
+use Rattle.feed_kbart.specs.RowValue.{RowValue, TextsValue, row_with}
 use Rattle.feed_kbart.specs.declared.header.Columns.{Columns}
 use Rattle.feed_kbart.specs.declared.label.Label.TheVariants.{AccessType, CoverageDepth, EmbargoInfo, PublicationTitle, TitleId, TitleUrl}
 

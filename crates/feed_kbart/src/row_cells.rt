@@ -3,6 +3,7 @@ ghost use Rattle.std.specs.Prelude.{◌≡◌};
 
 use crate::coverage::{read_days, read_kind, read_volumes};
 use crate::identifiers::Kind;
+use crate::stored_text::split_text;
 use feed_identifiers::{Isbn, Issn};
 
 /// The cells of a row, in the order in which they are stored. The identifiers, the publication type, the dates and the
@@ -26,7 +27,45 @@ pub struct RowCells<'a> {
 
 impl RowCells<'_> {
     ghost use Rattle.feed_kbart.specs.Identifiers.{kind, online_isbn, online_issn, print_isbn, print_issn};
-    ghost use Rattle.feed_kbart.specs.RowCells.{content_of, is_book};
+    ghost use Rattle.feed_kbart.specs.Labels.{label_count};
+    ghost use Rattle.feed_kbart.specs.RowCells.{content_of, in_order, is_book};
+    ghost use Rattle.feed_kbart.specs.Stored.{texts_in};
+
+    /// Returns the texts at the front of bytes as cells.
+    #[inline(always)]
+    #[tactic(auto, unfolding(crate::specs::Stored::texts_in))]
+    pub(crate) fn of_texts(bytes: &[u8]) -> RowCells<'_>
+        ensures { in_order result ≡ texts_in label_count bytes.now }
+    {
+        let (print_identifier, rest) = split_text(bytes);
+        let (online_identifier, rest) = split_text(rest);
+        let (publication_type, rest) = split_text(rest);
+        let (date_first_issue_online, rest) = split_text(rest);
+        let (date_last_issue_online, rest) = split_text(rest);
+        let (num_first_vol_online, rest) = split_text(rest);
+        let (num_last_vol_online, rest) = split_text(rest);
+        let (title_id, rest) = split_text(rest);
+        let (title_url, rest) = split_text(rest);
+        let (publication_title, rest) = split_text(rest);
+        let (coverage_depth, rest) = split_text(rest);
+        let (embargo_info, rest) = split_text(rest);
+        let (access_type, _rest) = split_text(rest);
+        RowCells {
+            print_identifier,
+            online_identifier,
+            publication_type,
+            date_first_issue_online,
+            date_last_issue_online,
+            num_first_vol_online,
+            num_last_vol_online,
+            title_id,
+            title_url,
+            publication_title,
+            coverage_depth,
+            embargo_info,
+            access_type,
+        }
+    }
 
     fn is_book(&self) -> bool
         ensures { result ≡ is_book self.now }

@@ -13,7 +13,7 @@ ghost use Rattle.feed_kbart.specs.Stored.{text_bytes, texts_in};
 use crate::header::{Columns, cell_of};
 use crate::label::{LABEL_COUNT, PARSED_COUNT};
 use crate::row_cells::RowCells;
-use crate::stored_text::{has_same_texts, put_text, split_text};
+use crate::stored_text::{has_same_texts, put_text};
 use csv::ByteRecord;
 use feed_bytes::trim_spaces;
 use std::alloc::AllocError;
@@ -77,7 +77,7 @@ impl StoredRecord {
     pub(crate) fn cells(&self) -> RowCells<'_>
         ensures { in_order result ≡ cells_in self.now }
     {
-        cells_of_texts(self.bytes())
+        RowCells::of_texts(self.bytes())
     }
 
     /// Returns whether another record has the same cells.
@@ -85,41 +85,6 @@ impl StoredRecord {
         ensures { IsTrue result ↔ (cells_in self.now ≡ cells_in other.now) }
     {
         has_same_texts(self.bytes(), other.bytes(), LABEL_COUNT)
-    }
-}
-
-// Returns the texts at the front of bytes as the cells of a record.
-#[inline(always)]
-fn cells_of_texts(bytes: &[u8]) -> RowCells<'_>
-    ensures { in_order result ≡ texts_in label_count bytes.now }
-{
-    let (print_identifier, rest) = split_text(bytes);
-    let (online_identifier, rest) = split_text(rest);
-    let (publication_type, rest) = split_text(rest);
-    let (date_first_issue_online, rest) = split_text(rest);
-    let (date_last_issue_online, rest) = split_text(rest);
-    let (num_first_vol_online, rest) = split_text(rest);
-    let (num_last_vol_online, rest) = split_text(rest);
-    let (title_id, rest) = split_text(rest);
-    let (title_url, rest) = split_text(rest);
-    let (publication_title, rest) = split_text(rest);
-    let (coverage_depth, rest) = split_text(rest);
-    let (embargo_info, rest) = split_text(rest);
-    let (access_type, _rest) = split_text(rest);
-    RowCells {
-        print_identifier,
-        online_identifier,
-        publication_type,
-        date_first_issue_online,
-        date_last_issue_online,
-        num_first_vol_online,
-        num_last_vol_online,
-        title_id,
-        title_url,
-        publication_title,
-        coverage_depth,
-        embargo_info,
-        access_type,
     }
 }
 
