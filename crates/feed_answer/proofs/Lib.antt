@@ -10,3 +10,4 @@ pub mod Places
 pub mod Serials
 pub mod Steps
 pub mod Graded
+pub mod Parts

@@ -8,6 +8,7 @@ pub mod IdentifierSet
 pub mod Pairs
 pub mod QueryValue
 pub mod Queries
+pub mod QueryParts
 pub mod Faults
 pub mod Grades
 pub mod HitValue

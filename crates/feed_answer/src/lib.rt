@@ -33,7 +33,7 @@ pub use laws::{
 };
 pub use matching::{answer, hit_at};
 pub use pair::{BOOK, JOURNAL, Pair};
-pub use query::{QUERY_LIMIT, Query, has_format, has_other_format, has_other_version};
+pub use query::{QUERY_LIMIT, Query};
 pub use row_places::{RowPlaces, places_of};
 pub use today::Today;
 pub use wall::Span;

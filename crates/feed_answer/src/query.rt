@@ -1,11 +1,8 @@
 //! Parsing the query of an OpenURL.
-ghost use Rattle.std.specs.Prelude.{◌≡◌, [], IfOk, OnOk, fold, if◌then◌else◌};
-ghost use Rattle.std.specs.List.{list_any};
+ghost use Rattle.std.specs.Prelude.{◌≡◌, ◌++◌, ℕ, List, [], ◌∷◌, IfOk, OnOk, fold, if◌then◌else◌};
+ghost use Rattle.std.specs.List.{cons_option};
 ghost use Rattle.std.specs.BTreeSet.{insert_key};
 ghost use Rattle.feed_answer.specs.IdentifierSet.{IsAscending, bytes_cmp};
-ghost use Rattle.feed_answer.specs.Pairs.{first_days, first_volume, is_other_format, is_other_version};
-ghost use Rattle.feed_answer.specs.Pairs.{has_format};
-ghost use Rattle.feed_answer.specs.Queries.{has_other_format, query_isbns, query_issns, has_book_format};
 ghost use Rattle.feed_answer.specs.declared.fault.QueryFault.TheVariants as fault;
 
 use crate::decode::decode_pairs;
@@ -67,21 +64,23 @@ impl Query {
             return Err(QueryFault::TooLong);
         }
         let pairs = decode_pairs(alloc, text)?;
-        if has_other_version(&pairs) {
+        let parts = QueryParts::of(alloc, &pairs)?;
+        if parts.has_other_version {
             return Err(QueryFault::Version);
         }
-        if has_other_format(&pairs) {
+        if parts.has_other_format || (parts.has_journal_format && parts.has_book_format) {
             return Err(QueryFault::OtherFormat);
         }
-        let (issns, isbns) = query_identifiers(alloc, &pairs)?;
+        let issns = unless(parts.has_book_format, parts.issns);
+        let isbns = unless(parts.has_journal_format, parts.isbns);
         if issns.is_empty() && isbns.is_empty() {
-            return Err(without_identifiers(&pairs));
+            return Err(without_identifiers(parts.has_book_format));
         }
         Ok(Query {
             issns,
             isbns,
-            days: first_days(&pairs),
-            volume: first_volume(&pairs),
+            days: parts.days,
+            volume: parts.volume,
         })
     }
 
@@ -138,39 +137,75 @@ impl Query {
     }
 }
 
-/// Returns whether one of the pairs names another version of the standard.
-pub fn has_other_version(pairs: &[Pair<'_>]) -> bool
-    ensures { result ≡ list_any is_other_version pairs.now }
-{
-    pairs.iter().any(|pair| pair.is_other_version())
+// What the pairs of a query say, as far as they are read.
+#[derive(Drop)]
+struct QueryParts {
+    has_other_version: bool,
+    // A format other than those of journals and of books.
+    has_other_format: bool,
+    has_journal_format: bool,
+    has_book_format: bool,
+    issns: Vec<Issn>,
+    isbns: Vec<Isbn>,
+    days: Option<DayRange>,
+    volume: Option<u32>,
 }
 
-/// Returns whether one of the pairs names this format.
-pub fn has_format(pairs: &[Pair<'_>], format: &str) -> bool
-    ensures { result ≡ list_any (has_format format.now) pairs.now }
-{
-    pairs.iter().any(|pair| pair.has_format(format))
+impl QueryParts {
+    ghost use Rattle.feed_answer.specs.QueryParts.{AreRead};
+
+    // Adds what a pair says. The first valid date and the first valid volume count.
+    fn add(&mut self, pair: &Pair<'_>) -> Result<(), AllocError>
+        ensures { OnOk result ((seen : List (List ℕ × List ℕ)) → AreRead seen self.old
+            → AreRead (seen ++ pair.now ∷ []) self.new) }
+    {
+        self.has_other_version |= pair.is_other_version();
+        self.has_other_format |= pair.is_other_format();
+        self.has_journal_format |= pair.has_format(JOURNAL);
+        self.has_book_format |= pair.has_format(BOOK);
+        add_some(&mut self.issns, pair.issn())?;
+        add_some(&mut self.isbns, pair.isbn())?;
+        self.days = self.days.or(pair.days());
+        self.volume = self.volume.or(pair.volume());
+        Ok(())
+    }
+
+    // Reads the pairs of a query. It has room for about three hundred identifiers, and mostly has one.
+    fn of(alloc: Global, pairs: &[Pair<'_>]) -> Result<QueryParts, AllocError>
+        ensures { IfOk result (AreRead pairs.now) }
+    {
+        let mut parts = QueryParts {
+            has_other_version: false,
+            has_other_format: false,
+            has_journal_format: false,
+            has_book_format: false,
+            issns: Vec::new(alloc),
+            isbns: Vec::new(alloc),
+            days: None,
+            volume: None,
+        };
+        for pair in pairs {
+            parts.add(pair)?;
+        }
+        Ok(parts)
+    }
 }
 
-// Returns whether one of the pairs names a format other than those of journals and of books.
-fn has_unsupported_format(pairs: &[Pair<'_>]) -> bool
-    ensures { result ≡ list_any is_other_format pairs.now }
+// Returns identifiers, or none if they do not count in the format.
+fn unless<T: Drop>(is_other_format: bool, mut identifiers: Vec<T>) -> Vec<T>
+    ensures { result.items ≡ (if is_other_format then [] else identifiers.items) }
 {
-    pairs.iter().any(|pair| pair.is_other_format())
-}
-
-/// Returns whether the pairs name an unsupported format, or both formats.
-pub fn has_other_format(pairs: &[Pair<'_>]) -> bool
-    ensures { result ≡ has_other_format pairs.now }
-{
-    has_unsupported_format(pairs) || (has_format(pairs, JOURNAL) && has_format(pairs, BOOK))
+    if is_other_format {
+        identifiers.clear();
+    }
+    identifiers
 }
 
 // The error for a query without identifiers.
-fn without_identifiers(pairs: &[Pair<'_>]) -> QueryFault
-    ensures { result ≡ (if has_book_format pairs.now then fault.NoIsbn else fault.NoIssn) }
+fn without_identifiers(has_book_format: bool) -> QueryFault
+    ensures { result ≡ (if has_book_format then fault.NoIsbn else fault.NoIssn) }
 {
-    if has_format(pairs, BOOK) {
+    if has_book_format {
         QueryFault::NoIsbn
     } else {
         QueryFault::NoIssn
@@ -191,6 +226,20 @@ fn add<T: Ord + Copy>(identifiers: &mut Vec<T>, identifier: T) -> Result<(), All
     Ok(identifiers.push(identifier)?)
 }
 
+// The same for an identifier that there may be.
+fn add_some<T: Ord + Copy>(
+    identifiers: &mut Vec<T>,
+    identifier: Option<T>,
+) -> Result<(), AllocError>
+    ensures { OnOk result (identifiers.new.items
+        ≡ fold (insert_key T.cmp) identifiers.old.items (cons_option identifier [])) }
+{
+    match identifier {
+        Some(identifier) => add(identifiers, identifier),
+        None => Ok(()),
+    }
+}
+
 // Returns the set of some identifiers.
 fn set_of<T: Ord + Copy>(alloc: Global, identifiers: &[T]) -> Result<Vec<T>, AllocError>
     ensures { IfOk result (λ set. set.items ≡ fold (insert_key T.cmp) [] identifiers.now) }
@@ -200,57 +249,4 @@ fn set_of<T: Ord + Copy>(alloc: Global, identifiers: &[T]) -> Result<Vec<T>, All
         add(&mut set, *identifier)?;
     }
     Ok(set)
-}
-
-// The ISSNs and the ISBNs that the pairs of a query ask for, each as a set. In the format of books ISSNs do not count,
-// and in that of journals ISBNs do not. A query has room for about three hundred, and mostly has one.
-fn query_identifiers(
-    alloc: Global,
-    pairs: &[Pair<'_>],
-) -> Result<(Vec<Issn>, Vec<Isbn>), AllocError>
-    ensures issns { IfOk result (λ asked. asked.0.items ≡ query_issns pairs.now) }
-    ensures isbns { IfOk result (λ asked. asked.1.items ≡ query_isbns pairs.now) }
-    ensures ascending { IfOk result (λ asked. IsAscending asked.0.items × IsAscending asked.1.items) }
-{
-    let mut issns = Vec::new(alloc);
-    let mut isbns = Vec::new(alloc);
-    for pair in pairs {
-        if let Some(issn) = pair.issn() {
-            add(&mut issns, issn)?;
-        }
-        if let Some(isbn) = pair.isbn() {
-            add(&mut isbns, isbn)?;
-        }
-    }
-    if has_format(pairs, BOOK) {
-        issns.clear();
-    }
-    if has_format(pairs, JOURNAL) {
-        isbns.clear();
-    }
-    Ok((issns, isbns))
-}
-
-// The days of the first valid date.
-fn first_days(pairs: &[Pair<'_>]) -> Option<DayRange>
-    ensures { result ≡ first_days pairs.now }
-{
-    for pair in pairs {
-        if let Some(days) = pair.days() {
-            return Some(days);
-        }
-    }
-    None
-}
-
-// The number of the first valid volume.
-fn first_volume(pairs: &[Pair<'_>]) -> Option<u32>
-    ensures { result ≡ first_volume pairs.now }
-{
-    for pair in pairs {
-        if let Some(volume) = pair.volume() {
-            return Some(volume);
-        }
-    }
-    None
 }
