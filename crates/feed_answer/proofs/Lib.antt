@@ -1,3 +1,4 @@
+pub mod Asked
 pub mod Lengths
 pub mod Months
 pub mod Opened
@@ -8,6 +9,4 @@ pub mod Ascending
 pub mod Covered
 pub mod Places
 pub mod Serials
-pub mod Steps
-pub mod Graded
 pub mod Parts

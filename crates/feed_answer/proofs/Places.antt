@@ -2,29 +2,24 @@
 use Rattle.std.proofs.Common.{◌≡◌, ◌<◌, ◌≤◌, ◌+◌, ◌⊎◌, inl, inr, ℕ, zero, suc, Bool, true, false, ◌||◌, eqb, List, [], ◌∷◌, length, drop}
 use Rattle.std.proofs.Common.{get_or, Option, Some, None, option_map, if◌then◌else◌, refl, sym, ap, subst, arith}
 use Rattle.std.specs.Option.{option_and_then}
-use Rattle.std.specs.List.{All, AllPairs, Contains, cons_option, enumerate_from, filter_map, flat_map, slice_get}
+use Rattle.std.specs.List.{All, AllPairs, Contains, cons_option, enumerate_from, filter_map, flat_map, list_any, slice_get}
 use Rattle.std.specs.List.Sorted.{IsStrictlyIncreasing}
-use Rattle.std.specs.Str.{bytes_eq}
-use Rattle.std.specs.Cmp.Lexicographic.{bytes_decides}
 use Rattle.std.proofs.lemmas.Bool.Decides.{nat_tests}
 use Rattle.std.proofs.lemmas.List.{drop_all, drop_more}
 use Rattle.std.proofs.lemmas.List.Elements.{All-contains, Contains-append_left, Contains-append_right}
 use Rattle.std.proofs.lemmas.List.Kept.{AllPairs-from_increasing}
 use Rattle.std.proofs.lemmas.Option.{slice_get-get_or}
-use Rattle.feed_kbart.specs.Identifiers.{kind, online_isbn, online_issn, print_isbn, print_issn}
-use Rattle.feed_kbart.specs.Places.{has_isbn, has_issn, is_same_identifier, place_by, places_by, places_with, places_with_isbn}
-use Rattle.feed_kbart.specs.declared.identifiers.Kind.{Kind}
-use Rattle.feed_kbart.specs.declared.identifiers.Kind.TheVariants.{Serial, Book}
+use Rattle.feed_identifiers.specs.Identifier.{identifier_eq}
+use Rattle.feed_identifiers.specs.declared.identifier.Identifier.{Identifier}
+use Rattle.feed_kbart.specs.Places.{has_identifier, is_same_identifier, place_by, places_by, places_having}
 use Rattle.feed_kbart.specs.HoldingsValue.{HoldingsValue}
 use Rattle.feed_kbart.specs.RowValue.{RowValue}
 use Rattle.feed_answer.specs.Answers.{answer_of, hit_by}
-use Rattle.feed_answer.specs.Grades.{grade_by, is_named}
+use Rattle.feed_answer.specs.Grades.{has_named}
 use Rattle.feed_answer.specs.HitValue.{HitValue}
-use Rattle.feed_answer.specs.Places.{hit_at, places_among, places_of_isbns, places_of_issns}
-use Rattle.feed_answer.specs.IdentifierSet.{is_among}
-use Rattle.feed_answer.specs.QueryValue.{QueryValue}
+use Rattle.feed_answer.specs.Places.{hit_at, places_among}
+use Rattle.feed_answer.specs.QueryValue.{QueryValue, asked, is_named}
 use Rattle.feed_answer.specs.declared.grade.Grade.{Grade}
-use Rattle.feed_answer.specs.declared.grade.Grade.TheVariants.{Untested}
 
 -- what is in a list of one more
 contains_first : {X : Type 0} (x : X) (xs : List X) → Contains (x ∷ xs) x
@@ -48,17 +43,24 @@ contains_flat f (z ∷ xs) x y has inner = elim (contains_cases z xs x has) [
   | inr later ↦ Contains-append_right (f z) (flat_map f xs) y (contains_flat f xs x y later inner)
 ]
 
--- an identifier that is among some is one of them
+-- an identifier that is asked for is the same as one of those
 or_cases : (a b : Bool) → (a || b) ≡ true → (a ≡ true) ⊎ (b ≡ true)
 or_cases true b e = inl refl
 or_cases false b e = inr e
 
-among_is : (issn : List ℕ) (issns : List (List ℕ)) → is_among issn issns ≡ true → Contains issns issn
-among_is issn [] e = absurd (cc)
-among_is issn (other ∷ issns) e = elim (or_cases (bytes_eq other issn) (is_among issn issns) e) [
-  | inl same ↦ subst (Contains (other ∷ issns)) ((bytes_decides other issn).0 same) (contains_first other issns)
-  | inr later ↦ contains_later other issns issn (among_is issn issns later)
+abbrev IsOne : List Identifier → Option Identifier → Type 0
+IsOne some own = (one : Identifier) × (is_same_identifier one own ≡ true) × Contains some one
+
+one_is : (own : Identifier) (some : List Identifier) → list_any (λ one. identifier_eq one own) some ≡ true → IsOne some (Some own)
+one_is own [] e = absurd (cc)
+one_is own (one ∷ others) e = elim (or_cases (identifier_eq one own) (list_any (λ one. identifier_eq one own) others) e) [
+  | inl same ↦ (one, same, contains_first one others)
+  | inr later ↦ let it = one_is own others later in (it.0, it.1, contains_later one others it.0 it.2)
 ]
+
+named_is : (query : QueryValue) (own : Option Identifier) → is_named query own ≡ true → IsOne (asked query) own
+named_is query None e = absurd (cc)
+named_is query (Some own) e = one_is own (asked query) e
 
 or_true : (a : Bool) → (a || true) ≡ true
 or_true true = refl
@@ -79,40 +81,19 @@ places_have test base (row ∷ rows) (suc i) place d within at passes =
     contains_next (place_by test (base, row)) (filter_map (place_by test) (enumerate_from (base + 1) rows)) place
     (places_have test (base + 1) rows i place d (omega arith) (omega arith) passes)
 
--- a row has one of the identifiers that are asked for
-abbrev HasOne : (List ℕ → RowValue → Bool) → List (List ℕ) → RowValue → Type 0
-HasOne has asked row = (identifier : List ℕ) × (has identifier row ≡ true) × Contains asked identifier
-
+-- a row that matches has an identifier that is asked for
 is_asked : (b : Bool) (grade : Option Grade) (f : Grade → HitValue) (hit : HitValue) → option_map f (if b then grade else None) ≡ Some hit → b ≡ true
 is_asked true grade f hit e = refl
 is_asked false grade f hit e = absurd (cc)
 
-is_itself : (identifier : List ℕ) → bytes_eq identifier identifier ≡ true
-is_itself identifier = (bytes_decides identifier identifier).1 refl
-
-named_has : (print online : Option (List ℕ)) (asked : List (List ℕ)) → (is_named print asked || is_named online asked) ≡ true
-    → (identifier : List ℕ) × ((is_same_identifier identifier print || is_same_identifier identifier online) ≡ true) × Contains asked identifier
-named_has None None asked e = absurd (cc)
-named_has None (Some online) asked e = (online, is_itself online, among_is online asked e)
-named_has (Some print) None asked e = (print, rw (is_itself print) refl, among_is print asked (alone (is_among print asked) e))
-  where
-    alone : (b : Bool) → (b || false) ≡ true → b ≡ true
-    alone true e = refl
-    alone false e = e
-named_has (Some print) (Some online) asked e = elim (or_cases (is_among print asked) (is_among online asked) e) [
-  | inl first ↦ (print, rw (is_itself print) refl, among_is print asked first)
-  | inr second ↦ (online, rw (is_itself online) (or_true (bytes_eq online print)), among_is online asked second)
+named_has : (query : QueryValue) (row : RowValue) → has_named query row ≡ true
+    → (one : Identifier) × (has_identifier one row ≡ true) × Contains (asked query) one
+named_has query row e = elim (or_cases (is_named query row.identifiers.print) (is_named query row.identifiers.online) e) [
+  | inl first ↦ let it = named_is query row.identifiers.print first in (it.0, rw it.1 refl, it.2)
+  | inr second ↦
+      let it = named_is query row.identifiers.online second in
+      (it.0, rw it.1 (or_true (is_same_identifier it.0 row.identifiers.print)), it.2)
 ]
-
--- a row that matches has an identifier that is asked for
-matches_by : (query : QueryValue) (row : RowValue) (of : Kind) (f : Grade → HitValue) (hit : HitValue) → option_map f (grade_by of query row) ≡ Some hit
-    → HasOne has_issn query.issns row ⊎ HasOne has_isbn query.isbns row
-matches_by query row Serial f hit e =
-    inl (named_has (print_issn row.identifiers) (online_issn row.identifiers) query.issns
-    (is_asked (is_named (print_issn row.identifiers) query.issns || is_named (online_issn row.identifiers) query.issns) _ f hit e))
-matches_by query row Book f hit e =
-    inr (named_has (print_isbn row.identifiers) (online_isbn row.identifiers) query.isbns
-    (is_asked (is_named (print_isbn row.identifiers) query.isbns || is_named (online_isbn row.identifiers) query.isbns) (Some Untested) f hit e))
 
 -- so its place is among those of the query's identifiers
 place_among : (query : QueryValue) (rows : List RowValue) (i : ℕ) (d : RowValue) → i < length rows
@@ -121,12 +102,9 @@ unfolding places_by
 place_among query rows i d within =
     elim (hit_by query (get_or rows i d)) as (λ h. hit_by query (get_or rows i d) ≡ h → (hit_by query (get_or rows i d) ≡ None) ⊎ Contains (places_among query rows) i) [
       | None ↦ λ e. inl e
-      | Some hit ↦ λ e. inr (elim (matches_by query (get_or rows i d) (kind (get_or rows i d).identifiers) _ hit e) [
-        | inl by ↦ Contains-append_left (places_of_issns query.issns rows) (places_of_isbns query.isbns rows) i
-            (contains_flat (λ issn. places_with issn rows) query.issns by.0 i by.2 (places_have (has_issn by.0) 0 rows i i d within (omega arith) by.1))
-        | inr by ↦ Contains-append_right (places_of_issns query.issns rows) (places_of_isbns query.isbns rows) i
-            (contains_flat (λ isbn. places_with_isbn isbn rows) query.isbns by.0 i by.2 (places_have (has_isbn by.0) 0 rows i i d within (omega arith) by.1))
-      ])
+      | Some hit ↦ λ e.
+          let it = named_has query (get_or rows i d) (is_asked (has_named query (get_or rows i d)) _ _ hit e) in
+          inr (contains_flat (λ one. places_having one rows) (asked query) it.0 i it.2 (places_have (has_identifier it.0) 0 rows i i d within (omega arith) it.1))
     ] refl
 
 -- what h gives of the element at a place

@@ -8,24 +8,29 @@ use Rattle.std.specs.Cmp.Lexicographic.{bytes_decides}
 use Rattle.form_urlencoded.specs.Form as form
 use Rattle.feed_bytes.specs.Trim.{trimmed}
 use Rattle.feed_kbart.specs.Columns.{columns_of, field_of}
-use Rattle.feed_kbart.specs.Coverage.{book_coverage, book_reason, serial_coverage, serial_reason}
+use Rattle.feed_identifiers.specs.Identifier.{issn_in}
+use Rattle.feed_identifiers.specs.Issn.{issn_of}
+use Rattle.feed_identifiers.specs.declared.identifier.Identifier.TheVariants.{Issn}
+use Rattle.feed_kbart.specs.Coverage.{coverage_as, reason_as}
+use Rattle.feed_kbart.specs.declared.identifiers.Kind.TheVariants.{Serial, Book}
 use Rattle.feed_kbart.specs.Files.{holdings_in, holdings_of}
 use Rattle.feed_kbart.specs.Holdings.{holdings_from, row_at}
 use Rattle.feed_text.specs.Records.{records_of}
 use Rattle.feed_kbart.specs.Rows.{texts_of}
 use Rattle.feed_kbart.specs.RowValue.{RowValue, row_with}
-use Rattle.feed_kbart.specs.declared.label.Label.TheVariants.{PublicationType}
+use Rattle.feed_kbart.specs.declared.label.Label.TheVariants.{OnlineIdentifier, PrintIdentifier, PublicationType}
 use Rattle.feed_answer.specs.Answers.{answer_of, hit_by}
-use Rattle.feed_answer.specs.Grades.{book_grade, serial_grade}
+use Rattle.feed_answer.specs.Grades.{grade_as, grade_of}
 use Rattle.feed_answer.specs.HitValue.{HitValue}
 use Rattle.feed_answer.specs.Limits.{query_limit}
 use Rattle.feed_answer.specs.Pairs.{book_format, first_days, first_volume, has_key, is_empty, is_other_format, is_other_version, issns_among, has_format}
 use Rattle.feed_answer.specs.Queries.{query_of_pairs, query_isbns, query_of, has_journal_format}
-use Rattle.feed_answer.specs.QueryValue.{QueryValue}
-use Rattle.feed_answer.specs.Serials.{SerialAnswersAreUnchanged, SerialQuery, is_other_than_journal, is_serial_hit, is_serial_type, serial_answer_of}
+use Rattle.feed_answer.specs.QueryValue.{QueryValue, is_named}
+use Rattle.feed_answer.specs.Serials.{SerialAnswersAreUnchanged, SerialQuery, is_listed, is_other_than_journal, is_serial_hit, is_serial_type, serial_answer_of}
 use Rattle.feed_answer.specs.Serials.{serial_hit_by, serial_query_by, serial_query_of, serial_row_at, serial_rows_in}
 use Rattle.feed_answer.specs.declared.fault.QueryFault.TheVariants.{TooLong}
 use Rattle.feed_answer.specs.declared.grade.Grade.{Grade}
+use Rattle.feed_answer.proofs.Asked.{issn_among}
 
 -- what a query asks for that asked for serials
 abbrev with_isbns : SerialQuery → List (List ℕ) → QueryValue
@@ -42,16 +47,29 @@ IsKept old new now before = (hits : List HitValue)
     ≡ cons_option (option_and_then (serial_hit_by old) before) (filter is_serial_hit hits)
 
 serial_kept : (header : List (List ℕ)) (number : ℕ) (fields : List (List ℕ)) (grade : Option Grade) (hits : List HitValue)
-    → let row = row_with number (serial_coverage (columns_of header) fields) (texts_of (columns_of header) fields) in
+    → let row = row_with number (coverage_as Serial (columns_of header) fields) (texts_of (columns_of header) fields) in
     filter is_serial_hit (cons_option (graded row grade) hits) ≡ cons_option (graded row grade) (filter is_serial_hit hits)
 serial_kept header number fields None hits = refl
 serial_kept header number fields (Some grade) hits = refl
 
 book_dropped : (header : List (List ℕ)) (number : ℕ) (fields : List (List ℕ)) (grade : Option Grade) (hits : List HitValue)
-    → let row = row_with number (book_coverage (columns_of header) fields) (texts_of (columns_of header) fields) in
+    → let row = row_with number (coverage_as Book (columns_of header) fields) (texts_of (columns_of header) fields) in
     filter is_serial_hit (cons_option (graded row grade) hits) ≡ filter is_serial_hit hits
 book_dropped header number fields None hits = refl
 book_dropped header number fields (Some grade) hits = refl
+
+-- an ISSN is asked for exactly if it was
+named_listed : (old : SerialQuery) (isbns : List (List ℕ)) (issn : Option (List ℕ))
+    → is_named (with_isbns old isbns) (option_map Issn issn) ≡ is_listed (option_and_then issn_in (option_map Issn issn)) old.issns
+named_listed old isbns None = refl
+named_listed old isbns (Some issn) = sym (issn_among issn old.issns isbns)
+
+has_listed : (old : SerialQuery) (isbns : List (List ℕ)) (print online : List ℕ)
+    → (is_named (with_isbns old isbns) (option_map Issn (issn_of print)) || is_named (with_isbns old isbns) (option_map Issn (issn_of online)))
+    ≡ (is_listed (option_and_then issn_in (option_map Issn (issn_of print))) old.issns || is_listed (option_and_then issn_in (option_map Issn (issn_of online))) old.issns)
+has_listed old isbns print online =
+    ap (λ b. b || is_named (with_isbns old isbns) (option_map Issn (issn_of online))) (named_listed old isbns (issn_of print))
+    ∙ ap (λ b. is_listed (option_and_then issn_in (option_map Issn (issn_of print))) old.issns || b) (named_listed old isbns (issn_of online))
 
 abbrev is_monograph : List ℕ → Bool
 is_monograph text = str_eq_ignore_ascii_case (trimmed text) (codes "monograph")
@@ -60,19 +78,22 @@ record_kept : (old : SerialQuery) (isbns : List (List ℕ)) (header : List (List
     → IsKept old (with_isbns old isbns) (row_at (columns_of header) (number, fields)) (serial_row_at header (number, fields))
 record_kept old isbns header number fields =
     go (is_serial_type (field_of (columns_of header) PublicationType fields)) (is_monograph (field_of (columns_of header) PublicationType fields))
-    (is_none (serial_reason (columns_of header) fields)) (is_none (book_reason (columns_of header) fields)) refl refl refl refl
+    (is_none (reason_as Serial (columns_of header) fields)) (is_none (reason_as Book (columns_of header) fields)) refl refl refl refl
   where
     go : (serial monograph row book : Bool) → is_serial_type (field_of (columns_of header) PublicationType fields) ≡ serial
         → is_monograph (field_of (columns_of header) PublicationType fields) ≡ monograph
-        → is_none (serial_reason (columns_of header) fields) ≡ row → is_none (book_reason (columns_of header) fields) ≡ book
+        → is_none (reason_as Serial (columns_of header) fields) ≡ row → is_none (reason_as Book (columns_of header) fields) ≡ book
         → IsKept old (with_isbns old isbns) (row_at (columns_of header) (number, fields)) (serial_row_at header (number, fields))
     go true monograph true book s m r b hits =
-        rw (s, r) (serial_kept header number fields
-        (serial_grade (with_isbns old isbns) (row_with number (serial_coverage (columns_of header) fields) (texts_of (columns_of header) fields))) hits)
+        let serial = row_with number (coverage_as Serial (columns_of header) fields) (texts_of (columns_of header) fields) in
+        rw (s, r)
+        (ap (λ b. filter is_serial_hit (cons_option (graded serial (if b then grade_as Serial (with_isbns old isbns) serial else None)) hits))
+        (has_listed old isbns (field_of (columns_of header) PrintIdentifier fields) (field_of (columns_of header) OnlineIdentifier fields))
+        ∙ serial_kept header number fields _ hits)
     go true monograph false book s m r b hits = rw (s, r) refl
     go false true row true s m r b hits =
         rw (s, m, b) (book_dropped header number fields
-        (book_grade (with_isbns old isbns) (row_with number (book_coverage (columns_of header) fields) (texts_of (columns_of header) fields))) hits)
+        (grade_of (with_isbns old isbns) (row_with number (coverage_as Book (columns_of header) fields) (texts_of (columns_of header) fields))) hits)
     go false true row false s m r b hits = rw (s, m, b) refl
     go false false row book s m r b hits = rw (s, m) refl
 

@@ -1,12 +1,11 @@
 -- The rows that match a query, and how well they match.
 use Rattle.std.specs.Prelude.{ℕ, ◌&&◌, ◌||◌, nat_le, Bool, true, false, List, Option, Some, None, if◌then◌else◌, codes, ℤ, int_le}
-use Rattle.feed_kbart.specs.Identifiers.{kind, online_isbn, online_issn, print_isbn, print_issn}
+use Rattle.feed_kbart.specs.Identifiers.{kind}
 use Rattle.feed_kbart.specs.RowValue.{RowValue}
 use Rattle.feed_kbart.specs.declared.identifiers.Kind.{Kind}
 use Rattle.feed_kbart.specs.declared.identifiers.Kind.TheVariants.{Serial, Book}
 use Rattle.feed_dates.specs.declared.day_range.DayRange.{DayRange}
-use Rattle.feed_answer.specs.IdentifierSet.{is_among}
-use Rattle.feed_answer.specs.QueryValue.{QueryValue}
+use Rattle.feed_answer.specs.QueryValue.{QueryValue, is_named}
 use Rattle.feed_answer.specs.declared.grade.Grade.{Grade}
 use Rattle.feed_answer.specs.declared.grade.Grade.TheVariants.{Untested, Overlap, Inside}
 
@@ -67,28 +66,20 @@ both_grades (Some Untested) (Some by_volume) = Some by_volume
 both_grades (Some Overlap) (Some by_volume) = Some Overlap
 both_grades (Some Inside) (Some by_volume) = Some Inside
 
--- a row's identifier is among those asked for
-abbrev pub is_named : Option (List ℕ) → List (List ℕ) → Bool
-is_named None identifiers = false
-is_named (Some identifier) identifiers = is_among identifier identifiers
+-- a row has an identifier that is asked for
+abbrev pub has_named : QueryValue → RowValue → Bool
+has_named query row = is_named query row.identifiers.print || is_named query row.identifiers.online
 
--- the grade of a serial's row, if it matches: one of its ISSNs is asked for, and its dates and volumes pass
-abbrev pub serial_grade : QueryValue → RowValue → Option Grade
-serial_grade query row =
-    if is_named (print_issn row.identifiers) query.issns || is_named (online_issn row.identifiers) query.issns
-    then both_grades (days_grade row.first_day row.last_day query.days) (volume_grade row.first_volume row.last_volume query.volume)
-    else None
+-- the grade of a row of this kind: the dates and the volumes of a serial are tested, and those of a book are not
+abbrev pub if_serial : Kind → Option Grade → Option Grade
+if_serial Serial tested = tested
+if_serial Book tested = Some Untested
 
--- the grade of a book's row, if it matches: one of its ISBNs is asked for; dates and volumes are not tested
-abbrev pub book_grade : QueryValue → RowValue → Option Grade
-book_grade query row =
-    if is_named (print_isbn row.identifiers) query.isbns || is_named (online_isbn row.identifiers) query.isbns then Some Untested else None
-
--- the grade of a row of this kind
-abbrev pub grade_by : Kind → QueryValue → RowValue → Option Grade
-grade_by Serial query row = serial_grade query row
-grade_by Book query row = book_grade query row
+-- the grade of such a row that has one of those identifiers
+abbrev pub grade_as : Kind → QueryValue → RowValue → Option Grade
+grade_as of query row =
+    if_serial of (both_grades (days_grade row.first_day row.last_day query.days) (volume_grade row.first_volume row.last_volume query.volume))
 
 -- the grade of a row under a query, if it matches
 abbrev pub grade_of : QueryValue → RowValue → Option Grade
-grade_of query row = grade_by (kind row.identifiers) query row
+grade_of query row = if has_named query row then grade_as (kind row.identifiers) query row else None

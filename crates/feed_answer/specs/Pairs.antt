@@ -1,9 +1,13 @@
 -- The meaning of a query's key/value pairs (ANSI/NISO Z39.88-2004, key/value formats of journals and books).
-use Rattle.std.specs.Prelude.{ℕ, ◌&&◌, ◌||◌, not, Bool, true, false, List, [], ◌∷◌, Option, Some, None, if◌then◌else◌, take, drop, length, codes}
+use Rattle.std.specs.Prelude.{ℕ, ◌&&◌, ◌||◌, not, Bool, true, false, List, [], ◌∷◌, Option, Some, None, if◌then◌else◌, option_map, take, drop, length, codes}
 use Rattle.std.specs.List.{filter_map}
+use Rattle.std.specs.Option.{option_and_then}
 use Rattle.std.specs.Str.{bytes_eq, str_eq_ignore_ascii_case}
+use Rattle.feed_identifiers.specs.Identifier.{isbn_in, issn_in}
 use Rattle.feed_identifiers.specs.Isbn.{isbn_of}
 use Rattle.feed_identifiers.specs.Issn.{issn_of}
+use Rattle.feed_identifiers.specs.declared.identifier.Identifier.{Identifier}
+use Rattle.feed_identifiers.specs.declared.identifier.Identifier.TheVariants.{Issn, Isbn}
 use Rattle.feed_bytes.specs.Trim.{trimmed}
 use Rattle.feed_kbart.specs.Volumes.{volume_of}
 use Rattle.feed_dates.specs.DayRanges.{query_days_of}
@@ -51,22 +55,25 @@ has_prefix front text = str_eq_ignore_ascii_case (take (length front) text) fron
 abbrev pub issn_of_urn : List ℕ → Option (List ℕ)
 issn_of_urn name = if has_prefix (codes "urn:ISSN:") name then issn_of (drop 9 name) else None
 
--- the ISSN that a pair names
-abbrev pub issn_of_pair : List ℕ × List ℕ → Option (List ℕ)
-issn_of_pair pair =
-    if has_key (codes "rft.issn") pair || has_key (codes "rft.eissn") pair then issn_of pair.1
-    else if has_key (codes "rft_id") pair then issn_of_urn pair.1
+-- the identifier that a pair names
+abbrev pub identifier_of_pair : List ℕ × List ℕ → Option Identifier
+identifier_of_pair pair =
+    if has_key (codes "rft.issn") pair || has_key (codes "rft.eissn") pair then option_map Issn (issn_of pair.1)
+    else if has_key (codes "rft_id") pair then option_map Issn (issn_of_urn pair.1)
+    else if has_key (codes "rft.isbn") pair then option_map Isbn (isbn_of pair.1)
     else None
 
--- the ISSNs that the pairs name, as a set
+-- the ISSN that a pair names, and its ISBN
+abbrev pub issn_of_pair : List ℕ × List ℕ → Option (List ℕ)
+issn_of_pair pair = option_and_then issn_in (identifier_of_pair pair)
+
+abbrev pub isbn_of_pair : List ℕ × List ℕ → Option (List ℕ)
+isbn_of_pair pair = option_and_then isbn_in (identifier_of_pair pair)
+
+-- the ISSNs that the pairs name, and the ISBNs, each as a set
 abbrev pub issns_among : List (List ℕ × List ℕ) → List (List ℕ)
 issns_among pairs = identifier_set (filter_map issn_of_pair pairs)
 
--- the ISBN that a pair names
-abbrev pub isbn_of_pair : List ℕ × List ℕ → Option (List ℕ)
-isbn_of_pair pair = if has_key (codes "rft.isbn") pair then isbn_of pair.1 else None
-
--- the ISBNs that the pairs name, as a set
 abbrev pub isbns_among : List (List ℕ × List ℕ) → List (List ℕ)
 isbns_among pairs = identifier_set (filter_map isbn_of_pair pairs)
 

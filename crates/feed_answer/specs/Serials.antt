@@ -7,7 +7,7 @@ use Rattle.feed_dates.specs.declared.day_range.DayRange.{DayRange}
 use Rattle.feed_bytes.specs.Trim.{trimmed}
 use Rattle.feed_kbart.specs.Columns.{columns_of, field_of}
 use Rattle.feed_kbart.specs.Coverage as coverage
-use Rattle.feed_kbart.specs.Coverage.{serial_coverage, serial_reason}
+use Rattle.feed_kbart.specs.Coverage.{coverage_as, reason_as}
 use Rattle.feed_kbart.specs.Files.{holdings_of}
 use Rattle.feed_kbart.specs.Identifiers.{kind, online_issn, print_issn}
 use Rattle.feed_text.specs.Records.{records_of}
@@ -17,8 +17,9 @@ use Rattle.feed_kbart.specs.declared.identifiers.Kind.{Kind}
 use Rattle.feed_kbart.specs.declared.identifiers.Kind.TheVariants.{Serial, Book}
 use Rattle.feed_kbart.specs.declared.label.Label.TheVariants.{PublicationType}
 use Rattle.feed_answer.specs.Answers.{answer_of}
-use Rattle.feed_answer.specs.Grades.{both_grades, days_grade, is_named, volume_grade}
+use Rattle.feed_answer.specs.Grades.{both_grades, days_grade, volume_grade}
 use Rattle.feed_answer.specs.HitValue.{HitValue}
+use Rattle.feed_answer.specs.IdentifierSet.{is_among}
 use Rattle.feed_answer.specs.Limits.{query_limit}
 use Rattle.feed_answer.specs.Pairs.{first_days, first_volume, is_empty, is_other, is_other_version, issns_among, journal_format}
 use Rattle.feed_answer.specs.Queries.{query_of}
@@ -31,8 +32,8 @@ is_serial_type text = coverage.is_empty (trimmed text) || str_eq_ignore_ascii_ca
 -- the row of a numbered record under a header, unless it was skipped
 abbrev pub serial_row_at : List (List ℕ) → ℕ × List (List ℕ) → Option RowValue
 serial_row_at header numbered =
-    if is_serial_type (field_of (columns_of header) PublicationType numbered.1) && is_none (serial_reason (columns_of header) numbered.1)
-    then Some (row_with numbered.0 (serial_coverage (columns_of header) numbered.1) (texts_of (columns_of header) numbered.1)) else None
+    if is_serial_type (field_of (columns_of header) PublicationType numbered.1) && is_none (reason_as Serial (columns_of header) numbered.1)
+    then Some (row_with numbered.0 (coverage_as Serial (columns_of header) numbered.1) (texts_of (columns_of header) numbered.1)) else None
 
 -- the rows of records after the header, which is the first
 abbrev pub serial_rows_in : List (List (List ℕ)) → List RowValue
@@ -59,10 +60,15 @@ serial_query_by pairs =
 unfoldable pub serial_query_of : List ℕ → Option SerialQuery
 serial_query_of text = if nat_lt query_limit (length text) then None else serial_query_by (form.parse text)
 
+-- an ISSN is among those of a query
+abbrev pub is_listed : Option (List ℕ) → List (List ℕ) → Bool
+is_listed None issns = false
+is_listed (Some issn) issns = is_among issn issns
+
 -- a row with its grade, if it matched
 abbrev pub serial_hit_by : SerialQuery → RowValue → Option HitValue
 serial_hit_by query row = option_map (λ grade. record { row = row; grade = grade }) (
-    if is_named (print_issn row.identifiers) query.issns || is_named (online_issn row.identifiers) query.issns
+    if is_listed (print_issn row.identifiers) query.issns || is_listed (online_issn row.identifiers) query.issns
     then both_grades (days_grade row.first_day row.last_day query.days) (volume_grade row.first_volume row.last_volume query.volume)
     else None
     )

@@ -1,12 +1,14 @@
 //! Grades: how well a row covers the days or the volume that a query asks for.
 ghost use Rattle.std.specs.Prelude.{◌≡◌, Some};
-ghost use Rattle.feed_answer.specs.Grades.{book_grade, both_grades, days_grade, grade_of, has_begun_by, is_named};
-ghost use Rattle.feed_answer.specs.Grades.{has_not_ended_before, serial_grade, volume_grade};
+ghost use Rattle.feed_answer.specs.Grades.{both_grades, days_grade, grade_as, grade_of, has_begun_by};
+ghost use Rattle.feed_answer.specs.Grades.{has_not_ended_before, volume_grade};
+ghost use Rattle.feed_answer.specs.QueryValue.{is_named};
+ghost use Rattle.feed_kbart.specs.Identifiers.{kind};
 ghost use Rattle.feed_kbart.specs.RowCells.{content_of};
 
 use crate::query::Query;
 use feed_dates::DayRange;
-use feed_identifiers::{Isbn, Issn};
+use feed_identifiers::Identifier;
 use feed_kbart::{Kind, Row, RowCells};
 use std::fmt;
 
@@ -64,17 +66,8 @@ fn tested_days(first: Option<i32>, last: Option<i32>, days: DayRange) -> Option<
     }
 }
 
-/// Returns the grade of a row by its dates alone, or `None` if the days are not covered at all.
-pub fn days_grade(row: &Row, days: Option<DayRange>) -> Option<Grade>
-    ensures { result ≡ days_grade row.now.first_day row.now.last_day days }
-{
-    match days {
-        Some(days) => tested_days(row.first_day(), row.last_day(), days),
-        None => Some(Grade::Untested),
-    }
-}
-
-fn days_grade_of_cells(cells: &RowCells<'_>, days: Option<DayRange>) -> Option<Grade>
+/// Returns the grade of a row with these cells by its dates alone, or `None` if the days are not covered at all.
+pub fn days_grade(cells: &RowCells<'_>, days: Option<DayRange>) -> Option<Grade>
     ensures { result ≡ days_grade (content_of cells.now).first_day (content_of cells.now).last_day days }
 {
     match days {
@@ -96,17 +89,9 @@ fn tested_volume(first: Option<u32>, last: Option<u32>, volume: u32) -> Option<G
     }
 }
 
-/// Returns the grade of a row by its volumes alone, or `None` if the volume is outside. A missing side is open.
-pub fn volume_grade(row: &Row, volume: Option<u32>) -> Option<Grade>
-    ensures { result ≡ volume_grade row.now.first_volume row.now.last_volume volume }
-{
-    match volume {
-        Some(volume) => tested_volume(row.first_volume(), row.last_volume(), volume),
-        None => Some(Grade::Untested),
-    }
-}
-
-fn volume_grade_of_cells(cells: &RowCells<'_>, volume: Option<u32>) -> Option<Grade>
+/// Returns the grade of a row with these cells by its volumes alone, or `None` if the volume is outside. A missing side
+/// is open.
+pub fn volume_grade(cells: &RowCells<'_>, volume: Option<u32>) -> Option<Grade>
     ensures { result ≡ volume_grade (content_of cells.now).first_volume (content_of cells.now).last_volume volume }
 {
     match volume {
@@ -118,8 +103,8 @@ fn volume_grade_of_cells(cells: &RowCells<'_>, volume: Option<u32>) -> Option<Gr
     }
 }
 
-/// Returns the grade by both, if both pass: that of the dates if they were compared, otherwise that of the volumes.
-pub fn both_grades(by_days: Option<Grade>, by_volume: Option<Grade>) -> Option<Grade>
+// Returns the grade by both, if both pass: that of the dates if they were compared, otherwise that of the volumes.
+fn both_grades(by_days: Option<Grade>, by_volume: Option<Grade>) -> Option<Grade>
     ensures { result ≡ both_grades by_days by_volume }
 {
     let by_days = by_days?;
@@ -130,43 +115,35 @@ pub fn both_grades(by_days: Option<Grade>, by_volume: Option<Grade>) -> Option<G
     }
 }
 
-// Returns whether a row's ISSN, if it has one, is among those asked for.
-fn is_issn_named(issn: Option<Issn>, issns: &[Issn]) -> bool
-    ensures { result ≡ is_named issn issns.now }
+/// Returns the grade of a row with these cells, one of whose identifiers is asked for, if it matches. The dates and the
+/// volumes of a book are not tested.
+pub fn named_grade(cells: &RowCells<'_>, query: &Query) -> Option<Grade>
+    ensures { result ≡ grade_as (kind (content_of cells.now).identifiers) query.now (content_of cells.now) }
 {
-    issn.is_some_and(|issn| issns.contains(&issn))
-}
-
-// Returns whether a row's ISBN, if it has one, is among those asked for.
-fn is_isbn_named(isbn: Option<Isbn>, isbns: &[Isbn]) -> bool
-    ensures { result ≡ is_named isbn isbns.now }
-{
-    isbn.is_some_and(|isbn| isbns.contains(&isbn))
-}
-
-// The grade of a serial's row: one of its ISSNs is asked for, and its dates and volumes pass.
-fn serial_grade(cells: &RowCells<'_>, query: &Query) -> Option<Grade>
-    ensures { result ≡ serial_grade query.now (content_of cells.now) }
-{
-    if !is_issn_named(cells.print(), query.issns())
-        && !is_issn_named(cells.online(), query.issns())
-    {
-        return None;
+    match cells.kind() {
+        Kind::Serial => both_grades(
+            days_grade(cells, query.days()),
+            volume_grade(cells, query.volume()),
+        ),
+        Kind::Book => Some(Grade::Untested),
     }
-    both_grades(
-        days_grade_of_cells(cells, query.days()),
-        volume_grade_of_cells(cells, query.volume()),
-    )
 }
 
-// The grade of a book's row: one of its ISBNs is asked for. Dates and volumes are not tested.
-fn book_grade(cells: &RowCells<'_>, query: &Query) -> Option<Grade>
-    ensures { result ≡ book_grade query.now (content_of cells.now) }
+// Returns whether an identifier, if there is one, is asked for.
+fn is_named(query: &Query, identifier: Option<Identifier>) -> bool
+    ensures { result ≡ is_named query.now identifier }
 {
-    if is_isbn_named(cells.print_isbn(), query.isbns())
-        || is_isbn_named(cells.online_isbn(), query.isbns())
-    {
-        Some(Grade::Untested)
+    match &identifier {
+        Some(identifier) => query.names(identifier),
+        None => false,
+    }
+}
+
+fn grade_of_cells(cells: &RowCells<'_>, query: &Query) -> Option<Grade>
+    ensures { result ≡ grade_of query.now (content_of cells.now) }
+{
+    if is_named(query, cells.print()) || is_named(query, cells.online()) {
+        named_grade(cells, query)
     } else {
         None
     }
@@ -176,9 +153,5 @@ fn book_grade(cells: &RowCells<'_>, query: &Query) -> Option<Grade>
 pub(crate) fn grade_of(row: &Row, query: &Query) -> Option<Grade>
     ensures { result ≡ grade_of query.now row.now }
 {
-    let cells = row.cells();
-    match cells.kind() {
-        Kind::Serial => serial_grade(&cells, query),
-        Kind::Book => book_grade(&cells, query),
-    }
+    grade_of_cells(&row.cells(), query)
 }

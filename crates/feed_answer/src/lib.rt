@@ -24,7 +24,7 @@ pub use availability::{Availability, availability_of};
 pub use decode::{decode_pairs, decode_text};
 pub use embargo::{Embargo, OpenDays};
 pub use fault::{QueryFault, WriteFault};
-pub use grade::{Grade, both_grades, days_grade, volume_grade};
+pub use grade::{Grade, days_grade, named_grade, volume_grade};
 pub use hits::{Answer, Hit, write_head, write_hit};
 pub use laws::{
     availability_tells_of_days, grades_follow_days, one_month_for_day, open_days_are_open,

@@ -1,11 +1,11 @@
 //! One key/value pair of a query, and its meaning (ANSI/NISO Z39.88-2004).
 ghost use Rattle.std.specs.Prelude.{◌≡◌};
-ghost use Rattle.feed_answer.specs.Pairs.{days_of_pair, has_key, is_other, is_other_format, is_other_version};
-ghost use Rattle.feed_answer.specs.Pairs.{isbn_of_pair, issn_of_pair, issn_of_urn, has_format, volume_of_pair};
+ghost use Rattle.feed_answer.specs.Pairs.{days_of_pair, has_format, has_key, identifier_of_pair, is_other};
+ghost use Rattle.feed_answer.specs.Pairs.{is_other_format, is_other_version, issn_of_urn, volume_of_pair};
 
 use feed_bytes::trim_spaces;
 use feed_dates::DayRange;
-use feed_identifiers::{Isbn, Issn};
+use feed_identifiers::{Identifier, Isbn, Issn};
 use feed_kbart::read_volume;
 use std::alloc::Global;
 use std::borrow::CowSlice;
@@ -95,25 +95,17 @@ impl<'a> Pair<'a> {
         self.is_other("rft_val_fmt", JOURNAL) && self.value.as_slice() != BOOK.as_bytes()
     }
 
-    /// Returns the ISSN that it names, if any.
-    pub fn issn(&self) -> Option<Issn>
-        ensures { result ≡ issn_of_pair self.now }
+    /// Returns the identifier that it names, if any.
+    pub fn identifier(&self) -> Option<Identifier>
+        ensures { result ≡ identifier_of_pair self.now }
     {
+        let value = self.value.as_slice();
         if self.has_key("rft.issn") || self.has_key("rft.eissn") {
-            Issn::parse(self.value.as_slice())
+            Some(Identifier::Issn(Issn::parse(value)?))
         } else if self.has_key("rft_id") {
-            issn_of_urn(self.value.as_slice())
-        } else {
-            None
-        }
-    }
-
-    /// Returns the ISBN that it names, if any.
-    pub fn isbn(&self) -> Option<Isbn>
-        ensures { result ≡ isbn_of_pair self.now }
-    {
-        if self.has_key("rft.isbn") {
-            Isbn::parse(self.value.as_slice())
+            Some(Identifier::Issn(issn_of_urn(value)?))
+        } else if self.has_key("rft.isbn") {
+            Some(Identifier::Isbn(Isbn::parse(value)?))
         } else {
             None
         }

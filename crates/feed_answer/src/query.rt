@@ -1,7 +1,9 @@
 //! Parsing the query of an OpenURL.
-ghost use Rattle.std.specs.Prelude.{◌≡◌, ◌++◌, ℕ, List, [], ◌∷◌, IfOk, OnOk, fold, if◌then◌else◌};
-ghost use Rattle.std.specs.List.{cons_option};
+ghost use Rattle.std.specs.Prelude.{◌≡◌, ◌++◌, ℕ, List, [], ◌∷◌, Some, IfOk, OnOk, fold, if◌then◌else◌, length};
+ghost use Rattle.std.specs.List.{cons_option, slice_get};
+ghost use Rattle.std.specs.Option.{option_and_then};
 ghost use Rattle.std.specs.BTreeSet.{insert_key};
+ghost use Rattle.feed_identifiers.specs.Identifier.{isbn_in, issn_in};
 ghost use Rattle.feed_answer.specs.IdentifierSet.{IsAscending, bytes_cmp};
 ghost use Rattle.feed_answer.specs.declared.fault.QueryFault.TheVariants as fault;
 
@@ -9,7 +11,7 @@ use crate::decode::decode_pairs;
 use crate::fault::QueryFault;
 use crate::pair::{BOOK, JOURNAL, Pair};
 use feed_dates::DayRange;
-use feed_identifiers::{Isbn, Issn};
+use feed_identifiers::{Identifier, Isbn, Issn};
 use std::alloc::{AllocError, Global};
 use std::cmp::Ordering;
 use std::marker::Model;
@@ -40,7 +42,7 @@ impl Model for Query {
 impl Query {
     ghost use Rattle.feed_answer.specs.IdentifierSet.{IsAscending};
     ghost use Rattle.feed_answer.specs.Queries.{IsQueryResult};
-    ghost use Rattle.feed_answer.specs.QueryValue.{query_with};
+    ghost use Rattle.feed_answer.specs.QueryValue.{asked, is_named, query_with, sole};
 
     /// Parses the bytes after the `?` of an OpenURL: pairs of `application/x-www-form-urlencoded` text. Keys are
     /// compared exactly.
@@ -122,6 +124,46 @@ impl Query {
         &self.isbns
     }
 
+    /// Returns how many identifiers are asked for.
+    pub fn count(&self) -> usize
+        ensures { result ≡ length (asked self.now) }
+    {
+        self.issns.len() + self.isbns.len()
+    }
+
+    /// Returns the identifier at a place. The ISSNs come first, and then the ISBNs.
+    pub fn identifier(&self, place: usize) -> Option<Identifier>
+        ensures { result ≡ slice_get (asked self.now) place }
+    {
+        let count = self.issns.len();
+        if place < count {
+            return Some(Identifier::Issn(self.issns[place]));
+        }
+        let isbn = self.isbns.get(place - count)?;
+        Some(Identifier::Isbn(*isbn))
+    }
+
+    /// Returns the identifier asked for, if there is only one.
+    pub fn sole_identifier(&self) -> Option<Identifier>
+        ensures { result ≡ sole (asked self.now) }
+    {
+        if self.count() == 1 {
+            self.identifier(0)
+        } else {
+            None
+        }
+    }
+
+    /// Returns whether an identifier is asked for.
+    pub fn names(&self, identifier: &Identifier) -> bool
+        ensures { result ≡ is_named self.now (Some identifier.now) }
+    {
+        match identifier {
+            Identifier::Issn(issn) => self.issns.contains(issn),
+            Identifier::Isbn(isbn) => self.isbns.contains(isbn),
+        }
+    }
+
     /// Returns the days asked for, both ends included.
     pub fn days(&self) -> Option<DayRange>
         ensures { result ≡ self.now.days }
@@ -163,8 +205,9 @@ impl QueryParts {
         self.has_other_format |= pair.is_other_format();
         self.has_journal_format |= pair.has_format(JOURNAL);
         self.has_book_format |= pair.has_format(BOOK);
-        add_some(&mut self.issns, pair.issn())?;
-        add_some(&mut self.isbns, pair.isbn())?;
+        let identifier = pair.identifier();
+        add_some(&mut self.issns, issn_in(&identifier))?;
+        add_some(&mut self.isbns, isbn_in(&identifier))?;
         self.days = self.days.or(pair.days());
         self.volume = self.volume.or(pair.volume());
         Ok(())
@@ -188,6 +231,25 @@ impl QueryParts {
             parts.add(pair)?;
         }
         Ok(parts)
+    }
+}
+
+// The ISSN, and the ISBN, if there is an identifier and it is one.
+fn issn_in(identifier: &Option<Identifier>) -> Option<Issn>
+    ensures { result ≡ option_and_then issn_in identifier.now }
+{
+    match identifier {
+        Some(Identifier::Issn(issn)) => Some(*issn),
+        _ => None,
+    }
+}
+
+fn isbn_in(identifier: &Option<Identifier>) -> Option<Isbn>
+    ensures { result ≡ option_and_then isbn_in identifier.now }
+{
+    match identifier {
+        Some(Identifier::Isbn(isbn)) => Some(*isbn),
+        _ => None,
     }
 }
 

@@ -1,4 +1,5 @@
 pub mod Check
 pub mod Issn
 pub mod Isbn
+pub mod Identifier
 pub mod Laws

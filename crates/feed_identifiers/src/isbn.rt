@@ -55,6 +55,12 @@ impl Isbn {
         self.printed
     }
 
+    pub(crate) fn bytes(&self) -> &[u8]
+        ensures { result.now ≡ self.now }
+    {
+        &self.printed
+    }
+
     /// Returns the number formed by the third digit, counted from 8, and the nine digits after it. It is below
     /// 2,000,000,000. These digits determine the check digit.
     pub fn number(&self) -> u32

@@ -58,6 +58,12 @@ impl Issn {
         self.printed
     }
 
+    pub(crate) fn bytes(&self) -> &[u8]
+        ensures { result.now ≡ self.now }
+    {
+        &self.printed
+    }
+
     /// Returns the seven digits before the check character, as a number below 10,000,000. They determine the check
     /// character.
     pub fn number(&self) -> u32

@@ -1,8 +1,7 @@
 //! Laws of identifiers, each stated as the contract of a function with an empty body.
 ghost use Rattle.feed_identifiers.specs.Isbn.{isbn_of};
 ghost use Rattle.feed_identifiers.specs.Issn.{issn_of};
-ghost use Rattle.feed_identifiers.specs.Laws.{IssnNumbersAreSmall, OneIsbnForNumber, OneIssnForNumber};
-ghost use Rattle.feed_identifiers.specs.Laws.{PrintedFormParses, TenAreThirteen};
+ghost use Rattle.feed_identifiers.specs.Laws.{OneIdentifierForKey, PrintedFormParses, TenAreThirteen};
 
 /// The printed form of an ISSN parses as itself.
 pub fn printed_issn_parses()
@@ -20,17 +19,7 @@ pub fn an_isbn_10_is_its_isbn_13()
     ensures { TenAreThirteen }
 {}
 
-/// The number of an ISSN determines the ISSN.
-pub fn one_issn_for_number()
-    ensures { OneIssnForNumber }
-{}
-
-/// The number of an ISBN determines the ISBN.
-pub fn one_isbn_for_number()
-    ensures { OneIsbnForNumber }
-{}
-
-/// The number of an ISSN has seven digits.
-pub fn issn_numbers_are_small()
-    ensures { IssnNumbersAreSmall }
+/// The key of an identifier determines the identifier.
+pub fn one_identifier_for_key()
+    ensures { OneIdentifierForKey }
 {}

@@ -3,13 +3,14 @@
 #![tactic(auto)]
 
 mod check;
+mod identifier;
 mod isbn;
 mod issn;
 mod laws;
 
+pub use identifier::Identifier;
 pub use isbn::Isbn;
 pub use issn::Issn;
 pub use laws::{
-    an_isbn_10_is_its_isbn_13, issn_numbers_are_small, one_isbn_for_number, one_issn_for_number,
-    printed_isbn_parses, printed_issn_parses,
+    an_isbn_10_is_its_isbn_13, one_identifier_for_key, printed_isbn_parses, printed_issn_parses,
 };

@@ -11,14 +11,13 @@ use Rattle.std.proofs.lemmas.List.Sums.{sum_by-append}
 use Rattle.feed_kbart.specs.Entries.{AreSorted}
 use Rattle.feed_kbart.specs.Index.{AreIndexed, HasIdentifiers, IsIndexOf, each_once, entries_from, entries_of}
 use Rattle.feed_kbart.specs.Runs.{HasEntries, weight_of}
-use Rattle.feed_identifiers.specs.Issn.{IsIssn, number_of}
-use Rattle.feed_identifiers.specs.Isbn as isbn
-use Rattle.feed_identifiers.specs.Isbn.{IsIsbn}
-use Rattle.feed_identifiers.specs.Laws.{IssnNumbersAreSmall, OneIsbnForNumber, OneIssnForNumber}
-use Rattle.feed_kbart.specs.Identifiers.{AreIdentifiers, isbn_number, numbers, online_isbn, online_issn, print_isbn, print_issn}
-use Rattle.feed_kbart.specs.Places.{has_isbn, has_issn, is_same_identifier, place_by, places_by}
+use Rattle.feed_identifiers.specs.Identifier.{IsIdentifier, identifier_eq, key_of}
+use Rattle.feed_identifiers.specs.Laws.{OneIdentifierForKey}
+use Rattle.feed_identifiers.specs.declared.identifier.Identifier.{Identifier}
+use Rattle.feed_identifiers.specs.declared.identifier.Identifier.TheVariants.{Issn, Isbn}
+use Rattle.feed_kbart.specs.Identifiers.{AreIdentifiers, numbers}
+use Rattle.feed_kbart.specs.Places.{has_identifier, is_same_identifier, place_by, places_by}
 use Rattle.feed_kbart.specs.declared.identifiers.Identifiers.{Identifiers}
-use Rattle.feed_kbart.specs.declared.identifiers.Identifiers.TheVariants.{Serial, Book}
 use Rattle.feed_kbart.specs.RowValue.{RowValue}
 use Rattle.feed_kbart.specs.declared.entry.Entry.{Entry}
 use Rattle.feed_kbart.specs.declared.index.Index.{Index}
@@ -53,22 +52,31 @@ two n place k m xs = go (eqb k m) (eqb k n) (eqb m n) refl refl refl
     go false false true s e f = rw (s, e, f) refl
     go false false false s e f = rw (s, e, f) refl
 
--- two identifiers are equal exactly if their numbers are, if the numbers determine them
-same_test : (number : List ℕ → ℕ) (Is : List ℕ → Type 0) → ((s t : List ℕ) → Is s → Is t → number s ≡ number t → s ≡ t)
-    → (identifier own : List ℕ) → Is identifier → Is own → bytes_eq identifier own ≡ eqb (number own) (number identifier)
-same_test number Is tells identifier own i j =
-    elim (eqb (number own) (number identifier)) as (λ b. eqb (number own) (number identifier) ≡ b → bytes_eq identifier own ≡ b) [
-      | true ↦ λ e. (let same : number own ≡ number identifier = grind (arith, nat_tests) in (bytes_decides identifier own).1 (sym (tells own identifier j i same)))
-      | false ↦ λ e. no (bytes_eq identifier own) refl e
+identifier_same : (one other : Identifier) → identifier_eq one other ≡ true → one ≡ other
+identifier_same (Issn one) (Issn other) e = ap Issn ((bytes_decides one other).0 e)
+identifier_same (Isbn one) (Isbn other) e = ap Isbn ((bytes_decides one other).0 e)
+identifier_same (Issn one) (Isbn other) e = absurd (cc)
+identifier_same (Isbn one) (Issn other) e = absurd (cc)
+
+identifier_itself : (one : Identifier) → identifier_eq one one ≡ true
+identifier_itself (Issn one) = (bytes_decides one one).1 refl
+identifier_itself (Isbn one) = (bytes_decides one one).1 refl
+
+-- two identifiers are the same exactly if their keys are, since the keys determine them
+same_test : OneIdentifierForKey → (one own : Identifier) → IsIdentifier one → IsIdentifier own → identifier_eq one own ≡ eqb (key_of own) (key_of one)
+same_test tells one own i j =
+    elim (eqb (key_of own) (key_of one)) as (λ b. eqb (key_of own) (key_of one) ≡ b → identifier_eq one own ≡ b) [
+      | true ↦ λ e. (let same : key_of own ≡ key_of one = grind (arith, nat_tests) in ap (identifier_eq one) (tells own one j i same) ∙ identifier_itself one)
+      | false ↦ λ e. no (identifier_eq one own) refl e
     ] refl
   where
     itself : (n : ℕ) → eqb n n ≡ true
     itself n = grind (arith, nat_tests)
 
-    no : (b : Bool) → bytes_eq identifier own ≡ b → eqb (number own) (number identifier) ≡ false → b ≡ false
+    no : (b : Bool) → identifier_eq one own ≡ b → eqb (key_of own) (key_of one) ≡ false → b ≡ false
     no true same differ =
-        let eq = ap number ((bytes_decides identifier own).0 same) in
-        sym (itself (number own)) ∙ rw eq at differ
+        let eq = ap key_of (identifier_same one own same) in
+        sym (itself (key_of own)) ∙ rw eq at differ
     no false same differ = refl
 
 or_false : (b : Bool) → (b || false) ≡ b
@@ -76,62 +84,20 @@ or_false true = refl
 or_false false = refl
 
 -- a row's place is among the entries of an identifier exactly if it has the identifier
-own_placed : (number : List ℕ → ℕ) (Is : List ℕ → Type 0) (identifier : List ℕ)
-    → ((own : List ℕ) → Is own → bytes_eq identifier own ≡ eqb (number own) (number identifier))
-    → (place : ℕ) (print online : Option (List ℕ)) (xs : List ℕ) → IfSome print Is → IfSome online Is
-    → placed (number identifier) (numbered place (each_once (option_map number print) (option_map number online))) ++ xs
-    ≡ cons_option (if is_same_identifier identifier print || is_same_identifier identifier online then Some place else None) xs
-own_placed number Is identifier tests place None None xs p o = refl
-own_placed number Is identifier tests place None (Some online) xs p o = rw (tests online o) (one (number identifier) place (number online) xs)
-own_placed number Is identifier tests place (Some print) None xs p o =
-    rw (tests print p, or_false (eqb (number print) (number identifier))) (one (number identifier) place (number print) xs)
-own_placed number Is identifier tests place (Some print) (Some online) xs p o =
-    rw (tests print p, tests online o) (two (number identifier) place (number print) (number online) xs)
-
--- identifiers of the other kind have no place there
-other_placed : (number : List ℕ → ℕ) (Is : List ℕ → Type 0) (n : ℕ) → ((own : List ℕ) → Is own → eqb (number own) n ≡ false)
-    → (place : ℕ) (print online : Option (List ℕ)) (xs : List ℕ) → IfSome print Is → IfSome online Is
-    → placed n (numbered place (each_once (option_map number print) (option_map number online))) ++ xs ≡ xs
-other_placed number Is n apart place None None xs p o = refl
-other_placed number Is n apart place None (Some online) xs p o = rw (apart online o) refl
-other_placed number Is n apart place (Some print) None xs p o = rw (apart print p) refl
-other_placed number Is n apart place (Some print) (Some online) xs p o =
-    elim (eqb (number print) (number online))
-    as (λ b. eqb (number print) (number online) ≡ b → placed n (numbered place (each_once (Some (number print)) (Some (number online)))) ++ xs ≡ xs) [
-      | true ↦ λ e. rw (e, apart print p) refl
-      | false ↦ λ e. rw (e, apart print p, apart online o) refl
-    ] refl
-
--- the number distinguishes an identifier from others of its kind, and from those of the other kind
-pub record NumbersTell : Type 0 where
-  pub issns : OneIssnForNumber
-  pub isbns : OneIsbnForNumber
-  pub small : IssnNumbersAreSmall
-
-above : (m n : ℕ) → n < 10000000 → eqb (10000000 + m) n ≡ false
-above m n h = grind (arith, nat_tests)
-
-below : (m n : ℕ) → m < 10000000 → eqb m (10000000 + n) ≡ false
-below m n h = grind (arith, nat_tests)
-
-one_more : (tell : NumbersTell) (s t : List ℕ) → IsIsbn s → IsIsbn t → isbn_number s ≡ isbn_number t → s ≡ t
-one_more tell s t i j e = tell.isbns s t i j (omega arith)
-
-issn_placed : NumbersTell → (issn : List ℕ) → IsIssn issn → (place : ℕ) (own : Identifiers) (xs : List ℕ) → AreIdentifiers own
-    → placed (number_of issn) (numbered place (each_once (numbers own).0 (numbers own).1)) ++ xs
-    ≡ cons_option (if is_same_identifier issn (print_issn own) || is_same_identifier issn (online_issn own) then Some place else None) xs
-issn_placed tell issn i place (Serial print online) xs are =
-    own_placed number_of IsIssn issn (λ own o. same_test number_of IsIssn tell.issns issn own i o) place print online xs are.0 are.1
-issn_placed tell issn i place (Book print online) xs are =
-    other_placed isbn_number IsIsbn (number_of issn) (λ own o. above (isbn.number_of own) (number_of issn) (tell.small issn i)) place print online xs are.0 are.1
-
-isbn_placed : NumbersTell → (isbn : List ℕ) → IsIsbn isbn → (place : ℕ) (own : Identifiers) (xs : List ℕ) → AreIdentifiers own
-    → placed (isbn_number isbn) (numbered place (each_once (numbers own).0 (numbers own).1)) ++ xs
-    ≡ cons_option (if is_same_identifier isbn (print_isbn own) || is_same_identifier isbn (online_isbn own) then Some place else None) xs
-isbn_placed tell digits i place (Book print online) xs are =
-    own_placed isbn_number IsIsbn digits (λ own o. same_test isbn_number IsIsbn (one_more tell) digits own i o) place print online xs are.0 are.1
-isbn_placed tell digits i place (Serial print online) xs are =
-    other_placed number_of IsIssn (isbn_number digits) (λ own o. below (number_of own) (isbn.number_of digits) (tell.small own o)) place print online xs are.0 are.1
+own_placed : OneIdentifierForKey → (one : Identifier) → IsIdentifier one → (place : ℕ) (own : Identifiers) (xs : List ℕ) → AreIdentifiers own
+    → placed (key_of one) (numbered place (each_once (numbers own).0 (numbers own).1)) ++ xs
+    ≡ cons_option (if is_same_identifier one own.print || is_same_identifier one own.online then Some place else None) xs
+own_placed tells identifier i place own xs are = go own.print own.online are.0 are.1
+  where
+    go : (print online : Option Identifier) → IfSome print IsIdentifier → IfSome online IsIdentifier
+        → placed (key_of identifier) (numbered place (each_once (option_map key_of print) (option_map key_of online))) ++ xs
+        ≡ cons_option (if is_same_identifier identifier print || is_same_identifier identifier online then Some place else None) xs
+    go None None p o = refl
+    go None (Some online) p o = rw (same_test tells identifier online i o) (one (key_of identifier) place (key_of online) xs)
+    go (Some print) None p o =
+        rw (same_test tells identifier print i p, or_false (eqb (key_of print) (key_of identifier))) (one (key_of identifier) place (key_of print) xs)
+    go (Some print) (Some online) p o =
+        rw (same_test tells identifier print i p, same_test tells identifier online i o) (two (key_of identifier) place (key_of print) (key_of online) xs)
 
 placed_append : (n : ℕ) (es fs : List Entry) → placed n (es ++ fs) ≡ placed n es ++ placed n fs
 placed_append n es fs = ap (map (λ e. e.place)) (filter-append (λ (e : Entry). eqb e.number n) es fs) ∙ map-append (λ (e : Entry). e.place) _ _
@@ -195,17 +161,15 @@ unfolding places_by
 sorted_placed n test rows sorted told all same up = in_file_order n rows sorted same up ∙ rows_placed n test 0 rows told all
 
 -- their columns are an index
-pub indexed : NumbersTell → (rows : List RowValue) (index : Index) (total : (Entry → ℕ) → ℕ) → length rows ≤ 4294967296 → All HasIdentifiers rows
+pub indexed : OneIdentifierForKey → (rows : List RowValue) (index : Index) (total : (Entry → ℕ) → ℕ) → length rows ≤ 4294967296 → All HasIdentifiers rows
     → HasEntries total index → ((weight : Entry → ℕ) → total weight ≡ sum_by weight (entries_from 0 rows)) → IsIndexOf rows index
 indexed tell rows index total few all has whole = record {
   table = record {
     even = rw (has.numbers, has.places) (length-map has.entries (λ (e : Entry). e.place) ∙ sym (length-map has.entries (λ (e : Entry). e.number)));
     ascending = rw has.numbers (column_ascends has.entries (numbers_ascend rows has.entries few same has.sorted));
   };
-  issns = λ issn i. rw (has.numbers, has.places) (beside_entries (number_of issn) has.entries
-      ∙ sorted_placed (number_of issn) (has_issn issn) rows has.entries (λ place row xs has. issn_placed tell issn i place row.identifiers xs has) all same has.sorted);
-  isbns = λ digits i. rw (has.numbers, has.places) (beside_entries (isbn_number digits) has.entries
-      ∙ sorted_placed (isbn_number digits) (has_isbn digits) rows has.entries (λ place row xs has. isbn_placed tell digits i place row.identifiers xs has) all same has.sorted);
+  places = λ one i. rw (has.numbers, has.places) (beside_entries (key_of one) has.entries
+      ∙ sorted_placed (key_of one) (has_identifier one) rows has.entries (λ place row xs has. own_placed tell one i place row.identifiers xs has) all same has.sorted);
 }
   where
     same : (weight : Entry → ℕ) → sum_by weight has.entries ≡ sum_by weight (entries_from 0 rows)

@@ -1,43 +1,34 @@
 -- The cells of a row, and the values that they have.
-use Rattle.std.proofs.Common.{◌≡◌, ◌∙◌, ℕ, Bool, true, false, List, Option, Some, None, ap, refl, sym}
+use Rattle.std.proofs.Common.{◌≡◌, ◌∙◌, ℕ, List, Option, Some, None, IfSome, ap, option_map, refl, sym}
 use Rattle.csv.specs.Records.{field_at}
-use Rattle.feed_kbart.specs.Coverage.{kind_of}
-use Rattle.feed_kbart.specs.Identifiers.{kind}
-use Rattle.feed_kbart.specs.RowCells.{book_cells, content_of, in_order, is_book, serial_cells, texts_of_cells}
-use Rattle.feed_kbart.specs.RowValue.{content, row_with}
+use Rattle.feed_identifiers.specs.Isbn.{isbn_of}
+use Rattle.feed_identifiers.specs.Issn.{issn_of}
+use Rattle.feed_identifiers.specs.declared.identifier.Identifier.TheVariants.{Issn, Isbn}
+use Rattle.feed_kbart.specs.Identifiers.{identifier_of, kind_with}
+use Rattle.feed_kbart.specs.RowCells.{content_of, in_order}
+use Rattle.feed_kbart.specs.RowValue.{content}
 use Rattle.feed_kbart.specs.Stored.{row_with_cells}
 use Rattle.feed_kbart.specs.declared.identifiers.Kind.{Kind}
-use Rattle.feed_kbart.specs.declared.identifiers.Kind.TheVariants as of
+use Rattle.feed_kbart.specs.declared.identifiers.Kind.TheVariants.{Serial, Book}
 use Rattle.feed_kbart.specs.declared.row_cells.RowCells.{RowCells}
 
-differ : of.Book ≡ of.Serial → ⊥
-differ same = cc
+-- the row of stored cells is that of the cells
+of_stored : (cells : RowCells) → row_with_cells 0 (in_order cells) ≡ content_of cells
+unfolding field_at
+of_stored cells = refl
 
-module _ (cells : RowCells) where
-  -- the row of stored cells is that of the cells
-  of_stored : row_with_cells 0 (in_order cells) ≡ content_of cells
-  unfolding field_at
-  of_stored = go (kind_of cells.publication_type.now) refl
-    where
-      go : (kind : Option Kind) → kind_of cells.publication_type.now ≡ kind → row_with_cells 0 (in_order cells) ≡ content_of cells
-      go None e = rw e refl
-      go (Some of.Serial) e = rw e refl
-      go (Some of.Book) e = rw e refl
+pub of_record : (cells : RowCells) (number : ℕ) (stored : List (List ℕ)) → in_order cells ≡ stored → content_of cells ≡ content (row_with_cells number stored)
+of_record cells number stored is = sym (of_stored cells) ∙ ap (row_with_cells 0) is
 
-  pub of_record : (number : ℕ) (stored : List (List ℕ)) → in_order cells ≡ stored → content_of cells ≡ content (row_with_cells number stored)
-  of_record number stored is = sym of_stored ∙ ap (row_with_cells 0) is
-
-  -- the row of a serial, and that of a book
-  pub of_serial : kind (content_of cells).identifiers ≡ of.Serial → content_of cells ≡ row_with 0 (serial_cells cells) (texts_of_cells cells)
-  of_serial is = go (is_book cells) refl
-    where
-      go : (book : Bool) → is_book cells ≡ book → content_of cells ≡ row_with 0 (serial_cells cells) (texts_of_cells cells)
-      go false e = rw e refl
-      go true e = absurd (differ (rw e at is))
-
-  pub of_book : kind (content_of cells).identifiers ≡ of.Book → content_of cells ≡ row_with 0 (book_cells cells) (texts_of_cells cells)
-  of_book is = go (is_book cells) refl
-    where
-      go : (book : Bool) → is_book cells ≡ book → content_of cells ≡ row_with 0 (book_cells cells) (texts_of_cells cells)
-      go true e = rw e refl
-      go false e = absurd (differ (sym (rw e at is)))
+-- an identifier that is parsed is of its title's kind
+pub of_kind : (of : Kind) (text : List ℕ) → IfSome (identifier_of of text) (λ one. kind_with one ≡ of)
+of_kind Serial text = go (issn_of text)
+  where
+    go : (issn : Option (List ℕ)) → IfSome (option_map Issn issn) (λ one. kind_with one ≡ Serial)
+    go None = tt
+    go (Some issn) = refl
+of_kind Book text = go (isbn_of text)
+  where
+    go : (isbn : Option (List ℕ)) → IfSome (option_map Isbn isbn) (λ one. kind_with one ≡ Book)
+    go None = tt
+    go (Some isbn) = refl

@@ -2,10 +2,10 @@
 use Rattle.std.specs.Prelude.{◌≡◌, ℕ, ◌+◌, ◌==◌, List, [], ◌∷◌, ◌++◌, length, map, Option, Some, None, if◌then◌else◌, sum_by}
 use Rattle.std.specs.List.{All}
 use Rattle.std.specs.List.Sorted.{IsNonDecreasing}
-use Rattle.feed_identifiers.specs.Issn.{IsIssn, number_of}
-use Rattle.feed_identifiers.specs.Isbn.{IsIsbn}
-use Rattle.feed_kbart.specs.Identifiers.{AreIdentifiers, isbn_number, numbers}
-use Rattle.feed_kbart.specs.Places.{places_with, places_with_isbn}
+use Rattle.feed_identifiers.specs.Identifier.{IsIdentifier, key_of}
+use Rattle.feed_identifiers.specs.declared.identifier.Identifier.{Identifier}
+use Rattle.feed_kbart.specs.Identifiers.{AreIdentifiers, numbers}
+use Rattle.feed_kbart.specs.Places.{places_having}
 use Rattle.feed_kbart.specs.RowValue.{RowValue}
 use Rattle.feed_kbart.specs.Runs.{weight_of}
 use Rattle.feed_kbart.specs.declared.entry.Entry.{Entry}
@@ -28,8 +28,7 @@ pub record IsTable (index : Index) : Type 0 where
 -- an index of rows: the number of an identifier is paired with the places of the rows that have it
 pub record IsIndexOf (rows : List RowValue) (index : Index) : Type 0 where
   pub table : IsTable index
-  pub issns : (issn : List ℕ) → IsIssn issn → places_beside (number_of issn) index.numbers.items index.places.items ≡ places_with issn rows
-  pub isbns : (isbn : List ℕ) → IsIsbn isbn → places_beside (isbn_number isbn) index.numbers.items index.places.items ≡ places_with_isbn isbn rows
+  pub places : (one : Identifier) → IsIdentifier one → places_beside (key_of one) index.numbers.items index.places.items ≡ places_having one rows
 
 -- the identifiers of a row are in printed form
 abbrev pub HasIdentifiers : RowValue → Type 0

@@ -1,22 +1,19 @@
 -- The places of the rows that have an identifier.
 use Rattle.std.specs.Prelude.{ℕ, ◌||◌, Bool, false, List, Option, Some, None, if◌then◌else◌}
 use Rattle.std.specs.List.{enumerate_from, filter_map}
-use Rattle.std.specs.Str.{bytes_eq}
-use Rattle.feed_kbart.specs.Identifiers.{online_isbn, online_issn, print_isbn, print_issn}
+use Rattle.feed_identifiers.specs.Identifier.{identifier_eq}
+use Rattle.feed_identifiers.specs.declared.identifier.Identifier.{Identifier}
+use Rattle.feed_identifiers.specs.declared.identifier.Identifier.TheVariants.{Issn, Isbn}
 use Rattle.feed_kbart.specs.RowValue.{RowValue}
 
 -- whether a column's identifier is this one
-abbrev pub is_same_identifier : List ℕ → Option (List ℕ) → Bool
-is_same_identifier identifier None = false
-is_same_identifier identifier (Some own) = bytes_eq identifier own
+abbrev pub is_same_identifier : Identifier → Option Identifier → Bool
+is_same_identifier one None = false
+is_same_identifier one (Some own) = identifier_eq one own
 
--- whether a row has this ISSN, in print or online
-abbrev pub has_issn : List ℕ → RowValue → Bool
-has_issn issn row = is_same_identifier issn (print_issn row.identifiers) || is_same_identifier issn (online_issn row.identifiers)
-
--- whether a row has this ISBN, in print or online
-abbrev pub has_isbn : List ℕ → RowValue → Bool
-has_isbn isbn row = is_same_identifier isbn (print_isbn row.identifiers) || is_same_identifier isbn (online_isbn row.identifiers)
+-- whether a row has this identifier, in print or online
+abbrev pub has_identifier : Identifier → RowValue → Bool
+has_identifier one row = is_same_identifier one row.identifiers.print || is_same_identifier one row.identifiers.online
 
 -- the place of a row that passes a test
 abbrev pub place_by : (RowValue → Bool) → ℕ × RowValue → Option ℕ
@@ -26,10 +23,14 @@ place_by test placed = if test placed.1 then Some placed.0 else None
 unfoldable pub places_by : (RowValue → Bool) → List RowValue → List ℕ
 places_by test rows = filter_map (place_by test) (enumerate_from 0 rows)
 
+-- the places of the rows that have this identifier
+abbrev pub places_having : Identifier → List RowValue → List ℕ
+places_having one rows = places_by (has_identifier one) rows
+
 -- the places of the rows that have this ISSN
 abbrev pub places_with : List ℕ → List RowValue → List ℕ
-places_with issn rows = places_by (has_issn issn) rows
+places_with issn rows = places_having (Issn issn) rows
 
 -- the places of the rows that have this ISBN
 abbrev pub places_with_isbn : List ℕ → List RowValue → List ℕ
-places_with_isbn isbn rows = places_by (has_isbn isbn) rows
+places_with_isbn isbn rows = places_having (Isbn isbn) rows

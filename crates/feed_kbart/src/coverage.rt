@@ -1,11 +1,12 @@
 //! Parsing the kind, the days and the volumes of a record, and the reasons to skip a record.
 ghost use Rattle.std.specs.Prelude.{◌≡◌, true, false, None, Some, MatchResult};
 ghost use Rattle.csv.specs.Records.{fields_of};
-ghost use Rattle.feed_kbart.specs.Coverage.{book_coverage, book_reason, coverage_days, coverage_of, is_coverage_date};
-ghost use Rattle.feed_kbart.specs.Coverage.{is_reversed, kind_of, reason_of, serial_coverage, serial_reason, volumes};
+ghost use Rattle.feed_kbart.specs.Coverage.{coverage_as, coverage_days, coverage_of, dates_reason, is_coverage_date};
+ghost use Rattle.feed_kbart.specs.Coverage.{is_reversed, kind_of, reason_as, reason_of, volumes};
 ghost use Rattle.feed_bytes.specs.Trim.{trimmed};
 ghost use Rattle.feed_kbart.specs.Volumes.{volume_of};
 ghost use Rattle.feed_kbart.specs.declared.fault.Reason.TheVariants as reason;
+ghost use Rattle.feed_kbart.specs.declared.identifiers.Kind.TheVariants.{Serial};
 
 use crate::fault::Reason;
 use crate::header::{Columns, cell_of};
@@ -14,7 +15,6 @@ use crate::label::Label;
 use csv::ByteRecord;
 use feed_bytes::trim_spaces;
 use feed_dates::DayRange;
-use feed_identifiers::{Isbn, Issn};
 
 /// Returns the kind of a publication type: a serial if it is empty or `serial`, a book if it is `monograph`.
 pub(crate) fn read_kind(text: &[u8]) -> Option<Kind>
@@ -75,40 +75,39 @@ pub(crate) fn read_volumes(first: &[u8], last: &[u8]) -> (Option<u32>, Option<u3
     }
 }
 
-// Checks a serial's record, and returns its identifiers. The error is the first reason to skip it.
-fn check_serial(columns: &Columns, fields: &ByteRecord) -> Result<Identifiers, Reason>
+// Checks the dates of a serial's record. The error is the first reason to skip it.
+fn check_dates(columns: &Columns, fields: &ByteRecord) -> Result<(), Reason>
     ensures { MatchResult result
-        (λ own. (serial_reason columns.now (fields_of fields.now) ≡ None)
-        × (own ≡ (serial_coverage columns.now (fields_of fields.now)).identifiers))
-        (λ why. serial_reason columns.now (fields_of fields.now) ≡ Some why) }
+        (λ _. dates_reason Serial columns.now (fields_of fields.now) ≡ None)
+        (λ why. dates_reason Serial columns.now (fields_of fields.now) ≡ Some why) }
 {
-    let print = Issn::parse(cell_of(fields, columns.of(Label::PrintIdentifier)));
-    let online = Issn::parse(cell_of(fields, columns.of(Label::OnlineIdentifier)));
-    if print.is_none() && online.is_none() {
-        return Err(Reason::NoIssn);
-    }
     let first = read_date(cell_of(fields, columns.of(Label::DateFirstIssueOnline)))?;
     let last = read_date(cell_of(fields, columns.of(Label::DateLastIssueOnline)))?;
     if is_reversed(first, last) {
         return Err(Reason::Reversed);
     }
-    Ok(Identifiers::Serial { print, online })
+    Ok(())
 }
 
-// Checks a book's record, and returns its identifiers. The error is the first reason to skip it. Ignores its dates and
-// volumes.
-fn check_book(columns: &Columns, fields: &ByteRecord) -> Result<Identifiers, Reason>
+// Checks a record of this kind, and returns its identifiers. The error is the first reason to skip it. The dates and
+// the volumes of a book are ignored.
+fn check_as(kind: Kind, columns: &Columns, fields: &ByteRecord) -> Result<Identifiers, Reason>
     ensures { MatchResult result
-        (λ own. (book_reason columns.now (fields_of fields.now) ≡ None)
-        × (own ≡ (book_coverage columns.now (fields_of fields.now)).identifiers))
-        (λ why. book_reason columns.now (fields_of fields.now) ≡ Some why) }
+        (λ own. (reason_as kind columns.now (fields_of fields.now) ≡ None)
+        × (own ≡ (coverage_as kind columns.now (fields_of fields.now)).identifiers))
+        (λ why. reason_as kind columns.now (fields_of fields.now) ≡ Some why) }
 {
-    let print = Isbn::parse(cell_of(fields, columns.of(Label::PrintIdentifier)));
-    let online = Isbn::parse(cell_of(fields, columns.of(Label::OnlineIdentifier)));
-    if print.is_none() && online.is_none() {
-        return Err(Reason::NoIsbn);
+    let print = cell_of(fields, columns.of(Label::PrintIdentifier));
+    let online = cell_of(fields, columns.of(Label::OnlineIdentifier));
+    let own = Identifiers::of(kind, print, online);
+    if own.are_none() {
+        return Err(kind.without());
     }
-    Ok(Identifiers::Book { print, online })
+    match kind {
+        Kind::Serial => check_dates(columns, fields)?,
+        Kind::Book => {}
+    }
+    Ok(own)
 }
 
 /// Checks that a record is a row, and returns its identifiers. The error is the first reason to skip it.
@@ -119,8 +118,7 @@ pub(crate) fn check_record(columns: &Columns, fields: &ByteRecord) -> Result<Ide
         (λ why. reason_of columns.now (fields_of fields.now) ≡ Some why) }
 {
     match read_kind(cell_of(fields, columns.of(Label::PublicationType))) {
-        Some(Kind::Serial) => check_serial(columns, fields),
-        Some(Kind::Book) => check_book(columns, fields),
+        Some(kind) => check_as(kind, columns, fields),
         None => Err(Reason::OtherType),
     }
 }

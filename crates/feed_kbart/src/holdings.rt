@@ -6,13 +6,13 @@ ghost use Rattle.feed_kbart.specs.Kept.{IsKept};
 use crate::coverage::check_record;
 use crate::fault::{KbartFault, Reason};
 use crate::header::Columns;
-use crate::identifiers::{Identifiers, isbn_number};
+use crate::identifiers::Identifiers;
 use crate::index::Index;
 use crate::indexed_store::IndexedStore;
 use crate::retired::RetiredHoldings;
 use crate::row::Row;
 use csv::ByteRecord;
-use feed_identifiers::{Isbn, Issn};
+use feed_identifiers::{Identifier, Isbn, Issn};
 use std::alloc::{AllocError, Global};
 use std::marker::Model;
 
@@ -112,7 +112,7 @@ impl Holdings {
     ghost use Rattle.feed_kbart.specs.HoldingsValue.{HoldingsValue};
     ghost use Rattle.feed_kbart.specs.IndexedStores.{AreStoredAndIndexed};
     ghost use Rattle.feed_kbart.specs.Kept.{AreHeld};
-    ghost use Rattle.feed_kbart.specs.Places.{places_with, places_with_isbn};
+    ghost use Rattle.feed_kbart.specs.Places.{places_having, places_with, places_with_isbn};
 
     /// Returns the holdings with these rows and skipped records.
     ///
@@ -137,18 +137,25 @@ impl Holdings {
         &self.rows
     }
 
+    /// Returns the places in `rows` of the rows that have an identifier, in print or online. They ascend, each once.
+    pub fn with_identifier(&self, identifier: &Identifier) -> &[u32]
+        ensures { result.now ≡ places_having identifier.now self.now.rows }
+    {
+        self.index.places_beside(identifier.key())
+    }
+
     /// Returns the places in `rows` of the rows that have an ISSN, in print or online. They ascend, each once.
     pub fn with_issn(&self, issn: &Issn) -> &[u32]
         ensures { result.now ≡ places_with issn.now self.now.rows }
     {
-        self.index.places_beside(issn.number())
+        self.with_identifier(&Identifier::Issn(*issn))
     }
 
     /// Returns the places in `rows` of the rows that have an ISBN, in print or online. They ascend, each once.
     pub fn with_isbn(&self, isbn: &Isbn) -> &[u32]
         ensures { result.now ≡ places_with_isbn isbn.now self.now.rows }
     {
-        self.index.places_beside(isbn_number(isbn))
+        self.with_identifier(&Identifier::Isbn(*isbn))
     }
 
     /// Returns the skipped records, in file order.

@@ -13,7 +13,7 @@ use crate::identifiers::Identifiers;
 use crate::index::Index;
 use crate::run::Run;
 use crate::runs::Runs;
-use feed_identifiers::{issn_numbers_are_small, one_isbn_for_number, one_issn_for_number};
+use feed_identifiers::one_identifier_for_key;
 use std::alloc::{AllocError, Global};
 use std::mem::replace;
 
@@ -122,9 +122,7 @@ impl IndexBuilder {
         ensures { IfOk result (λ index. (rows : List RowValue) → length rows ≤ file_limit → AreIndexed rows self
             → IsIndexOf rows index) }
     {
-        one_issn_for_number();
-        one_isbn_for_number();
-        issn_numbers_are_small();
+        one_identifier_for_key();
         self.seal(alloc)?;
         let IndexBuilder { runs, .. } = self;
         runs.finish(alloc)

@@ -41,14 +41,16 @@ pub use counts::{Counts, count_of};
 pub use coverage::read_volume;
 pub use fault::{BadFile, KbartFault, Reason};
 pub use feed_dates::DayRange;
-pub use feed_identifiers::{Isbn, Issn};
+pub use feed_identifiers::{Identifier, Isbn, Issn};
 pub use feed_text::Utf8Check;
 pub use file::{count_file, list_file, read_file, read_parts};
 pub use file_rows::FileRows;
 pub use holdings::{Aside, Holdings};
 pub use identifiers::{Identifiers, Kind};
 pub use label::{LABELS, Label, REQUIRED_COUNT};
-pub use law::{cells_are_getters, empty_file_is_bad, records_are_of_both_parts};
+pub use law::{
+    cells_are_getters, empty_file_is_bad, identifiers_are_of_their_kind, records_are_of_both_parts,
+};
 pub use list_check::{ListCheck, read_windows};
 pub use retired::RetiredHoldings;
 pub use row::Row;

@@ -90,28 +90,28 @@ impl Row {
     pub fn print(&self) -> Option<Issn>
         ensures { result ≡ print_issn self.now.identifiers }
     {
-        self.cells().print()
+        self.cells().print()?.issn()
     }
 
     /// Returns the ISSN of a serial's `online_identifier`, if it is valid.
     pub fn online(&self) -> Option<Issn>
         ensures { result ≡ online_issn self.now.identifiers }
     {
-        self.cells().online()
+        self.cells().online()?.issn()
     }
 
     /// Returns the ISBN of a book's `print_identifier`, if it is valid.
     pub fn print_isbn(&self) -> Option<Isbn>
         ensures { result ≡ print_isbn self.now.identifiers }
     {
-        self.cells().print_isbn()
+        self.cells().print()?.isbn()
     }
 
     /// Returns the ISBN of a book's `online_identifier`, if it is valid.
     pub fn online_isbn(&self) -> Option<Isbn>
         ensures { result ≡ online_isbn self.now.identifiers }
     {
-        self.cells().online_isbn()
+        self.cells().online()?.isbn()
     }
 
     /// Returns the first day of `date_first_issue_online`, counted from 1970-01-01, or `None` if coverage has no

@@ -4,7 +4,7 @@ ghost use Rattle.std.specs.Prelude.{◌≡◌};
 use crate::coverage::{read_days, read_kind, read_volumes};
 use crate::identifiers::Kind;
 use crate::stored_text::split_text;
-use feed_identifiers::{Isbn, Issn};
+use feed_identifiers::Identifier;
 
 /// The cells of a row, in the order in which they are stored. The identifiers, the publication type, the dates and the
 /// volumes have no spaces at their ends. The other cells are as in the file. The cell of an absent column is empty.
@@ -26,9 +26,9 @@ pub struct RowCells<'a> {
 }
 
 impl RowCells<'_> {
-    ghost use Rattle.feed_kbart.specs.Identifiers.{kind, online_isbn, online_issn, print_isbn, print_issn};
+    ghost use Rattle.feed_kbart.specs.Identifiers.{kind};
     ghost use Rattle.feed_kbart.specs.Labels.{label_count};
-    ghost use Rattle.feed_kbart.specs.RowCells.{content_of, in_order, is_book};
+    ghost use Rattle.feed_kbart.specs.RowCells.{content_of, in_order};
     ghost use Rattle.feed_kbart.specs.Stored.{texts_in};
 
     /// Returns the texts at the front of bytes as cells.
@@ -67,64 +67,25 @@ impl RowCells<'_> {
         }
     }
 
-    fn is_book(&self) -> bool
-        ensures { result ≡ is_book self.now }
-    {
-        match read_kind(self.publication_type) {
-            Some(Kind::Book) => true,
-            Some(Kind::Serial) | None => false,
-        }
-    }
-
     /// Returns whether the row is a serial's or a book's.
     pub fn kind(&self) -> Kind
         ensures { result ≡ kind (content_of self.now).identifiers }
     {
-        if self.is_book() {
-            Kind::Book
-        } else {
-            Kind::Serial
-        }
+        read_kind(self.publication_type).unwrap_or(Kind::Serial)
     }
 
-    /// Returns the ISSN of a serial's `print_identifier`, if it is valid.
-    pub fn print(&self) -> Option<Issn>
-        ensures { result ≡ print_issn (content_of self.now).identifiers }
+    /// Returns the ISSN of a serial's `print_identifier` or the ISBN of a book's, if it is valid.
+    pub fn print(&self) -> Option<Identifier>
+        ensures { result ≡ (content_of self.now).identifiers.print }
     {
-        if self.is_book() {
-            return None;
-        }
-        Issn::parse(self.print_identifier)
+        self.kind().identifier(self.print_identifier)
     }
 
-    /// Returns the ISSN of a serial's `online_identifier`, if it is valid.
-    pub fn online(&self) -> Option<Issn>
-        ensures { result ≡ online_issn (content_of self.now).identifiers }
+    /// Returns the ISSN of a serial's `online_identifier` or the ISBN of a book's, if it is valid.
+    pub fn online(&self) -> Option<Identifier>
+        ensures { result ≡ (content_of self.now).identifiers.online }
     {
-        if self.is_book() {
-            return None;
-        }
-        Issn::parse(self.online_identifier)
-    }
-
-    /// Returns the ISBN of a book's `print_identifier`, if it is valid.
-    pub fn print_isbn(&self) -> Option<Isbn>
-        ensures { result ≡ print_isbn (content_of self.now).identifiers }
-    {
-        if !self.is_book() {
-            return None;
-        }
-        Isbn::parse(self.print_identifier)
-    }
-
-    /// Returns the ISBN of a book's `online_identifier`, if it is valid.
-    pub fn online_isbn(&self) -> Option<Isbn>
-        ensures { result ≡ online_isbn (content_of self.now).identifiers }
-    {
-        if !self.is_book() {
-            return None;
-        }
-        Isbn::parse(self.online_identifier)
+        self.kind().identifier(self.online_identifier)
     }
 
     /// Returns the first day of `date_first_issue_online`, counted from 1970-01-01, or `None` if coverage has no
@@ -132,7 +93,7 @@ impl RowCells<'_> {
     pub fn first_day(&self) -> Option<i32>
         ensures { result ≡ (content_of self.now).first_day }
     {
-        if self.is_book() {
+        if self.kind() == Kind::Book {
             return None;
         }
         let days = read_days(self.date_first_issue_online)?;
@@ -144,7 +105,7 @@ impl RowCells<'_> {
     pub fn last_day(&self) -> Option<i32>
         ensures { result ≡ (content_of self.now).last_day }
     {
-        if self.is_book() {
+        if self.kind() == Kind::Book {
             return None;
         }
         let days = read_days(self.date_last_issue_online)?;
@@ -156,7 +117,7 @@ impl RowCells<'_> {
     pub fn volumes(&self) -> (Option<u32>, Option<u32>)
         ensures { result ≡ ((content_of self.now).first_volume, (content_of self.now).last_volume) }
     {
-        if self.is_book() {
+        if self.kind() == Kind::Book {
             return (None, None);
         }
         read_volumes(self.num_first_vol_online, self.num_last_vol_online)

@@ -1,14 +1,6 @@
-use Rattle.std.proofs.Common.{◌∙◌, sym}
-use Rattle.feed_kbart.specs.RowCells.{content_of}
-use Rattle.feed_answer.proofs.Graded.{book_graded, serial_graded}
+use Rattle.std.proofs.Common.{◌∙◌, ap}
+use Rattle.feed_answer.specs.Grades.{grade_of}
 use Rattle.feed_answer.proofs.grade.grade_of.Goals as goal
 
-pub returns-in-Serial : goal.returns-in-Serial
-returns-in-Serial c =
-    c.serial_grade.ensures
-    ∙ serial_graded c.args.query.now (content_of c.cells-cells.result) c.args.row.now c.cells-cells.ensures.content (sym c.kind.ensures ∙ c.in-Serial.is)
-
-pub returns-in-Book : goal.returns-in-Book
-returns-in-Book c =
-    c.book_grade.ensures
-    ∙ book_graded c.args.query.now (content_of c.cells-cells.result) c.args.row.now c.cells-cells.ensures.content (sym c.kind.ensures ∙ c.in-Book.is)
+pub returns : goal.returns
+returns c = c.grade_of_cells.ensures ∙ ap (grade_of c.args.query.now) c.cells.ensures.content

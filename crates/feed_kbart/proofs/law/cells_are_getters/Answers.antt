@@ -1,11 +1,8 @@
 use Rattle.std.proofs.Common.{◌∙◌, ap, sym}
 use Rattle.feed_kbart.specs.Identifiers.{kind}
-use Rattle.feed_kbart.specs.RowValue.{RowValue}
-use Rattle.feed_kbart.proofs.RowContents.{of_book, of_serial}
+use Rattle.feed_kbart.specs.RowCells.{cells_as, texts_of_cells}
+use Rattle.feed_kbart.specs.RowValue.{RowValue, row_with}
 use Rattle.feed_kbart.proofs.law.cells_are_getters.Goals as goal
 
 pub returns : goal.returns
-returns c row cells same = (
-  λ is. sym same ∙ of_serial cells (ap (λ (it : RowValue). kind it.identifiers) same ∙ is),
-  λ is. sym same ∙ of_book cells (ap (λ (it : RowValue). kind it.identifiers) same ∙ is),
-)
+returns c row cells same = sym same ∙ ap (λ (it : RowValue). row_with 0 (cells_as (kind it.identifiers) cells) (texts_of_cells cells)) same

@@ -11,5 +11,5 @@ pub returns : goal.returns
 returns c =
     IfOk-weaker c.finish.result (HasEntries (λ weight. weight_of weight c.seal.new.self.runs))
     (λ index. (rows : List RowValue) → length rows ≤ file_limit → AreIndexed rows c.args.self → IsIndexOf rows index) (λ index has rows few are.
-    indexed (record { issns = c.one_issn_for_number.ensures; isbns = c.one_isbn_for_number.ensures; small = c.issn_numbers_are_small.ensures })
-    rows index (λ weight. weight_of weight c.seal.new.self.runs) (omega (arith, few)) are.printed has (λ weight. omega (arith, c.in_ok-seal.ensures.same weight, are.same weight))) c.finish.ensures
+    indexed c.one_identifier_for_key.ensures rows index (λ weight. weight_of weight c.seal.new.self.runs) (omega (arith, few))
+    are.printed has (λ weight. omega (arith, c.in_ok-seal.ensures.same weight, are.same weight))) c.finish.ensures
