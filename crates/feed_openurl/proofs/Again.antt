@@ -7,13 +7,14 @@ use Rattle.std.proofs.lemmas.Bool.{le-ltb}
 use Rattle.std.proofs.lemmas.List.Elements.{All-head, All-tail}
 use Rattle.percent_encoding.specs.Percent.{percent_decode}
 use Rattle.feed_answer.specs.IdentifierSet.{identifier_set}
-use Rattle.feed_answer.specs.Pairs.{first, isbn_of_pair}
-use Rattle.feed_openurl.specs.Identifiers.{IdentifiersValue, LookedUp, are_none, as_isbn, as_issn, count, identifier_limit, identifiers_among}
+use Rattle.feed_answer.specs.Pairs.{first}
+use Rattle.feed_identifiers.specs.Identifier.{isbn_in, issn_in}
+use Rattle.feed_openurl.specs.Identifiers.{IdentifiersValue, LookedUp, are_none, count, identifier_limit, identifiers_among}
 use Rattle.feed_openurl.specs.Identifiers.{identifiers_of, looked_up, number_or_others, numbers_of_pair, reason_by, reason_without, refused, within_limit}
 use Rattle.feed_openurl.specs.Keys.{keyed, or_text}
 use Rattle.feed_openurl.specs.Kinds.{formats_of, names_other_format, names_other_version}
 use Rattle.feed_openurl.specs.Laws.{WrittenIsItself, WrittenIsUnderstood, of_written, refusal_of_written}
-use Rattle.feed_openurl.specs.Numbers.{number_or, numbers_in}
+use Rattle.feed_openurl.specs.Numbers.{numbers_in}
 use Rattle.feed_openurl.specs.Texts.{IsDateText, IsVolumeText}
 use Rattle.feed_openurl.specs.Tiers.{date_in, date_of, lenient_date_of, lenient_volume_of, strict_date_of, strict_volume_of, volume_in, volume_of}
 use Rattle.feed_openurl.specs.Values.{AreIdentifiers, IsCounted, IsIsbnText, IsIssnText, IsWellFormed, OpenUrlValue, understood_pairs}
@@ -23,7 +24,7 @@ use Rattle.feed_openurl.specs.declared.fault.OpenUrlFault.TheVariants as reason
 use Rattle.feed_openurl.specs.declared.key.Key.{Key}
 use Rattle.feed_openurl.specs.declared.key.Tier.{Tier}
 use Rattle.feed_openurl.specs.declared.key.Tier.TheVariants.{Old, Rft}
-use Rattle.feed_openurl.specs.declared.number.Number.TheVariants.{Isbn, Issn}
+use Rattle.feed_identifiers.specs.declared.identifier.Identifier.TheVariants.{Isbn, Issn}
 use Rattle.feed_openurl.proofs.Contained.{found_kept}
 use Rattle.feed_openurl.proofs.Written.{Pair, date_written, none_read, set_of_ascending, some_are, volume_written, written_pairs, written_parses}
 
@@ -94,11 +95,11 @@ looked issns isbns refusal = record { issns = issns; isbns = isbns; refusal = re
 -- a pair that is written has the one number that the core reads
 issn_alone : (issn : List ℕ) → IsIssnText issn → numbers_of_pair (codes "rft.issn", issn) ≡ Issn issn ∷ []
 unfolding numbers_of_pair
-issn_alone issn is = ap (λ (o : Option (List ℕ)). number_or_others (number_or o (option_map Isbn (isbn_of_pair (codes "rft.issn", issn)))) (numbers_in issn)) is
+issn_alone issn is = ap (λ (o : Option (List ℕ)). number_or_others (option_map Issn o) (numbers_in issn)) is
 
 isbn_alone : (isbn : List ℕ) → IsIsbnText isbn → numbers_of_pair (codes "rft.isbn", isbn) ≡ Isbn isbn ∷ []
 unfolding numbers_of_pair
-isbn_alone isbn is = ap (λ (o : Option (List ℕ)). number_or_others (number_or None (option_map Isbn o)) (numbers_in isbn)) is
+isbn_alone isbn is = ap (λ (o : Option (List ℕ)). number_or_others (option_map Isbn o) (numbers_in isbn)) is
 
 version_alone : numbers_of_pair version_pair ≡ []
 unfolding numbers_of_pair
@@ -134,12 +135,12 @@ isbns_alone (isbn ∷ isbns) rest all =
     ∙ ap (λ l. Isbn isbn ∷ l) (isbns_alone isbns rest (All-tail IsIsbnText isbn isbns all))
 
 -- the ISSNs and the ISBNs among these numbers
-issns_in : (issns isbns : List (List ℕ)) → filter_map as_issn (map Issn issns ++ (map Isbn isbns ++ [])) ≡ issns
+issns_in : (issns isbns : List (List ℕ)) → filter_map issn_in (map Issn issns ++ (map Isbn isbns ++ [])) ≡ issns
 issns_in [] [] = refl
 issns_in [] (isbn ∷ isbns) = issns_in [] isbns
 issns_in (issn ∷ issns) isbns = ap (λ l. issn ∷ l) (issns_in issns isbns)
 
-isbns_in : (issns isbns : List (List ℕ)) → filter_map as_isbn (map Issn issns ++ (map Isbn isbns ++ [])) ≡ isbns
+isbns_in : (issns isbns : List (List ℕ)) → filter_map isbn_in (map Issn issns ++ (map Isbn isbns ++ [])) ≡ isbns
 isbns_in [] [] = refl
 isbns_in [] (isbn ∷ isbns) = ap (λ l. isbn ∷ l) (isbns_in [] isbns)
 isbns_in (issn ∷ issns) isbns = isbns_in issns isbns
@@ -161,7 +162,7 @@ module _ (issns isbns : List (List ℕ)) (date volume : Option (List ℕ)) (are 
       let first = ap identifier_set (issns_in issns isbns) ∙ set_of_ascending issns are.issns_ascend in
       let second = ap identifier_set (isbns_in issns isbns) ∙ set_of_ascending isbns are.isbns_ascend in
       ap identifiers_among numbers_are
-      ∙ ap (λ l. identifiers l (identifier_set (filter_map as_isbn all))) first ∙ ap (identifiers issns) second
+      ∙ ap (λ l. identifiers l (identifier_set (filter_map isbn_in all))) first ∙ ap (identifiers issns) second
 
   looked_so : looked_up pairs ≡ (if are_none (identifiers issns isbns) then refused (reason_without (map keyed pairs)) else within_limit (identifiers issns isbns))
   looked_so = ap (λ f. if are_none f then refused (reason_without (map keyed pairs)) else within_limit f) identifiers_are

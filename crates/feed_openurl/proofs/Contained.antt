@@ -1,34 +1,32 @@
 -- What the core reads of a query is looked up.
-use Rattle.std.proofs.Common.{◌≡◌, ◌≤◌, ℕ, Bool, true, false, ◌||◌, ◌&&◌, List, [], ◌∷◌, map, length, Option, Some, None, Ok, Err, if◌then◌else◌, codes, refl, sym, ap, ◌∙◌}
-use Rattle.std.specs.Prelude.{nat_lt, option_map}
+use Rattle.std.proofs.Common.{◌≡◌, ◌≤◌, ℕ, Bool, true, false, ◌||◌, ◌&&◌, List, [], ◌∷◌, map, length, Option, Some, None, Ok, Err, if◌then◌else◌, refl, sym, ap, ◌∙◌}
+use Rattle.std.specs.Prelude.{nat_lt}
 use Rattle.std.specs.Option.{option_and_then}
 use Rattle.std.specs.List.{cons_option, filter_map, flat_map, list_any}
 use Rattle.std.specs.Str.{bytes_eq}
 use Rattle.std.proofs.lemmas.Bool.{le-ltb}
 use Rattle.std.proofs.lemmas.Slice.Eq.{bytes_eq-Decides}
 use Rattle.form_urlencoded.specs.Form as form
-use Rattle.feed_identifiers.specs.Isbn.{isbn_of}
 use Rattle.feed_dates.specs.declared.day_range.DayRange.{DayRange}
 use Rattle.feed_answer.specs.IdentifierSet.{identifier_set, is_among}
 use Rattle.feed_answer.specs.Laws.{SetHasExactlyItsIdentifiers}
 use Rattle.feed_answer.specs.Limits.{query_limit}
-use Rattle.feed_answer.specs.Pairs.{first_days, first_volume, has_key, is_empty, is_other_version, isbn_of_pair, issn_of_pair}
+use Rattle.feed_answer.specs.Pairs.{first_days, first_volume, identifier_of_pair, is_empty, is_other_version, isbn_of_pair, issn_of_pair}
 use Rattle.feed_answer.specs.Queries.{has_book_format, has_journal_format, has_other_format, query_isbns, query_issns, query_of, query_of_pairs}
 use Rattle.feed_answer.specs.QueryValue.{QueryValue}
 use Rattle.feed_answer.specs.declared.fault.QueryFault.{QueryFault}
 use Rattle.feed_answer.specs.declared.fault.QueryFault.TheVariants.{NoIsbn, NoIssn, OtherFormat, TooLong, Version}
 use Rattle.feed_openurl.specs.Core.{core_date, core_volume}
-use Rattle.feed_openurl.specs.Identifiers.{IdentifiersValue, LookedUp, are_none, as_isbn, as_issn, core_number, count, identifier_limit, identifiers_of}
+use Rattle.feed_identifiers.specs.Identifier.{isbn_in, issn_in}
+use Rattle.feed_openurl.specs.Identifiers.{IdentifiersValue, LookedUp, are_none, count, identifier_limit, identifiers_of}
 use Rattle.feed_openurl.specs.Identifiers.{looked_up, number_or_others, number_text, numbers_in_text, numbers_of_pair, reason_without, refused, within_limit}
 use Rattle.feed_openurl.specs.Keys.{keyed}
 use Rattle.feed_openurl.specs.Laws.{AnsweredIsContained, AreAmong, ContainsAnswer}
-use Rattle.feed_openurl.specs.Numbers.{number_or}
 use Rattle.feed_openurl.specs.Tiers.{date_in, volume_in}
 use Rattle.feed_openurl.specs.Values.{understood_pairs}
 use Rattle.feed_openurl.specs.declared.fault.OpenUrlFault.TheVariants as reason
 use Rattle.feed_openurl.specs.declared.key.Tier.TheVariants.{Old, Rft}
-use Rattle.feed_openurl.specs.declared.number.Number.{Number}
-use Rattle.feed_openurl.specs.declared.number.Number.TheVariants.{Isbn, Issn}
+use Rattle.feed_identifiers.specs.declared.identifier.Identifier.{Identifier}
 use Rattle.feed_openurl.proofs.Kept.{core_days, core_number as core_volume_number, kept_days, kept_number}
 use Rattle.feed_openurl.proofs.Swapped.{Pair, among_pairs}
 
@@ -59,45 +57,19 @@ among_read read one [] = refl
 among_read read one (pair ∷ pairs) =
     among_first one (read pair) (filter_map read pairs) ∙ ap (λ b. is_among one (cons_option (read pair) []) || b) (among_read read one pairs)
 
--- an ISSN that the core reads of a pair is one of its numbers
-issn_by : (one : List ℕ) (o : Option (List ℕ)) (isbn : Option Number) (others : List Number)
-    → is_among one (cons_option o []) ≡ true → is_among one (filter_map as_issn (number_or_others (number_or o isbn) others)) ≡ true
-issn_by one None isbn others h = absurd (let u : false ≡ true = h in cc)
-issn_by one (Some issn) isbn others h = h
+-- an identifier that the core reads of a pair is one of its numbers
+found_by : (read : Identifier → Option (List ℕ)) (one : List ℕ) (o : Option Identifier) (others : List Identifier)
+    → is_among one (cons_option (option_and_then read o) []) ≡ true → is_among one (filter_map read (number_or_others o others)) ≡ true
+found_by read one None others h = absurd (let u : false ≡ true = h in cc)
+found_by read one (Some found) others h = h
 
-issn_there : (one : List ℕ) (pair : Pair) → is_among one (cons_option (issn_of_pair pair) []) ≡ true
-    → is_among one (filter_map as_issn (numbers_of_pair pair)) ≡ true
+found_there : (read : Identifier → Option (List ℕ)) (one : List ℕ) (pair : Pair) → is_among one (cons_option (option_and_then read (identifier_of_pair pair)) []) ≡ true
+    → is_among one (filter_map read (numbers_of_pair pair)) ≡ true
 unfolding numbers_of_pair
-issn_there one pair h = issn_by one (issn_of_pair pair) (option_map Isbn (isbn_of_pair pair)) (numbers_in_text (number_text (keyed pair))) h
-
--- the same of an ISBN, whose key has no ISSN
-no_issn : (pair : Pair) → has_key (codes "rft.isbn") pair ≡ true → issn_of_pair pair ≡ None
-no_issn pair h =
-    let is : pair.0 ≡ codes "rft.isbn" = (bytes_eq-Decides pair.0 (codes "rft.isbn")).0 h in
-    ap (λ (key : List ℕ). issn_of_pair (key, pair.1)) is
-
-isbn_by : (one : List ℕ) (o : Option (List ℕ)) (others : List Number)
-    → is_among one (cons_option o []) ≡ true → is_among one (filter_map as_isbn (number_or_others (number_or None (option_map Isbn o)) others)) ≡ true
-isbn_by one None others h = absurd (let u : false ≡ true = h in cc)
-isbn_by one (Some isbn) others h = h
-
-isbn_there : (one : List ℕ) (pair : Pair) → is_among one (cons_option (isbn_of_pair pair) []) ≡ true
-    → is_among one (filter_map as_isbn (numbers_of_pair pair)) ≡ true
-unfolding numbers_of_pair
-isbn_there one pair h = by (has_key (codes "rft.isbn") pair) refl h
-  where
-    others : List Number
-    others = numbers_in_text (number_text (keyed pair))
-
-    by : (b : Bool) → has_key (codes "rft.isbn") pair ≡ b → is_among one (cons_option (if b then isbn_of pair.1 else None) []) ≡ true
-        → is_among one (filter_map as_isbn (number_or_others (number_or (issn_of_pair pair) (option_map Isbn (isbn_of_pair pair))) others)) ≡ true
-    by true e there =
-        ap (λ (o : Option (List ℕ)). is_among one (filter_map as_isbn (number_or_others (number_or o (option_map Isbn (isbn_of_pair pair))) others))) (no_issn pair e)
-        ∙ isbn_by one (isbn_of_pair pair) others (ap (λ b. is_among one (cons_option (if b then isbn_of pair.1 else None) [])) e ∙ there)
-    by false e there = absurd (let u : false ≡ true = there in cc)
+found_there read one pair h = found_by read one (identifier_of_pair pair) (numbers_in_text (number_text (keyed pair))) h
 
 module _ (exact : SetHasExactlyItsIdentifiers) (pairs : List Pair) where
-  set_contained : (core : Pair → Option (List ℕ)) (read : Number → Option (List ℕ))
+  set_contained : (core : Pair → Option (List ℕ)) (read : Identifier → Option (List ℕ))
       → ((one : List ℕ) (pair : Pair) → is_among one (cons_option (core pair) []) ≡ true → is_among one (filter_map read (numbers_of_pair pair)) ≡ true)
       → AreAmong (identifier_set (filter_map core pairs)) (identifier_set (filter_map read (flat_map numbers_of_pair pairs)))
   set_contained core read there one h =
@@ -112,11 +84,11 @@ module _ (exact : SetHasExactlyItsIdentifiers) (pairs : List Pair) where
 
   issns_contained : AreAmong (query_issns pairs) (identifiers_of pairs).issns
   issns_contained =
-      if_contained (has_book_format pairs) (identifier_set (filter_map issn_of_pair pairs)) (identifiers_of pairs).issns (set_contained issn_of_pair as_issn issn_there)
+      if_contained (has_book_format pairs) (identifier_set (filter_map issn_of_pair pairs)) (identifiers_of pairs).issns (set_contained issn_of_pair issn_in (found_there issn_in))
 
   isbns_contained : AreAmong (query_isbns pairs) (identifiers_of pairs).isbns
   isbns_contained =
-      if_contained (has_journal_format pairs) (identifier_set (filter_map isbn_of_pair pairs)) (identifiers_of pairs).isbns (set_contained isbn_of_pair as_isbn isbn_there)
+      if_contained (has_journal_format pairs) (identifier_set (filter_map isbn_of_pair pairs)) (identifiers_of pairs).isbns (set_contained isbn_of_pair isbn_in (found_there isbn_in))
 
 -- identifiers that are some, and within the limit, are looked up
 pub found_kept : (found : IdentifiersValue) (others : LookedUp) → are_none found ≡ false → nat_lt identifier_limit (count found.issns found.isbns) ≡ false

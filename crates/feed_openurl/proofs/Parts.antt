@@ -7,7 +7,7 @@ use Rattle.std.proofs.lemmas.List.{append-nil, drop_more, length-drop, take_all}
 use Rattle.feed_answer.specs.Pairs.{is_empty}
 use Rattle.feed_openurl.specs.Dates.{joins, token_of, tokens_from}
 use Rattle.feed_openurl.specs.Numbers.{first_number, is_word_byte, number_onto, numbers_after, onto, sign_onto, taken, unlabelled, words_from}
-use Rattle.feed_openurl.specs.declared.number.Number.{Number}
+use Rattle.feed_identifiers.specs.declared.identifier.Identifier.{Identifier}
 use Rattle.feed_openurl.specs.declared.tokens.Token.{Token}
 
 -- the token of a run goes before the others
@@ -93,11 +93,11 @@ pub last_word : (words : List (List ℕ)) (begun bytes : List ℕ) (all : List (
 last_word words begun bytes all none is = ap (λ bs. words ++ words_from begun bs) (sym none) ∙ is
 
 -- the number at the front goes before the others
-number_before : (o : Option (Number × ℕ)) (before rest : List Number) → before ++ number_onto o [] ++ rest ≡ before ++ number_onto o rest
+number_before : (o : Option (Identifier × ℕ)) (before rest : List Identifier) → before ++ number_onto o [] ++ rest ≡ before ++ number_onto o rest
 number_before None before rest = ap (λ l. l ++ rest) (append-nil before)
 number_before (Some found) before rest = append_assoc before (found.0 ∷ []) rest
 
-pub number_found : (numbers : List Number) (words : List (List ℕ)) (place : ℕ) → place < length words
+pub number_found : (numbers : List Identifier) (words : List (List ℕ)) (place : ℕ) → place < length words
     → numbers ++ number_onto (first_number (drop place words)) [] ++ numbers_after (taken (first_number (drop place words))) (drop (place + 1) words)
     ≡ numbers ++ numbers_after 0 (drop place words)
 number_found numbers words place within =
@@ -117,7 +117,7 @@ word_passed words place skipped within some =
 rest_whole : (words : List (List ℕ)) (place : ℕ) → take (length words - place) (drop place words) ≡ drop place words
 rest_whole words place = take_all (length words - place) (drop place words) (omega (arith, length-drop place words))
 
-pub number_found_by : (numbers new : List Number) (words : List (List ℕ)) (place skipped more : ℕ) (all : List Number) → place < length words → skipped ≤ 0
+pub number_found_by : (numbers new : List Identifier) (words : List (List ℕ)) (place skipped more : ℕ) (all : List Identifier) → place < length words → skipped ≤ 0
     → new ≡ numbers ++ number_onto (first_number (take (length words - place) (drop place words))) []
     → more ≡ taken (first_number (take (length words - place) (drop place words)))
     → numbers ++ numbers_after skipped (drop place words) ≡ all → new ++ numbers_after more (drop (place + 1) words) ≡ all

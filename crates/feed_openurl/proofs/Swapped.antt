@@ -8,7 +8,8 @@ use Rattle.std.specs.Str.{bytes_eq}
 use Rattle.feed_answer.specs.IdentifierSet.{identifier_set, is_among}
 use Rattle.feed_answer.specs.Laws.{SetHasExactlyItsIdentifiers, SetsAscend}
 use Rattle.feed_answer.specs.Pairs.{book_format, journal_format}
-use Rattle.feed_openurl.specs.Identifiers.{IdentifiersValue, LookedUp, are_none, as_isbn, as_issn, identifiers_of, looked_up, numbers_of_pair}
+use Rattle.feed_identifiers.specs.Identifier.{isbn_in, issn_in}
+use Rattle.feed_openurl.specs.Identifiers.{IdentifiersValue, LookedUp, are_none, identifiers_of, looked_up, numbers_of_pair}
 use Rattle.feed_openurl.specs.Identifiers.{reason_by, reason_without, refused, within_limit}
 use Rattle.feed_openurl.specs.Keys.{keyed}
 use Rattle.feed_openurl.specs.Kinds.{formats_of, names_format, names_other_format, names_other_version}
@@ -16,7 +17,7 @@ use Rattle.feed_openurl.specs.Laws.{OrderIsFree}
 use Rattle.feed_openurl.specs.declared.fault.OpenUrlFault.{OpenUrlFault}
 use Rattle.feed_openurl.specs.declared.fault.OpenUrlFault.TheVariants as reason
 use Rattle.feed_openurl.specs.declared.key.Key.{Key}
-use Rattle.feed_openurl.specs.declared.number.Number.{Number}
+use Rattle.feed_identifiers.specs.declared.identifier.Identifier.{Identifier}
 use Rattle.feed_openurl.proofs.Members.{same_set}
 
 abbrev pub Pair : Type 0
@@ -37,7 +38,7 @@ any_mapped p [] = refl
 any_mapped p (pair ∷ pairs) = ap (λ b. p (keyed pair) || b) (any_mapped p pairs)
 
 -- an identifier is among those of all pairs if it is among those of one
-pub among_pairs : (read : Number → Option (List ℕ)) (one : List ℕ) (pairs : List Pair)
+pub among_pairs : (read : Identifier → Option (List ℕ)) (one : List ℕ) (pairs : List Pair)
     → is_among one (filter_map read (flat_map numbers_of_pair pairs)) ≡ list_any (λ pair. is_among one (filter_map read (numbers_of_pair pair))) pairs
 among_pairs read one [] = refl
 among_pairs read one (pair ∷ pairs) =
@@ -69,7 +70,7 @@ module _ (before after : List Pair) (first second : Pair) where
       (any_value (names_format book_format))
 
   module _ (ascend : SetsAscend) (exact : SetHasExactlyItsIdentifiers) where
-    same_texts : (read : Number → Option (List ℕ))
+    same_texts : (read : Identifier → Option (List ℕ))
         → identifier_set (filter_map read (flat_map numbers_of_pair these)) ≡ identifier_set (filter_map read (flat_map numbers_of_pair those))
     same_texts read =
         same_set ascend exact (filter_map read (flat_map numbers_of_pair these)) (filter_map read (flat_map numbers_of_pair those))
@@ -77,8 +78,8 @@ module _ (before after : List Pair) (first second : Pair) where
 
     same_identifiers : identifiers_of these ≡ identifiers_of those
     same_identifiers =
-        ap (λ (l : List (List ℕ)). record { issns = l; isbns = identifier_set (filter_map as_isbn (flat_map numbers_of_pair these)) }) (same_texts as_issn)
-        ∙ ap (λ (l : List (List ℕ)). record { issns = identifier_set (filter_map as_issn (flat_map numbers_of_pair those)); isbns = l }) (same_texts as_isbn)
+        ap (λ (l : List (List ℕ)). record { issns = l; isbns = identifier_set (filter_map isbn_in (flat_map numbers_of_pair these)) }) (same_texts issn_in)
+        ∙ ap (λ (l : List (List ℕ)). record { issns = identifier_set (filter_map issn_in (flat_map numbers_of_pair those)); isbns = l }) (same_texts isbn_in)
 
     same_looked_up : looked_up these ≡ looked_up those
     same_looked_up =

@@ -9,7 +9,7 @@ use Rattle.std.proofs.lemmas.Slice.Eq.{bytes_eq-Decides}
 use Rattle.feed_identifiers.specs.Isbn.{isbn_of}
 use Rattle.feed_identifiers.specs.Issn.{issn_of}
 use Rattle.feed_bytes.specs.Trim.{trimmed}
-use Rattle.feed_answer.specs.Pairs.{book_format, first, has_key, isbn_of_pair, issn_of_pair, issn_of_urn, journal_format}
+use Rattle.feed_answer.specs.Pairs.{book_format, first, has_key, identifier_of_pair, issn_of_urn, journal_format}
 use Rattle.feed_openurl.specs.Citations.{named, named_after, part_of}
 use Rattle.feed_citation.specs.declared.citation_part.CitationPart.{CitationPart}
 use Rattle.feed_openurl.specs.Core.{core_date, core_volume, date_of_pair, volume_of_pair}
@@ -19,7 +19,6 @@ use Rattle.feed_openurl.specs.Identifiers.{numbers_in_text, numbers_of_pair, rea
 use Rattle.feed_openurl.specs.Keys.{after_prefix, envelope_key, is_name, key_of, key_with, keyed, mended, or_text}
 use Rattle.feed_openurl.specs.Kinds.{names_format, names_other_format, names_other_version}
 use Rattle.feed_openurl.specs.Laws.{DroppedIsUnread, PeopleAreDropped, names_people}
-use Rattle.feed_openurl.specs.Numbers.{number_or}
 use Rattle.feed_openurl.specs.Texts.{date_text_of, volume_text_of}
 use Rattle.feed_openurl.specs.Tiers.{date_in, date_of, lenient_date_of, lenient_volume_of, strict_date_of, strict_volume_of, volume_in, volume_of}
 use Rattle.feed_openurl.specs.Values.{OpenUrlValue, understood_pairs, with_dates}
@@ -29,8 +28,8 @@ use Rattle.feed_openurl.specs.declared.key.Key.{Key}
 use Rattle.feed_openurl.specs.declared.key.Key.TheVariants as key
 use Rattle.feed_openurl.specs.declared.key.Tier.{Tier}
 use Rattle.feed_openurl.specs.declared.key.Tier.TheVariants.{Old, Rft}
-use Rattle.feed_openurl.specs.declared.number.Number.{Number}
-use Rattle.feed_openurl.specs.declared.number.Number.TheVariants.{Isbn, Issn}
+use Rattle.feed_identifiers.specs.declared.identifier.Identifier.{Identifier}
+use Rattle.feed_identifiers.specs.declared.identifier.Identifier.TheVariants.{Isbn, Issn}
 use Rattle.feed_openurl.proofs.Swapped.{Pair}
 
 -- what reads nothing of a pair reads the same without it
@@ -69,21 +68,19 @@ module _ (pair : Pair) (unread : key_of pair.0 ≡ key.Other) where
           let other : is_other (key_of name) ≡ true = ap is_other (ap key_of (sym is) ∙ unread) in
           absurd (cc)
 
-  no_issn : issn_of_pair pair ≡ None
-  no_issn =
-      let named = if has_key (codes "rft_id") pair then issn_of_urn pair.1 else None in
-      ap (λ b. if b || has_key (codes "rft.eissn") pair then issn_of pair.1 else named) (no_key (codes "rft.issn") refl)
-      ∙ ap (λ b. if b then issn_of pair.1 else named) (no_key (codes "rft.eissn") refl)
-      ∙ ap (λ b. if b then issn_of_urn pair.1 else None) (no_key (codes "rft_id") refl)
-
-  no_isbn : isbn_of_pair pair ≡ None
-  no_isbn = ap (λ b. if b then isbn_of pair.1 else None) (no_key (codes "rft.isbn") refl)
+  no_identifier : identifier_of_pair pair ≡ None
+  no_identifier =
+      let isbn = if has_key (codes "rft.isbn") pair then option_map Isbn (isbn_of pair.1) else None in
+      let named = if has_key (codes "rft_id") pair then option_map Issn (issn_of_urn pair.1) else isbn in
+      ap (λ b. if b || has_key (codes "rft.eissn") pair then option_map Issn (issn_of pair.1) else named) (no_key (codes "rft.issn") refl)
+      ∙ ap (λ b. if b then option_map Issn (issn_of pair.1) else named) (no_key (codes "rft.eissn") refl)
+      ∙ ap (λ b. if b then option_map Issn (issn_of_urn pair.1) else isbn) (no_key (codes "rft_id") refl)
+      ∙ ap (λ b. if b then option_map Isbn (isbn_of pair.1) else None) (no_key (codes "rft.isbn") refl)
 
   no_numbers : numbers_of_pair pair ≡ []
   unfolding numbers_of_pair
   no_numbers =
-      ap (λ (o : Option (List ℕ)). number_or_others (number_or o (option_map Isbn (isbn_of_pair pair))) (numbers_in_text (number_text (keyed pair)))) no_issn
-      ∙ ap (λ (o : Option (List ℕ)). number_or_others (number_or None (option_map Isbn o)) (numbers_in_text (number_text (keyed pair)))) no_isbn
+      ap (λ (o : Option Identifier). number_or_others o (numbers_in_text (number_text (keyed pair)))) no_identifier
       ∙ ap (λ (v : Key × List ℕ). numbers_in_text (number_text v)) keyed_other
 
   module _ (before after : List Pair) where
@@ -111,7 +108,7 @@ module _ (pair : Pair) (unread : key_of pair.0 ≡ key.Other) where
 
     looked_same : looked_up all ≡ looked_up rest
     looked_same =
-        ap (λ (f : List Number). if are_none (identifiers_among f) then refused (reason_without (map keyed all)) else within_limit (identifiers_among f))
+        ap (λ (f : List Identifier). if are_none (identifiers_among f) then refused (reason_without (map keyed all)) else within_limit (identifiers_among f))
         (numbers_passed pair before after no_numbers)
         ∙ ap (λ (r : OpenUrlFault). if are_none (identifiers_of rest) then refused r else within_limit (identifiers_of rest)) reason_same
 

@@ -11,8 +11,9 @@ use Rattle.feed_identifiers.specs.Issn.{issn_of}
 use Rattle.feed_identifiers.specs.Laws.{PrintedFormParses}
 use Rattle.feed_answer.specs.IdentifierSet.{IsAscending, bytes_cmp, identifier_set}
 use Rattle.feed_answer.specs.Laws.{SetsAscend}
-use Rattle.feed_answer.specs.Pairs.{has_key, has_prefix, is_empty, isbn_of_pair, issn_of_pair, issn_of_urn}
-use Rattle.feed_openurl.specs.Identifiers.{IdentifiersValue, LookedUp, are_none, as_isbn, as_issn, core_number, count, identifier_limit, numbers_of_pair, reason_without, refused, within_limit}
+use Rattle.feed_answer.specs.Pairs.{has_key, has_prefix, identifier_of_pair, is_empty, issn_of_urn}
+use Rattle.feed_identifiers.specs.Identifier.{isbn_in, issn_in}
+use Rattle.feed_openurl.specs.Identifiers.{IdentifiersValue, LookedUp, are_none, count, identifier_limit, numbers_of_pair, reason_without, refused, within_limit}
 use Rattle.feed_openurl.specs.Identifiers.{identifiers_among, identifiers_of, looked_up, number_or_others, number_text, numbers_in_text}
 use Rattle.feed_openurl.specs.Keys.{keyed}
 use Rattle.feed_openurl.specs.Numbers.{first_number, first_spaced_isbn, found_or, is_ismn, isbn_number, is_number, number_of_word, number_onto, number_or}
@@ -22,15 +23,15 @@ use Rattle.feed_openurl.specs.Plain.{plain}
 use Rattle.feed_openurl.specs.Values.{AreIdentifiers, IsCounted, IsIsbnText, IsIssnText}
 use Rattle.feed_openurl.specs.declared.fault.OpenUrlFault.{OpenUrlFault}
 use Rattle.feed_openurl.specs.declared.fault.OpenUrlFault.TheVariants as reason
-use Rattle.feed_openurl.specs.declared.number.Number.{Number}
-use Rattle.feed_openurl.specs.declared.number.Number.TheVariants.{Isbn, Issn}
+use Rattle.feed_identifiers.specs.declared.identifier.Identifier.{Identifier}
+use Rattle.feed_identifiers.specs.declared.identifier.Identifier.TheVariants.{Isbn, Issn}
 
 -- a number is the printed form of one
-abbrev IsValid : Number → Type 0
+abbrev IsValid : Identifier → Type 0
 IsValid (Issn issn) = IsIssnText issn
 IsValid (Isbn isbn) = IsIsbnText isbn
 
-abbrev IsFound : Number × ℕ → Type 0
+abbrev IsFound : Identifier × ℕ → Type 0
 IsFound found = IsValid found.0
 
 parsed : (read : List ℕ → Option (List ℕ)) → PrintedFormParses read → (text : List ℕ) (o : Option (List ℕ)) → read text ≡ o
@@ -46,23 +47,27 @@ isbn_number_valid : (o : Option (List ℕ)) → IfSome o IsIsbnText → IfSome (
 isbn_number_valid None is = tt
 isbn_number_valid (Some isbn) is = if_valid IsValid (is_ismn isbn) None (Some (Isbn isbn)) tt is
 
+issn_valid_of : (o : Option (List ℕ)) → IfSome o IsIssnText → IfSome (option_map Issn o) IsValid
+issn_valid_of None is = tt
+issn_valid_of (Some issn) is = is
+
 isbn_valid_of : (o : Option (List ℕ)) → IfSome o IsIsbnText → IfSome (option_map Isbn o) IsValid
 isbn_valid_of None is = tt
 isbn_valid_of (Some isbn) is = is
 
-or_others_valid : (o : Option Number) (others : List Number) → IfSome o IsValid → All IsValid others → All IsValid (number_or_others o others)
+or_others_valid : (o : Option Identifier) (others : List Identifier) → IfSome o IsValid → All IsValid others → All IsValid (number_or_others o others)
 or_others_valid None others is all = all
 or_others_valid (Some number) others is all = All-cons IsValid number [] is (All-nil IsValid)
 
-number_or_valid : (o : Option (List ℕ)) (other : Option Number) → IfSome o IsIssnText → IfSome other IsValid → IfSome (number_or o other) IsValid
+number_or_valid : (o : Option (List ℕ)) (other : Option Identifier) → IfSome o IsIssnText → IfSome other IsValid → IfSome (number_or o other) IsValid
 number_or_valid None other is later = later
 number_or_valid (Some issn) other is later = is
 
-found_or_valid : (o : Option Number) (more : ℕ) (other : Option (Number × ℕ)) → IfSome o IsValid → IfSome other IsFound → IfSome (found_or o more other) IsFound
+found_or_valid : (o : Option Identifier) (more : ℕ) (other : Option (Identifier × ℕ)) → IfSome o IsValid → IfSome other IsFound → IfSome (found_or o more other) IsFound
 found_or_valid None more other is later = later
 found_or_valid (Some number) more other is later = is
 
-onto_valid : (o : Option (Number × ℕ)) (numbers : List Number) → IfSome o IsFound → All IsValid numbers → All IsValid (number_onto o numbers)
+onto_valid : (o : Option (Identifier × ℕ)) (numbers : List Identifier) → IfSome o IsFound → All IsValid numbers → All IsValid (number_onto o numbers)
 onto_valid None numbers is all = all
 onto_valid (Some found) numbers is all = All-cons IsValid found.0 numbers is all
 
@@ -101,7 +106,7 @@ module _ (issn_law : PrintedFormParses issn_of) (isbn_law : PrintedFormParses is
       (found_or_valid (isbn_number (spaced_isbn 3 (word ∷ words))) 2 _ (spaced_isbn_valid 3 (word ∷ words))
       (found_or_valid (isbn_number (spaced_isbn 2 (word ∷ words))) 1 None (spaced_isbn_valid 2 (word ∷ words)) tt)))) tt))
 
-  if_all : (b : Bool) (xs ys : List Number) → All IsValid xs → All IsValid ys → All IsValid (if b then xs else ys)
+  if_all : (b : Bool) (xs ys : List Identifier) → All IsValid xs → All IsValid ys → All IsValid (if b then xs else ys)
   if_all true xs ys first second = first
   if_all false xs ys first second = second
 
@@ -116,37 +121,36 @@ module _ (issn_law : PrintedFormParses issn_of) (isbn_law : PrintedFormParses is
   text_valid None = All-nil IsValid
   text_valid (Some text) = after_valid (words_from [] (plain text)) 0
 
-  pair_issn : (pair : List ℕ × List ℕ) → IfSome (issn_of_pair pair) IsIssnText
-  pair_issn pair =
-      if_valid IsIssnText (has_key (codes "rft.issn") pair || has_key (codes "rft.eissn") pair) (issn_of pair.1)
-      (if has_key (codes "rft_id") pair then issn_of_urn pair.1 else None) (issn_valid pair.1)
-      (if_valid IsIssnText (has_key (codes "rft_id") pair) (issn_of_urn pair.1) None
-      (if_valid IsIssnText (has_prefix (codes "urn:ISSN:") pair.1) (issn_of (drop 9 pair.1)) None (issn_valid (drop 9 pair.1)) tt) tt)
+  issn_is_valid : (text : List ℕ) → IfSome (option_map Issn (issn_of text)) IsValid
+  issn_is_valid text = issn_valid_of (issn_of text) (issn_valid text)
 
-  pair_isbn : (pair : List ℕ × List ℕ) → IfSome (isbn_of_pair pair) IsIsbnText
-  pair_isbn pair = if_valid IsIsbnText (has_key (codes "rft.isbn") pair) (isbn_of pair.1) None (isbn_valid pair.1) tt
+  pair_identifier : (pair : List ℕ × List ℕ) → IfSome (identifier_of_pair pair) IsValid
+  pair_identifier pair =
+      if_valid IsValid (has_key (codes "rft.issn") pair || has_key (codes "rft.eissn") pair) (option_map Issn (issn_of pair.1)) _ (issn_is_valid pair.1)
+      (if_valid IsValid (has_key (codes "rft_id") pair) (option_map Issn (issn_of_urn pair.1)) _
+      (issn_valid_of (issn_of_urn pair.1)
+      (if_valid IsIssnText (has_prefix (codes "urn:ISSN:") pair.1) (issn_of (drop 9 pair.1)) None (issn_valid (drop 9 pair.1)) tt))
+      (if_valid IsValid (has_key (codes "rft.isbn") pair) (option_map Isbn (isbn_of pair.1)) None (isbn_valid_of (isbn_of pair.1) (isbn_valid pair.1)) tt))
 
   pair_valid : (pair : List ℕ × List ℕ) → All IsValid (numbers_of_pair pair)
   unfolding numbers_of_pair
   pair_valid pair =
-      or_others_valid (core_number pair) (numbers_in_text (number_text (keyed pair)))
-      (number_or_valid (issn_of_pair pair) (option_map Isbn (isbn_of_pair pair)) (pair_issn pair) (isbn_valid_of (isbn_of_pair pair) (pair_isbn pair)))
-      (text_valid (number_text (keyed pair)))
+      or_others_valid (identifier_of_pair pair) (numbers_in_text (number_text (keyed pair))) (pair_identifier pair) (text_valid (number_text (keyed pair)))
 
   pairs_valid : (pairs : List (List ℕ × List ℕ)) → All IsValid (flat_map numbers_of_pair pairs)
   pairs_valid [] = All-nil IsValid
   pairs_valid (pair ∷ pairs) = All-append IsValid (numbers_of_pair pair) (flat_map numbers_of_pair pairs) (pair_valid pair) (pairs_valid pairs)
 
-  issns_parse : (found : List Number) → All IsValid found → All IsIssnText (filter_map as_issn found)
+  issns_parse : (found : List Identifier) → All IsValid found → All IsIssnText (filter_map issn_in found)
   issns_parse [] all = All-nil IsIssnText
   issns_parse (Issn issn ∷ found) all =
-      All-cons IsIssnText issn (filter_map as_issn found) (All-head IsValid (Issn issn) found all) (issns_parse found (All-tail IsValid (Issn issn) found all))
+      All-cons IsIssnText issn (filter_map issn_in found) (All-head IsValid (Issn issn) found all) (issns_parse found (All-tail IsValid (Issn issn) found all))
   issns_parse (Isbn isbn ∷ found) all = issns_parse found (All-tail IsValid (Isbn isbn) found all)
 
-  isbns_parse : (found : List Number) → All IsValid found → All IsIsbnText (filter_map as_isbn found)
+  isbns_parse : (found : List Identifier) → All IsValid found → All IsIsbnText (filter_map isbn_in found)
   isbns_parse [] all = All-nil IsIsbnText
   isbns_parse (Isbn isbn ∷ found) all =
-      All-cons IsIsbnText isbn (filter_map as_isbn found) (All-head IsValid (Isbn isbn) found all) (isbns_parse found (All-tail IsValid (Isbn isbn) found all))
+      All-cons IsIsbnText isbn (filter_map isbn_in found) (All-head IsValid (Isbn isbn) found all) (isbns_parse found (All-tail IsValid (Isbn isbn) found all))
   isbns_parse (Issn issn ∷ found) all = isbns_parse found (All-tail IsValid (Issn issn) found all)
 
 -- the set of identifiers that parse
@@ -177,10 +181,10 @@ module _ (ascend : SetsAscend) (issn_law : PrintedFormParses issn_of) (isbn_law 
   set_valid : (P : List ℕ → Type 0) (ones : List (List ℕ)) → All P ones → IsSet P (identifier_set ones)
   set_valid P ones all = (ascend ones, set_parses P ones [] all (All-nil P))
 
-  among_valid : (found : List Number) → All IsValid found → AreValid (identifiers_among found)
+  among_valid : (found : List Identifier) → All IsValid found → AreValid (identifiers_among found)
   among_valid found all = (
-    set_valid IsIssnText (filter_map as_issn found) (issns_parse issn_law isbn_law found all),
-    set_valid IsIsbnText (filter_map as_isbn found) (isbns_parse issn_law isbn_law found all),
+    set_valid IsIssnText (filter_map issn_in found) (issns_parse issn_law isbn_law found all),
+    set_valid IsIsbnText (filter_map isbn_in found) (isbns_parse issn_law isbn_law found all),
   )
 
   refused_valid : (why : OpenUrlFault) → IsLookedUp (refused why)

@@ -1,7 +1,7 @@
 -- The core accepts what is written for a query, and asks for what was understood.
 use Rattle.std.proofs.Common.{◌≡◌, ◌≤◌, ◌<◌, ℕ, Bool, false, ◌&&◌, ◌||◌, List, [], ◌∷◌, ◌++◌, length, Option}
 use Rattle.std.proofs.Common.{Some, None, Ok, Err, if◌then◌else◌, codes, refl, sym, ap, subst, ◌∙◌, map, append_assoc, arith}
-use Rattle.std.specs.Prelude.{IfSome, fold}
+use Rattle.std.specs.Prelude.{IfSome, fold, option_map}
 use Rattle.std.specs.Option.{option_and_then}
 use Rattle.std.specs.declared.cmp.Ordering.TheVariants.{Less, Greater}
 use Rattle.std.specs.Ordering.{match_ordering, ordering_reverse}
@@ -15,6 +15,10 @@ use Rattle.std.proofs.lemmas.List.Elements.{All-cons, All-head, All-nil, All-tai
 use Rattle.form_urlencoded.specs.Form as form
 use Rattle.form_urlencoded.specs.Form.{IsUnchanged}
 use Rattle.form_urlencoded.proofs.FormLemmas.{round_trip}
+use Rattle.feed_identifiers.specs.Identifier.{isbn_in, issn_in}
+use Rattle.feed_identifiers.specs.Isbn.{isbn_of}
+use Rattle.feed_identifiers.specs.Issn.{issn_of}
+use Rattle.feed_identifiers.specs.declared.identifier.Identifier.TheVariants.{Isbn, Issn}
 use Rattle.feed_answer.specs.IdentifierSet.{bytes_cmp, IsAscending, identifier_set}
 use Rattle.feed_answer.specs.Limits.{query_limit}
 use Rattle.feed_answer.specs.Pairs.{book_format, first, first_days, first_volume, has_format, is_empty, is_other_format, is_other_version, isbn_of_pair, issn_of_pair, journal_format}
@@ -115,18 +119,26 @@ isbns_last None (Some volume) = refl
 isbns_last (Some date) None = refl
 isbns_last (Some date) (Some volume) = refl
 
+isbn_is_no_issn : (o : Option (List ℕ)) → option_and_then issn_in (option_map Isbn o) ≡ None
+isbn_is_no_issn None = refl
+isbn_is_no_issn (Some isbn) = refl
+
+issn_is_no_isbn : (o : Option (List ℕ)) → option_and_then isbn_in (option_map Issn o) ≡ None
+issn_is_no_isbn None = refl
+issn_is_no_isbn (Some issn) = refl
+
 issns_written : (issns isbns : List (List ℕ)) (date volume : Option (List ℕ)) → All IsIssnText issns
     → filter_map issn_of_pair (pairs_for issns isbns date volume) ≡ issns
 issns_written issns isbns date volume all =
-    read_in IsIssnText issn_of_pair (codes "rft.issn") (λ text is. is) issns (isbn_pairs isbns ++ (date_pairs date ++ volume_pairs volume)) all
-    ∙ ap (λ l. issns ++ l) (skipped_in issn_of_pair (codes "rft.isbn") (λ text. refl) isbns (date_pairs date ++ volume_pairs volume) ∙ issns_last date volume)
+    read_in IsIssnText issn_of_pair (codes "rft.issn") (λ text is. ap (λ o. option_and_then issn_in (option_map Issn o)) is) issns (isbn_pairs isbns ++ (date_pairs date ++ volume_pairs volume)) all
+    ∙ ap (λ l. issns ++ l) (skipped_in issn_of_pair (codes "rft.isbn") (λ text. isbn_is_no_issn (isbn_of text)) isbns (date_pairs date ++ volume_pairs volume) ∙ issns_last date volume)
     ∙ append-nil issns
 
 isbns_written : (issns isbns : List (List ℕ)) (date volume : Option (List ℕ)) → All IsIsbnText isbns
     → filter_map isbn_of_pair (pairs_for issns isbns date volume) ≡ isbns
 isbns_written issns isbns date volume all =
-    skipped_in isbn_of_pair (codes "rft.issn") (λ text. refl) issns (isbn_pairs isbns ++ (date_pairs date ++ volume_pairs volume))
-    ∙ read_in IsIsbnText isbn_of_pair (codes "rft.isbn") (λ text is. is) isbns (date_pairs date ++ volume_pairs volume) all
+    skipped_in isbn_of_pair (codes "rft.issn") (λ text. issn_is_no_isbn (issn_of text)) issns (isbn_pairs isbns ++ (date_pairs date ++ volume_pairs volume))
+    ∙ read_in IsIsbnText isbn_of_pair (codes "rft.isbn") (λ text is. ap (λ o. option_and_then isbn_in (option_map Isbn o)) is) isbns (date_pairs date ++ volume_pairs volume) all
     ∙ ap (λ l. isbns ++ l) (isbns_last date volume)
     ∙ append-nil isbns
 

@@ -1,19 +1,19 @@
 -- The identifiers that are looked up for an OpenURL: those of each key of its citation.
-use Rattle.std.specs.Prelude.{◌+◌, ◌&&◌, not, nat_lt, ℕ, Bool, List, [], ◌∷◌, length, map, Option, Some, None, option_map, if◌then◌else◌, codes}
+use Rattle.std.specs.Prelude.{◌+◌, ◌&&◌, not, nat_lt, ℕ, Bool, List, [], ◌∷◌, length, map, Option, Some, None, if◌then◌else◌, codes}
 use Rattle.std.specs.List.{filter_map, flat_map, list_any}
 use Rattle.feed_bytes.specs.Trim.{trimmed}
+use Rattle.feed_identifiers.specs.Identifier.{isbn_in, issn_in}
 use Rattle.feed_answer.specs.IdentifierSet.{identifier_set}
-use Rattle.feed_answer.specs.Pairs.{is_empty, isbn_of_pair, issn_of_pair}
+use Rattle.feed_answer.specs.Pairs.{identifier_of_pair, is_empty}
 use Rattle.feed_openurl.specs.Keys.{after_in, after_prefix, keyed, or_text}
 use Rattle.feed_openurl.specs.Kinds.{formats_of, names_other_format, names_other_version}
-use Rattle.feed_openurl.specs.Numbers.{number_or, numbers_in}
+use Rattle.feed_openurl.specs.Numbers.{numbers_in}
 use Rattle.feed_openurl.specs.declared.fault.OpenUrlFault.{OpenUrlFault}
 use Rattle.feed_openurl.specs.declared.fault.OpenUrlFault.TheVariants as reason
 use Rattle.feed_openurl.specs.declared.kind.FormatNames.{FormatNames}
 use Rattle.feed_openurl.specs.declared.key.Key.{Key}
 use Rattle.feed_openurl.specs.declared.key.Key.TheVariants.{Name, Number}
-use Rattle.feed_openurl.specs.declared.number.Number as number
-use Rattle.feed_openurl.specs.declared.number.Number.TheVariants as numbers
+use Rattle.feed_identifiers.specs.declared.identifier.Identifier.{Identifier}
 
 -- the most identifiers of an OpenURL that are looked up
 abbrev pub identifier_limit : ℕ
@@ -45,31 +45,18 @@ number_text (Number, value) = Some value
 number_text (Name tier, value) = number_in value
 number_text _ = None
 
-abbrev pub numbers_in_text : Option (List ℕ) → List number.Number
+abbrev pub numbers_in_text : Option (List ℕ) → List Identifier
 numbers_in_text (Some text) = numbers_in text
 numbers_in_text None = []
 
--- the number that the core reads of a pair
-abbrev pub core_number : List ℕ × List ℕ → Option number.Number
-core_number pair = number_or (issn_of_pair pair) (option_map numbers.Isbn (isbn_of_pair pair))
-
 -- one number, or others if there is none
-abbrev pub number_or_others : Option number.Number → List number.Number → List number.Number
+abbrev pub number_or_others : Option Identifier → List Identifier → List Identifier
 number_or_others (Some found) others = found ∷ []
 number_or_others None others = others
 
 -- the numbers of a pair: the one that the core reads, or else those in its value
-unfoldable pub numbers_of_pair : List ℕ × List ℕ → List number.Number
-numbers_of_pair pair = number_or_others (core_number pair) (numbers_in_text (number_text (keyed pair)))
-
--- a number as an ISSN, and as an ISBN
-abbrev pub as_issn : number.Number → Option (List ℕ)
-as_issn (numbers.Issn issn) = Some issn
-as_issn (numbers.Isbn isbn) = None
-
-abbrev pub as_isbn : number.Number → Option (List ℕ)
-as_isbn (numbers.Issn issn) = None
-as_isbn (numbers.Isbn isbn) = Some isbn
+unfoldable pub numbers_of_pair : List ℕ × List ℕ → List Identifier
+numbers_of_pair pair = number_or_others (identifier_of_pair pair) (numbers_in_text (number_text (keyed pair)))
 
 -- the identifiers of an OpenURL
 pub record IdentifiersValue : Type 0 where
@@ -77,9 +64,9 @@ pub record IdentifiersValue : Type 0 where
   pub isbns : List (List ℕ)
 
 -- the numbers as sets
-abbrev pub identifiers_among : List number.Number → IdentifiersValue
+abbrev pub identifiers_among : List Identifier → IdentifiersValue
 identifiers_among found =
-    record { issns = identifier_set (filter_map as_issn found); isbns = identifier_set (filter_map as_isbn found) }
+    record { issns = identifier_set (filter_map issn_in found); isbns = identifier_set (filter_map isbn_in found) }
 
 -- the identifiers of an OpenURL: those of all its pairs, whatever its formats are
 abbrev pub identifiers_of : List (List ℕ × List ℕ) → IdentifiersValue

@@ -9,8 +9,8 @@ use Rattle.feed_answer.specs.Pairs.{is_empty}
 use Rattle.feed_openurl.specs.Keys.{after_prefix, or_else}
 use Rattle.feed_openurl.specs.Plain.{plain}
 use Rattle.feed_openurl.specs.Volumes.{after_letters, begins_with_digit}
-use Rattle.feed_openurl.specs.declared.number.Number.{Number}
-use Rattle.feed_openurl.specs.declared.number.Number.TheVariants.{Isbn, Issn}
+use Rattle.feed_identifiers.specs.declared.identifier.Identifier.{Identifier}
+use Rattle.feed_identifiers.specs.declared.identifier.Identifier.TheVariants.{Isbn, Issn}
 
 -- a word has letters, digits and hyphens; `_` is a letter beyond ASCII
 abbrev pub is_word_byte : ℕ → Bool
@@ -49,15 +49,15 @@ abbrev pub is_ismn : List ℕ → Bool
 is_ismn isbn = bytes_eq (take 4 isbn) (codes "9790")
 
 -- the number that a word is by itself, by its form and its check character
-abbrev pub isbn_number : Option (List ℕ) → Option Number
+abbrev pub isbn_number : Option (List ℕ) → Option Identifier
 isbn_number (Some isbn) = if is_ismn isbn then None else Some (Isbn isbn)
 isbn_number None = None
 
-abbrev pub number_or : Option (List ℕ) → Option Number → Option Number
+abbrev pub number_or : Option (List ℕ) → Option Identifier → Option Identifier
 number_or (Some issn) other = Some (Issn issn)
 number_or None other = other
 
-unfoldable pub number_of_word : List ℕ → Option Number
+unfoldable pub number_of_word : List ℕ → Option Identifier
 number_of_word word = number_or (issn_of word) (isbn_number (isbn_of word))
 
 -- a word is a number by itself
@@ -85,12 +85,12 @@ abbrev pub spaced_isbn : ℕ → List (List ℕ) → Option (List ℕ)
 spaced_isbn count words = isbn_of_words (take count words)
 
 -- a number at the front of some words, and how many words after the first it takes
-abbrev pub found_or : Option Number → ℕ → Option (Number × ℕ) → Option (Number × ℕ)
+abbrev pub found_or : Option Identifier → ℕ → Option (Identifier × ℕ) → Option (Identifier × ℕ)
 found_or (Some number) more other = Some (number, more)
 found_or None more other = other
 
 -- the ISBN of the first five words, or else of four, of three, or of two
-unfoldable pub first_spaced_isbn : List (List ℕ) → Option (Number × ℕ)
+unfoldable pub first_spaced_isbn : List (List ℕ) → Option (Identifier × ℕ)
 first_spaced_isbn words =
     found_or (isbn_number (spaced_isbn 5 words)) 4
     (found_or (isbn_number (spaced_isbn 4 words)) 3
@@ -98,32 +98,32 @@ first_spaced_isbn words =
     (found_or (isbn_number (spaced_isbn 2 words)) 1 None)))
 
 -- each ISBN begins with a digit
-abbrev pub spaced_number : List ℕ → List (List ℕ) → Option (Number × ℕ)
+abbrev pub spaced_number : List ℕ → List (List ℕ) → Option (Identifier × ℕ)
 spaced_number word words = if begins_with_digit word then first_spaced_isbn (word ∷ words) else None
 
 -- the number at the front of some words: a word, or else an ISSN of two words, or else an ISBN of several words
-abbrev pub first_number : List (List ℕ) → Option (Number × ℕ)
+abbrev pub first_number : List (List ℕ) → Option (Identifier × ℕ)
 first_number [] = None
 first_number (word ∷ words) =
     found_or (number_of_word word) 0
     (found_or (number_or (spaced_issn (word ∷ words)) None) 1 (spaced_number word words))
 
 -- the number that is found goes before others
-abbrev pub number_onto : Option (Number × ℕ) → List Number → List Number
+abbrev pub number_onto : Option (Identifier × ℕ) → List Identifier → List Identifier
 number_onto (Some found) numbers = found.0 ∷ numbers
 number_onto None numbers = numbers
 
-abbrev pub taken : Option (Number × ℕ) → ℕ
+abbrev pub taken : Option (Identifier × ℕ) → ℕ
 taken (Some found) = found.1
 taken None = 0
 
 -- the numbers of some words, if the first ones belong to a number already
-abbrev pub numbers_after : ℕ → List (List ℕ) → List Number
+abbrev pub numbers_after : ℕ → List (List ℕ) → List Identifier
 numbers_after skipped [] = []
 numbers_after skipped (word ∷ words) =
     if nat_lt 0 skipped then numbers_after (skipped - 1) words
     else number_onto (first_number (word ∷ words)) (numbers_after (taken (first_number (word ∷ words))) words)
 
 -- the numbers of a value, from its front to its end
-unfoldable pub numbers_in : List ℕ → List Number
+unfoldable pub numbers_in : List ℕ → List Identifier
 numbers_in value = numbers_after 0 (words_from [] (plain value))

@@ -7,15 +7,8 @@ ghost use Rattle.feed_openurl.specs.Numbers.{spaced_isbn, spaced_issn};
 
 use crate::digits::begins_with_digit;
 use crate::words::Word;
-use feed_identifiers::{Isbn, Issn};
+use feed_identifiers::{Identifier, Isbn, Issn};
 use std::alloc::{AllocError, Global};
-
-/// An ISSN or an ISBN.
-#[derive(Clone, Copy)]
-pub(crate) enum Number {
-    Issn(Issn),
-    Isbn(Isbn),
-}
 
 fn is_ismn(isbn: Isbn) -> bool
     ensures { result ≡ is_ismn isbn }
@@ -25,22 +18,22 @@ fn is_ismn(isbn: Isbn) -> bool
 }
 
 // An ISBN as a number, unless it is an ISMN, which has the same form.
-fn isbn_number(isbn: Option<Isbn>) -> Option<Number>
+fn isbn_number(isbn: Option<Isbn>) -> Option<Identifier>
     ensures { result ≡ isbn_number isbn }
 {
     match isbn {
-        Some(isbn) if !is_ismn(isbn) => Some(Number::Isbn(isbn)),
+        Some(isbn) if !is_ismn(isbn) => Some(Identifier::Isbn(isbn)),
         _ => None,
     }
 }
 
 // The number that a word is by itself.
 #[tactic(auto, unfolding(crate::specs::Numbers::number_of_word))]
-fn number_of_word(word: &[u8]) -> Option<Number>
+fn number_of_word(word: &[u8]) -> Option<Identifier>
     ensures { result ≡ number_of_word word.now }
 {
     match Issn::parse(word) {
-        Some(issn) => Some(Number::Issn(issn)),
+        Some(issn) => Some(Identifier::Issn(issn)),
         None => isbn_number(Isbn::parse(word)),
     }
 }
@@ -125,7 +118,11 @@ fn isbn_of_words(alloc: Global, words: &[Word]) -> Result<Option<Isbn>, AllocErr
 }
 
 // The ISBN of the first words together, if spaces appear in place of its hyphens.
-fn spaced_isbn(alloc: Global, words: &[Word], count: usize) -> Result<Option<Number>, AllocError>
+fn spaced_isbn(
+    alloc: Global,
+    words: &[Word],
+    count: usize,
+) -> Result<Option<Identifier>, AllocError>
     ensures { IfOk result (λ number. number ≡ isbn_number (spaced_isbn count words.now)) }
 {
     let front = match words.split_at_checked(count) {
@@ -137,7 +134,10 @@ fn spaced_isbn(alloc: Global, words: &[Word], count: usize) -> Result<Option<Num
 
 // The ISBN of two to five words, with the number of words after the first. The longest one counts.
 #[tactic(auto, unfolding(crate::specs::Numbers::first_spaced_isbn))]
-fn first_spaced_isbn(alloc: Global, words: &[Word]) -> Result<Option<(Number, usize)>, AllocError>
+fn first_spaced_isbn(
+    alloc: Global,
+    words: &[Word],
+) -> Result<Option<(Identifier, usize)>, AllocError>
     ensures { IfOk result (λ found. found ≡ first_spaced_isbn words.now) }
 {
     if let Some(number) = spaced_isbn(alloc, words, 5)? {
@@ -159,7 +159,7 @@ fn first_spaced_isbn(alloc: Global, words: &[Word]) -> Result<Option<(Number, us
 pub(crate) fn first_number(
     alloc: Global,
     words: &[Word],
-) -> Result<Option<(Number, usize)>, AllocError>
+) -> Result<Option<(Identifier, usize)>, AllocError>
     ensures { IfOk result (λ found. found ≡ first_number words.now) }
 {
     let [first, ..] = words else {
@@ -169,7 +169,7 @@ pub(crate) fn first_number(
         return Ok(Some((number, 0)));
     }
     if let Some(issn) = spaced_issn(alloc, words)? {
-        return Ok(Some((Number::Issn(issn), 1)));
+        return Ok(Some((Identifier::Issn(issn), 1)));
     }
     // Each ISBN begins with a digit.
     if !begins_with_digit(first.text()) {

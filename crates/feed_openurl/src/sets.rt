@@ -3,8 +3,7 @@ ghost use Rattle.std.specs.Prelude.{◌≡◌, ◌<◌, ◌↔◌, [], IsTrue, I
 ghost use Rattle.std.specs.BTreeSet.{insert_key};
 ghost use Rattle.feed_openurl.specs.Identifiers.{identifiers_among};
 
-use crate::number::Number;
-use feed_identifiers::{Isbn, Issn};
+use feed_identifiers::{Identifier, Isbn, Issn};
 use std::alloc::{AllocError, Global};
 use std::collections::BTreeSet;
 use std::marker::Model;
@@ -63,7 +62,7 @@ fn set_of<T: Ord + Copy>(alloc: Global, identifiers: &[T]) -> Result<Vec<T>, All
 /// Returns the identifiers among some numbers, as sets.
 pub(crate) fn identifiers_among(
     alloc: Global,
-    numbers: &[Number],
+    numbers: &[Identifier],
 ) -> Result<Identifiers, AllocError>
     ensures { IfOk result (λ found. found ≡ identifiers_among numbers.now) }
 {
@@ -71,8 +70,8 @@ pub(crate) fn identifiers_among(
     let mut isbns = Vec::new(alloc);
     for number in numbers {
         match number {
-            Number::Issn(issn) => issns.push(*issn)?,
-            Number::Isbn(isbn) => isbns.push(*isbn)?,
+            Identifier::Issn(issn) => issns.push(*issn)?,
+            Identifier::Isbn(isbn) => isbns.push(*isbn)?,
         }
     }
     let issns = set_of(alloc, &issns)?;
