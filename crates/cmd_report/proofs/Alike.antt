@@ -4,15 +4,19 @@ use Rattle.std.proofs.lemmas.Cmp.{int_ranked, nat_list_cmp_total, on_total, rank
 use Rattle.std.specs.Borrow.{Bor}
 use Rattle.std.specs.Cmp.{IsTotalOrder, bool_cmp_total}
 use Rattle.std.specs.Cmp.Lexicographic.{options_total, slice_cmp}
-use Rattle.std.specs.Option.{option_cmp}
+use Rattle.std.specs.Option.{option_and_then, option_cmp}
 use Rattle.std.specs.Ordering.{bool_cmp, int_cmp, nat_cmp, ordering_then}
 use Rattle.std.specs.declared.cmp.Ordering.{Ordering}
 use Rattle.std.specs.declared.cmp.Ordering.TheVariants.{Less, Equal, Greater}
+use Rattle.feed_identifiers.specs.Identifier.{isbn_in, issn_in}
+use Rattle.feed_identifiers.specs.declared.identifier.Identifier.{Identifier}
+use Rattle.feed_identifiers.specs.declared.identifier.Identifier.TheVariants.{Isbn, Issn}
 use Rattle.feed_kbart.specs.Identifiers.{online_isbn, online_issn, print_isbn, print_issn}
 use Rattle.feed_kbart.specs.RowValue.{RowValue, content}
 use Rattle.feed_kbart.specs.declared.identifiers.Identifiers.{Identifiers}
-use Rattle.feed_kbart.specs.declared.identifiers.Identifiers.TheVariants.{Serial, Book}
-use Rattle.cmd_report.specs.Columns.{is_book}
+use Rattle.feed_kbart.specs.declared.identifiers.Kind.{Kind}
+use Rattle.feed_kbart.specs.declared.identifiers.Kind.TheVariants as of
+use Rattle.cmd_report.specs.Columns.{is_book, is_book_kind}
 use Rattle.cmd_report.specs.Comparison.{HasSameTitle, HasSameUrl}
 use Rattle.cmd_report.specs.Pairing.{order}
 use Rattle.cmd_report.specs.Ranking.{content_cmp, coverage_cmp, first_number, further_cmp, identifiers_cmp, number_cmp, ranking, text_cmp, texts_cmp}
@@ -92,12 +96,27 @@ option_tied R same None (Some y) e = absurd (cc)
 option_tied R same (Some x) None e = absurd (cc)
 option_tied R same (Some x) (Some y) e = ap Some (same x y e)
 
-pub same_identifiers : (x y : Identifiers) → is_book x ≡ is_book y → print_issn x ≡ print_issn y → online_issn x ≡ online_issn y → print_isbn x ≡ print_isbn y
-    → online_isbn x ≡ online_isbn y → x ≡ y
-same_identifiers (Serial p o) (Serial q r) k a b c d = λ i. Serial (a i) (b i)
-same_identifiers (Serial p o) (Book q r) k a b c d = absurd (cc)
-same_identifiers (Book p o) (Serial q r) k a b c d = absurd (cc)
-same_identifiers (Book p o) (Book q r) k a b c d = λ i. Book (c i) (d i)
+same_kind : (a b : Kind) → is_book_kind a ≡ is_book_kind b → a ≡ b
+same_kind of.Serial of.Serial e = refl
+same_kind of.Serial of.Book e = absurd (cc)
+same_kind of.Book of.Serial e = absurd (cc)
+same_kind of.Book of.Book e = refl
+
+same_part : (a b : Option Identifier) → option_and_then issn_in a ≡ option_and_then issn_in b → option_and_then isbn_in a ≡ option_and_then isbn_in b → a ≡ b
+same_part None None e f = refl
+same_part None (Some (Issn t)) e f = absurd (cc)
+same_part None (Some (Isbn t)) e f = absurd (cc)
+same_part (Some (Issn s)) None e f = absurd (cc)
+same_part (Some (Isbn s)) None e f = absurd (cc)
+same_part (Some (Issn s)) (Some (Issn t)) e f = cc
+same_part (Some (Issn s)) (Some (Isbn t)) e f = absurd (cc)
+same_part (Some (Isbn s)) (Some (Issn t)) e f = absurd (cc)
+same_part (Some (Isbn s)) (Some (Isbn t)) e f = cc
+
+pub same_identifiers : (x y : Identifiers) → is_book x ≡ is_book y → x.print ≡ y.print → x.online ≡ y.online → x ≡ y
+same_identifiers x y k a b =
+    let same = same_kind x.kind y.kind k in
+    λ i. record { kind = same i; print = a i; online = b i }
 
 identifiers_tied : (x y : Identifiers) → identifiers_cmp x y ≡ Equal → x ≡ y
 identifiers_tied x y e =
@@ -110,9 +129,9 @@ identifiers_tied x y e =
     let four = then_tied (ordering_then (ordering_then a b) c) d five.0 in
     let three = then_tied (ordering_then a b) c four.0 in
     let two = then_tied a b three.0 in
-    same_identifiers x y (bool_tied (is_book x) (is_book y) two.0) (option_tied text_cmp text_tied (print_issn x) (print_issn y) two.1)
-    (option_tied text_cmp text_tied (online_issn x) (online_issn y) three.1) (option_tied text_cmp text_tied (print_isbn x) (print_isbn y) four.1)
-    (option_tied text_cmp text_tied (online_isbn x) (online_isbn y) five.1)
+    same_identifiers x y (bool_tied (is_book x) (is_book y) two.0)
+    (same_part x.print y.print (option_tied text_cmp text_tied (print_issn x) (print_issn y) two.1) (option_tied text_cmp text_tied (print_isbn x) (print_isbn y) four.1))
+    (same_part x.online y.online (option_tied text_cmp text_tied (online_issn x) (online_issn y) three.1) (option_tied text_cmp text_tied (online_isbn x) (online_isbn y) five.1))
 
 -- the parts of two rows, but for their identifiers
 pub record HasSameTexts (x y : RowValue) : Type 0 where

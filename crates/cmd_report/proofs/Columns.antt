@@ -1,5 +1,5 @@
 -- Rows are equal exactly if they have the same value in each column; and the counts of a comparison add up.
-use Rattle.std.proofs.Common.{◌≡◌, ◌∙◌, ◌+◌, ◌&&◌, ℕ, Bool, true, false, cond, List, [], ◌∷◌, ◌++◌, Option, Some, None, refl, sym, ap, arith, nat_eq}
+use Rattle.std.proofs.Common.{◌≡◌, ◌∙◌, ◌+◌, ℕ, Bool, true, false, cond, List, [], ◌∷◌, ◌++◌, Option, Some, None, refl, sym, ap, arith, nat_eq}
 use Rattle.std.proofs.lemmas.Bool.Decides.{Decides-eqb, Decides-int_eq}
 use Rattle.std.proofs.lemmas.List.Elements.{All-head, All-tail}
 use Rattle.std.proofs.lemmas.List.Sorted.{sum_by-IsPermutation}
@@ -9,8 +9,9 @@ use Rattle.std.specs.Cmp.Lexicographic.{bytes_decides}
 use Rattle.std.specs.List.{All}
 use Rattle.std.specs.Option.{option_eq}
 use Rattle.std.specs.Ordering.{int_eq}
-use Rattle.std.specs.Str.{bytes_eq}
-use Rattle.feed_kbart.specs.Identifiers.{online_isbn, online_issn, print_isbn, print_issn}
+use Rattle.feed_identifiers.specs.Identifier.{identifier_eq, text_of}
+use Rattle.feed_identifiers.specs.declared.identifier.Identifier.{Identifier}
+use Rattle.feed_identifiers.specs.declared.identifier.Identifier.TheVariants.{Isbn, Issn}
 use Rattle.feed_kbart.specs.RowValue.{RowValue, content}
 use Rattle.feed_kbart.specs.declared.label.Label.{Label}
 use Rattle.feed_kbart.specs.declared.label.Label.TheVariants.{PublicationTitle, PrintIdentifier, OnlineIdentifier, DateFirstIssueOnline, NumFirstVolOnline}
@@ -33,22 +34,20 @@ answer_decides true false = (λ e. absurd (cc), λ e. absurd (cc))
 answer_decides false true = (λ e. absurd (cc), λ e. absurd (cc))
 answer_decides false false = (λ e. refl, λ e. refl)
 
-both_true : (a b : Bool) → (a && b) ≡ true → (a ≡ true) × (b ≡ true)
-both_true true b e = (refl, e)
-both_true false b e = absurd (cc)
+identifier_decides : (a b : Identifier) → Decides (identifier_eq a b) (a ≡ b)
+identifier_decides (Issn s) (Issn t) = (λ e. ap Issn ((bytes_decides s t).0 e), λ e. (bytes_decides s t).1 (ap text_of e))
+identifier_decides (Isbn s) (Isbn t) = (λ e. ap Isbn ((bytes_decides s t).0 e), λ e. (bytes_decides s t).1 (ap text_of e))
+identifier_decides (Issn s) (Isbn t) = (λ e. absurd (cc), λ e. absurd (cc))
+identifier_decides (Isbn s) (Issn t) = (λ e. absurd (cc), λ e. absurd (cc))
 
-and_true : (a b : Bool) → a ≡ true → b ≡ true → (a && b) ≡ true
-and_true a b p q = ap (λ c. c && b) p ∙ q
+identifiers : (a b : Option Identifier) → Decides (option_eq identifier_eq a b) (a ≡ b)
+identifiers = option_decides identifier_eq identifier_decides
 
 numbers : (a b : Option ℕ) → Decides (option_eq nat_eq a b) (a ≡ b)
 numbers = option_decides nat_eq Decides-eqb
 
 forth : (one other : RowValue) → ((label : Label) → is_same label one other ≡ true) → content one ≡ content other
 forth one other h =
-    let print = both_true (option_eq bytes_eq (print_issn one.identifiers) (print_issn other.identifiers))
-    (option_eq bytes_eq (print_isbn one.identifiers) (print_isbn other.identifiers)) (h PrintIdentifier) in
-    let online = both_true (option_eq bytes_eq (online_issn one.identifiers) (online_issn other.identifiers))
-    (option_eq bytes_eq (online_isbn one.identifiers) (online_isbn other.identifiers)) (h OnlineIdentifier) in
     same_content one other
     (record {
       title_id = (bytes_decides one.title_id other.title_id).0 (h TitleId);
@@ -65,21 +64,13 @@ forth one other h =
       last_volume = (numbers one.last_volume other.last_volume).0 (h NumLastVolOnline);
     })
     (same_identifiers one.identifiers other.identifiers ((answer_decides (is_book one.identifiers) (is_book other.identifiers)).0 (h PublicationType))
-    ((option_decides bytes_eq bytes_decides (print_issn one.identifiers) (print_issn other.identifiers)).0 print.0)
-    ((option_decides bytes_eq bytes_decides (online_issn one.identifiers) (online_issn other.identifiers)).0 online.0)
-    ((option_decides bytes_eq bytes_decides (print_isbn one.identifiers) (print_isbn other.identifiers)).0 print.1)
-    ((option_decides bytes_eq bytes_decides (online_isbn one.identifiers) (online_isbn other.identifiers)).0 online.1))
+    ((identifiers one.identifiers.print other.identifiers.print).0 (h PrintIdentifier))
+    ((identifiers one.identifiers.online other.identifiers.online).0 (h OnlineIdentifier)))
 
 back : (one other : RowValue) → content one ≡ content other → (label : Label) → is_same label one other ≡ true
 back one other e PublicationTitle = (bytes_decides one.title other.title).1 (ap (λ r. r.title) e)
-back one other e PrintIdentifier =
-    and_true (option_eq bytes_eq (print_issn one.identifiers) (print_issn other.identifiers)) (option_eq bytes_eq (print_isbn one.identifiers) (print_isbn other.identifiers))
-    ((option_decides bytes_eq bytes_decides (print_issn one.identifiers) (print_issn other.identifiers)).1 (ap (λ r. print_issn r.identifiers) e))
-    ((option_decides bytes_eq bytes_decides (print_isbn one.identifiers) (print_isbn other.identifiers)).1 (ap (λ r. print_isbn r.identifiers) e))
-back one other e OnlineIdentifier =
-    and_true (option_eq bytes_eq (online_issn one.identifiers) (online_issn other.identifiers)) (option_eq bytes_eq (online_isbn one.identifiers) (online_isbn other.identifiers))
-    ((option_decides bytes_eq bytes_decides (online_issn one.identifiers) (online_issn other.identifiers)).1 (ap (λ r. online_issn r.identifiers) e))
-    ((option_decides bytes_eq bytes_decides (online_isbn one.identifiers) (online_isbn other.identifiers)).1 (ap (λ r. online_isbn r.identifiers) e))
+back one other e PrintIdentifier = (identifiers one.identifiers.print other.identifiers.print).1 (ap (λ r. r.identifiers.print) e)
+back one other e OnlineIdentifier = (identifiers one.identifiers.online other.identifiers.online).1 (ap (λ r. r.identifiers.online) e)
 back one other e DateFirstIssueOnline = (option_decides int_eq Decides-int_eq one.first_day other.first_day).1 (ap (λ r. r.first_day) e)
 back one other e NumFirstVolOnline = (numbers one.first_volume other.first_volume).1 (ap (λ r. r.first_volume) e)
 back one other e DateLastIssueOnline = (option_decides int_eq Decides-int_eq one.last_day other.last_day).1 (ap (λ r. r.last_day) e)

@@ -1,9 +1,10 @@
 -- The columns of two rows, one by one, as a list is read.
-use Rattle.std.specs.Prelude.{◌&&◌, Bool, true, false, nat_eq}
+use Rattle.std.specs.Prelude.{Bool, true, false, nat_eq}
 use Rattle.std.specs.Option.{option_eq}
 use Rattle.std.specs.Ordering.{int_eq}
 use Rattle.std.specs.Str.{bytes_eq}
-use Rattle.feed_kbart.specs.Identifiers.{kind, online_isbn, online_issn, print_isbn, print_issn}
+use Rattle.feed_identifiers.specs.Identifier.{identifier_eq}
+use Rattle.feed_kbart.specs.Identifiers.{kind}
 use Rattle.feed_kbart.specs.RowValue.{RowValue}
 use Rattle.feed_kbart.specs.declared.identifiers.Identifiers.{Identifiers}
 use Rattle.feed_kbart.specs.declared.identifiers.Kind.{Kind}
@@ -32,10 +33,8 @@ is_same_answer false false = true
 -- whether two rows have the same value in a column
 abbrev pub is_same : Label → RowValue → RowValue → Bool
 is_same PublicationTitle one other = bytes_eq one.title other.title
-is_same PrintIdentifier one other =
-    option_eq bytes_eq (print_issn one.identifiers) (print_issn other.identifiers) && option_eq bytes_eq (print_isbn one.identifiers) (print_isbn other.identifiers)
-is_same OnlineIdentifier one other =
-    option_eq bytes_eq (online_issn one.identifiers) (online_issn other.identifiers) && option_eq bytes_eq (online_isbn one.identifiers) (online_isbn other.identifiers)
+is_same PrintIdentifier one other = option_eq identifier_eq one.identifiers.print other.identifiers.print
+is_same OnlineIdentifier one other = option_eq identifier_eq one.identifiers.online other.identifiers.online
 is_same DateFirstIssueOnline one other = option_eq int_eq one.first_day other.first_day
 is_same NumFirstVolOnline one other = option_eq nat_eq one.first_volume other.first_volume
 is_same DateLastIssueOnline one other = option_eq int_eq one.last_day other.last_day

@@ -4,8 +4,7 @@ use Rattle.std.specs.Cmp.Lexicographic.{slice_cmp}
 use Rattle.std.specs.Option.{option_cmp, option_map_or}
 use Rattle.std.specs.Ordering.{bool_cmp, int_cmp, nat_cmp, on, then_cmp}
 use Rattle.std.specs.declared.cmp.Ordering.{Ordering}
-use Rattle.feed_identifiers.specs.Isbn as isbn
-use Rattle.feed_identifiers.specs.Issn as issn
+use Rattle.feed_identifiers.specs.Identifier.{key_of}
 use Rattle.feed_kbart.specs.Identifiers.{online_isbn, online_issn, print_isbn, print_issn}
 use Rattle.feed_kbart.specs.RowCells.{content_of}
 use Rattle.feed_kbart.specs.RowValue.{RowValue}
@@ -46,14 +45,9 @@ texts_cmp =
 abbrev pub content_cmp : RowValue → RowValue → Ordering
 content_cmp = then_cmp (then_cmp texts_cmp coverage_cmp) (on (λ (row : RowValue). row.identifiers) identifiers_cmp)
 
--- the number of the first ISBN, or 0
-abbrev pub first_isbn : Identifiers → ℕ
-first_isbn identifiers = option_map_or isbn.number_of (print_isbn identifiers) (option_map_or isbn.number_of (online_isbn identifiers) 0)
-
--- the number of the first identifier, or 0
+-- the key of the first identifier, or 0
 abbrev pub first_number : Identifiers → ℕ
-first_number identifiers =
-    option_map_or issn.number_of (print_issn identifiers) (option_map_or issn.number_of (online_issn identifiers) (first_isbn identifiers))
+first_number identifiers = option_map_or key_of identifiers.print (option_map_or key_of identifiers.online 0)
 
 abbrev pub number_cmp : RowValue → RowValue → Ordering
 number_cmp = on (λ (row : RowValue). first_number row.identifiers) nat_cmp

@@ -175,10 +175,8 @@ pub fn is_same(label: Label, old: &RowCells<'_>, new: &RowCells<'_>) -> bool
 {
     match label {
         Label::PublicationTitle => old.publication_title == new.publication_title,
-        Label::PrintIdentifier => (old.print(), old.print_isbn())
-            == (new.print(), new.print_isbn()),
-        Label::OnlineIdentifier => (old.online(), old.online_isbn())
-            == (new.online(), new.online_isbn()),
+        Label::PrintIdentifier => old.print() == new.print(),
+        Label::OnlineIdentifier => old.online() == new.online(),
         Label::DateFirstIssueOnline => old.first_day() == new.first_day(),
         Label::NumFirstVolOnline => old.volumes().0 == new.volumes().0,
         Label::DateLastIssueOnline => old.last_day() == new.last_day(),

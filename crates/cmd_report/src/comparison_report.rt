@@ -3,7 +3,7 @@ use crate::comparison::{Comparison, RowChange, is_same};
 use crate::json::{Commas, write_text};
 use crate::report::REASONS;
 use feed_dates::write_date;
-use feed_identifiers::{Isbn, Issn};
+use feed_identifiers::Identifier;
 use feed_kbart::{Aside, Kind, LABELS, Label, Row, RowCells, count_of};
 use feed_names::ReleaseName;
 use feed_options::ComparisonForm;
@@ -227,8 +227,8 @@ fn write_value<O: Write>(
 ) -> io::Result<()> {
     match label {
         Label::PublicationTitle => write_text(alloc, out, cells.publication_title),
-        Label::PrintIdentifier => write_identifier(out, cells.print(), cells.print_isbn()),
-        Label::OnlineIdentifier => write_identifier(out, cells.online(), cells.online_isbn()),
+        Label::PrintIdentifier => write_identifier(out, cells.print()),
+        Label::OnlineIdentifier => write_identifier(out, cells.online()),
         Label::DateFirstIssueOnline => write_day(out, cells.first_day()),
         Label::NumFirstVolOnline => write_volume(out, cells.volumes().0),
         Label::DateLastIssueOnline => write_day(out, cells.last_day()),
@@ -257,15 +257,10 @@ fn write_quoted<O: Write>(out: &mut O, text: &[u8]) -> io::Result<()> {
 }
 
 // Writes the ISSN of a serial or the ISBN of a book.
-fn write_identifier<O: Write>(
-    out: &mut O,
-    issn: Option<Issn>,
-    isbn: Option<Isbn>,
-) -> io::Result<()> {
-    match (issn, isbn) {
-        (Some(issn), _) => write_quoted(out, &issn.text()),
-        (None, Some(isbn)) => write_quoted(out, &isbn.text()),
-        (None, None) => out.write_all(b"null"),
+fn write_identifier<O: Write>(out: &mut O, identifier: Option<Identifier>) -> io::Result<()> {
+    match identifier {
+        Some(identifier) => write_quoted(out, identifier.text()),
+        None => out.write_all(b"null"),
     }
 }
 

@@ -1,11 +1,14 @@
 //! The orders of rows by which lists are paired: rows that are alike are neighbors in them.
 ghost use Rattle.std.specs.Prelude.{◌≡◌};
+ghost use Rattle.std.specs.Option.{option_and_then};
 ghost use Rattle.std.specs.Ordering.{ordering_then};
 ghost use Rattle.cmd_report.specs.Columns.{is_book};
 ghost use Rattle.cmd_report.specs.Ranking.{coverage_cmp, identifiers_cmp, texts_cmp};
-ghost use Rattle.cmd_report.specs.Ranking.{first_isbn, first_number, further_cmp, row_of_cells, text_cmp};
+ghost use Rattle.cmd_report.specs.Ranking.{first_number, further_cmp, row_of_cells, text_cmp};
+ghost use Rattle.feed_identifiers.specs.Identifier.{isbn_in, issn_in};
 ghost use Rattle.feed_kbart.specs.RowCells.{content_of};
 
+use feed_identifiers::{Identifier, Isbn, Issn};
 use feed_kbart::{Kind, Row, RowCells};
 use std::cmp::Ordering;
 
@@ -30,22 +33,42 @@ pub(crate) fn is_book(cells: &RowCells<'_>) -> bool
     }
 }
 
+fn issn_in(identifier: &Option<Identifier>) -> Option<Issn>
+    ensures { result ≡ option_and_then issn_in identifier.now }
+{
+    match identifier {
+        Some(Identifier::Issn(issn)) => Some(*issn),
+        _ => None,
+    }
+}
+
+fn isbn_in(identifier: &Option<Identifier>) -> Option<Isbn>
+    ensures { result ≡ option_and_then isbn_in identifier.now }
+{
+    match identifier {
+        Some(Identifier::Isbn(isbn)) => Some(*isbn),
+        _ => None,
+    }
+}
+
 fn compare_identifiers(one: &RowCells<'_>, other: &RowCells<'_>) -> Ordering
     ensures { result ≡ identifiers_cmp (row_of_cells one.now).identifiers (row_of_cells other.now).identifiers }
 {
+    let (print, online) = (one.print(), one.online());
     let first = (
         is_book(one),
-        one.print(),
-        one.online(),
-        one.print_isbn(),
-        one.online_isbn(),
+        issn_in(&print),
+        issn_in(&online),
+        isbn_in(&print),
+        isbn_in(&online),
     );
+    let (print, online) = (other.print(), other.online());
     let second = (
         is_book(other),
-        other.print(),
-        other.online(),
-        other.print_isbn(),
-        other.online_isbn(),
+        issn_in(&print),
+        issn_in(&online),
+        isbn_in(&print),
+        isbn_in(&online),
     );
     first.cmp(&second)
 }
@@ -126,28 +149,16 @@ fn compare_urls(one: &RowCells<'_>, other: &RowCells<'_>) -> Ordering
     one.title_url.cmp(&other.title_url)
 }
 
-fn first_isbn(cells: &RowCells<'_>) -> u32
-    ensures { result ≡ first_isbn (content_of cells.now).identifiers }
-{
-    match cells.print_isbn() {
-        Some(isbn) => isbn.number(),
-        None => match cells.online_isbn() {
-            Some(isbn) => isbn.number(),
-            None => 0,
-        },
-    }
-}
-
-/// Returns the number of the first identifier of a row.
+/// Returns the key of the first identifier of a row.
 pub(crate) fn first_number(row: &Row) -> u32
     ensures { result ≡ first_number row.now.identifiers }
 {
     let cells = row.cells();
     match cells.print() {
-        Some(issn) => issn.number(),
+        Some(one) => one.key(),
         None => match cells.online() {
-            Some(issn) => issn.number(),
-            None => first_isbn(&cells),
+            Some(one) => one.key(),
+            None => 0,
         },
     }
 }
