@@ -12,7 +12,8 @@ use Rattle.feed_names.specs.ReleaseName.{Name}
 use Rattle.node_site.specs.Held.{may_hold}
 use Rattle.node_site.specs.Site as site_file
 use Rattle.node_hits.specs.Looks.{are_fitting, asked_places, fitting, looks_at, looks_in, open_places, release_found}
-use Rattle.node_hits.specs.Searches.{SearchValue, is_asked, is_asked_at}
+use Rattle.feed_answer.specs.Grades.{has_named}
+use Rattle.node_hits.specs.Searches.{SearchValue, is_asked_at}
 use Rattle.node_hits.specs.Tallying.{RunningValue, with_end, with_hits, with_release}
 use Rattle.node_hits.specs.declared.shares.Shares.{Shares}
 use Rattle.node_hits.proofs.AskedRows.{all_pass}
@@ -45,7 +46,7 @@ each_asked site name query asked rows limit share places found front same listed
     (All-take (λ place. is_asked_at query rows place ≡ true) limit (open_places site name query rows) (go (may_hold site name.package_name))))
   where
     go : (b : Bool) → AllPass (is_asked_at query rows) (if b then asked_places query rows else [])
-    go true = all_pass (is_asked query) rows
+    go true = all_pass (has_named query) rows
     go false = All-nil (λ place. is_asked_at query rows place ≡ true)
 
 -- a release was added

@@ -10,27 +10,22 @@ use Rattle.feed_kbart.specs.RowValue.{RowValue}
 use Rattle.feed_kbart.specs.declared.identifiers.Kind.{Kind}
 use Rattle.feed_kbart.specs.declared.identifiers.Kind.TheVariants.{Serial, Book}
 use Rattle.feed_answer.specs.Answers.{hit_by}
-use Rattle.feed_answer.specs.Grades.{both_grades, days_grade, grade_by, volume_grade}
 use Rattle.feed_answer.specs.Places.{hit_at}
 use Rattle.feed_answer.specs.QueryValue.{QueryValue}
 use Rattle.feed_answer.specs.declared.grade.Grade.TheVariants.{Untested}
 use Rattle.node_hits.specs.Looks.{asked_places}
-use Rattle.node_hits.specs.Searches.{SearchValue, asked_grade_as, asked_hit_at, asked_hit_by, compared, is_asked, is_asked_as, is_asked_at, whole_titles}
+use Rattle.feed_answer.specs.Grades.{grade_as, has_named}
+use Rattle.node_hits.specs.Searches.{SearchValue, asked_hit_at, asked_hit_by, compared, is_asked_at, whole_titles}
 use Rattle.node_hits.proofs.LooksPlaced.{at_seam, longer, same_asked}
 
 -- ---- the grade of a row that has one of the identifiers
 
-graded_as : (of : Kind) (query : QueryValue) (row : RowValue) → is_asked_as of query row ≡ true → asked_grade_as of query row ≡ grade_by of query row
-graded_as Serial query row asked =
-    sym (ap (λ b. if b then both_grades (days_grade row.first_day row.last_day query.days) (volume_grade row.first_volume row.last_volume query.volume) else None) asked)
-graded_as Book query row asked = sym (ap (λ b. if b then Some Untested else None) asked)
-
-asked_by : (search : SearchValue) (row : RowValue) → is_asked search.query row ≡ true → asked_hit_by (compared search) row ≡ hit_by (compared search) row
+asked_by : (search : SearchValue) (row : RowValue) → has_named search.query row ≡ true → asked_hit_by (compared search) row ≡ hit_by (compared search) row
 asked_by search row asked =
-    ap (option_map (λ grade. record { row = row; grade = grade }))
-    (graded_as (kind row.identifiers) (compared search) row (same_asked search.scope (kind row.identifiers) search.query row ∙ asked))
+    sym (ap (λ b. option_map (λ grade. record { row = row; grade = grade }) (if b then grade_as (kind row.identifiers) (compared search) row else None))
+    (same_asked search.scope search.query row ∙ asked))
 
-untested_as : (of : Kind) (query : QueryValue) (row : RowValue) → asked_grade_as of (whole_titles query) row ≡ Some Untested
+untested_as : (of : Kind) (query : QueryValue) (row : RowValue) → grade_as of (whole_titles query) row ≡ Some Untested
 untested_as Serial query row = refl
 untested_as Book query row = refl
 
@@ -44,7 +39,7 @@ pub asked_at : (search : SearchValue) (rows : List RowValue) (place : ℕ) → i
     → asked_hit_at (compared search) rows place ≡ hit_at (compared search) rows place
 asked_at search rows place asked = go (slice_get rows place) asked
   where
-    go : (o : Option RowValue) → option_map_or (is_asked search.query) o true ≡ true → option_and_then (asked_hit_by (compared search)) o ≡ option_and_then (hit_by (compared search)) o
+    go : (o : Option RowValue) → option_map_or (has_named search.query) o true ≡ true → option_and_then (asked_hit_by (compared search)) o ≡ option_and_then (hit_by (compared search)) o
     go None asked = refl
     go (Some row) asked = asked_by search row asked
 

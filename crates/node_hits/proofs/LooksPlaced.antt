@@ -10,21 +10,18 @@ use Rattle.feed_kbart.specs.HoldingsValue.{HoldingsValue}
 use Rattle.feed_kbart.specs.Identifiers.{kind}
 use Rattle.feed_kbart.specs.Places.{place_by, places_by}
 use Rattle.feed_kbart.specs.RowValue.{RowValue}
-use Rattle.feed_kbart.specs.declared.identifiers.Kind.{Kind}
-use Rattle.feed_kbart.specs.declared.identifiers.Kind.TheVariants.{Serial, Book}
 use Rattle.feed_names.specs.ReleaseName.{Name}
 use Rattle.node_site.specs.Held.{may_hold}
 use Rattle.node_site.specs.Site as site_file
 use Rattle.node_site.proofs.HeldDays.{off_package}
 use Rattle.feed_answer.specs.Answers.{answer_of, hit_by}
-use Rattle.feed_answer.specs.Grades.{grade_by}
+use Rattle.feed_answer.specs.Grades.{grade_as, has_named}
 use Rattle.feed_answer.specs.HitValue.{HitValue}
 use Rattle.feed_answer.specs.QueryValue.{QueryValue}
-use Rattle.feed_answer.specs.declared.grade.Grade.{Grade}
 use Rattle.node_hits.specs.Hits.{ReleaseHitValue, days_asked, held_hits, is_held_dated, is_found, is_found_as, library_hits, release_hit}
 use Rattle.node_hits.specs.Laws.{WholeIsOfAnswer}
 use Rattle.node_hits.specs.Looks.{are_fitting, asked_places, fitting, found_in, hit_found, looks_at, looks_in, open_places, release_found, text_looks}
-use Rattle.node_hits.specs.Searches.{SearchValue, compared, compared_as, is_asked, is_asked_as, is_dated, whole_titles}
+use Rattle.node_hits.specs.Searches.{SearchValue, compared, compared_as, is_dated, whole_titles}
 use Rattle.node_hits.specs.declared.search.Scope.{Scope}
 use Rattle.node_hits.specs.declared.search.Scope.TheVariants.{Hits, Dated, Others}
 use Rattle.node_hits.specs.declared.shares.Shares.{Shares}
@@ -60,36 +57,31 @@ placed_from {B} f test front (row ∷ rows) base same =
 
 -- ---- the hits in all rows
 
-unasked_by : (of : Kind) (query : QueryValue) (row : RowValue) (f : Grade → HitValue) → is_asked_as of query row ≡ false → option_map f (grade_by of query row) ≡ None
-unasked_by Serial query row f miss = rw miss refl
-unasked_by Book query row f miss = rw miss refl
+pub same_asked : (scope : Scope) (query : QueryValue) (row : RowValue) → has_named (compared_as scope query) row ≡ has_named query row
+same_asked Hits query row = refl
+same_asked Dated query row = refl
+same_asked Others query row = refl
 
-pub same_asked : (scope : Scope) (of : Kind) (query : QueryValue) (row : RowValue) → is_asked_as of (compared_as scope query) row ≡ is_asked_as of query row
-same_asked Hits of query row = refl
-same_asked Dated Serial query row = refl
-same_asked Dated Book query row = refl
-same_asked Others Serial query row = refl
-same_asked Others Book query row = refl
-
-unasked : (search : SearchValue) (row : RowValue) → is_asked search.query row ≡ false → hit_by (compared search) row ≡ None
+unasked : (search : SearchValue) (row : RowValue) → has_named search.query row ≡ false → hit_by (compared search) row ≡ None
 unasked search row miss =
-    unasked_by (kind row.identifiers) (compared search) row _ (same_asked search.scope (kind row.identifiers) search.query row ∙ miss)
+    ap (λ b. option_map (λ grade. record { row = row; grade = grade }) (if b then grade_as (kind row.identifiers) (compared search) row else None))
+    (same_asked search.scope search.query row ∙ miss)
 
 module _ (site : site_file.SiteValue) (today : TodayValue) (search : SearchValue) (name : Name) where
   abbrev pub look : RowValue → Option ReleaseHitValue
   look row = hit_found site today search name (hit_by (compared search) row)
 
-  pub looks_placed : (rows : List RowValue) → looks_at site today search name rows (asked_places search.query rows) ≡ map look (filter (is_asked search.query) rows)
+  pub looks_placed : (rows : List RowValue) → looks_at site today search name rows (asked_places search.query rows) ≡ map look (filter (has_named search.query) rows)
   unfolding places_by
   looks_placed rows =
-      placed_from (λ row. hit_found site today search name (option_and_then (hit_by (compared search)) row)) (is_asked search.query) [] rows 0 refl
+      placed_from (λ row. hit_found site today search name (option_and_then (hit_by (compared search)) row)) (has_named search.query) [] rows 0 refl
 
-  pub in_rows : (rows : List RowValue) → found_in (map look (filter (is_asked search.query) rows)) ≡ library_hits site today search name (filter_map (hit_by (compared search)) rows)
+  pub in_rows : (rows : List RowValue) → found_in (map look (filter (has_named search.query) rows)) ≡ library_hits site today search name (filter_map (hit_by (compared search)) rows)
   in_rows [] = refl
-  in_rows (row ∷ rows) = by_asked (is_asked search.query row) refl (in_rows rows)
+  in_rows (row ∷ rows) = by_asked (has_named search.query row) refl (in_rows rows)
     where
       others : List RowValue
-      others = filter (is_asked search.query) rows
+      others = filter (has_named search.query) rows
 
       by_found : (b : Bool) (hit : HitValue) → found_in (map look others) ≡ library_hits site today search name (filter_map (hit_by (compared search)) rows)
           → cons_option (if b then Some (release_hit site today search name hit) else None) (found_in (map look others))
@@ -104,7 +96,7 @@ module _ (site : site_file.SiteValue) (today : TodayValue) (search : SearchValue
       by_hit None rest = rest
       by_hit (Some hit) rest = by_found (is_found site search name hit) hit rest
 
-      by_asked : (b : Bool) → is_asked search.query row ≡ b → found_in (map look others) ≡ library_hits site today search name (filter_map (hit_by (compared search)) rows)
+      by_asked : (b : Bool) → has_named search.query row ≡ b → found_in (map look others) ≡ library_hits site today search name (filter_map (hit_by (compared search)) rows)
           → found_in (map look (if b then row ∷ others else others)) ≡ library_hits site today search name (filter_map (hit_by (compared search)) (row ∷ rows))
       by_asked true is rest = by_hit (hit_by (compared search) row) rest
       by_asked false is rest = rest ∙ ap (λ o. library_hits site today search name (cons_option o (filter_map (hit_by (compared search)) rows))) (sym (unasked search row is))

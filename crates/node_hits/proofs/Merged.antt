@@ -1,21 +1,22 @@
 -- The places of several identifiers, merged one after another, are those of the rows that have one of them.
 use Rattle.std.proofs.Common.{◌≡◌, ◌<◌, ◌≤◌, ◌+◌, ◌-◌, ℕ, zero, suc, Bool, true, false, ◌||◌, List, [], ◌∷◌, ◌++◌, Option, Some, None, refl, sym, ap, ◌∙◌, append_assoc, arith, length, take}
-use Rattle.std.specs.Prelude.{◌==◌, if◌then◌else◌, nat_lt, get_or}
+use Rattle.std.specs.Prelude.{◌==◌, if◌then◌else◌, nat_lt, slice_get}
 use Rattle.std.specs.List.{cons_option, enumerate_from, filter_map, list_any}
 use Rattle.std.specs.Option.{option_map_or}
 use Rattle.std.proofs.lemmas.List.{append-nil}
+use Rattle.std.proofs.lemmas.List.Sums.{fold-append}
 use Rattle.std.proofs.lemmas.Bool.{ne_eqb}
 use Rattle.std.proofs.lemmas.Bool.Decides.{nat_tests}
 use borrow.Author.Tests.{eq-eqb, lt-ltb}
-use Rattle.feed_kbart.specs.Places.{has_isbn, has_issn, is_same_identifier, place_by, places_by, places_with, places_with_isbn}
+use Rattle.feed_identifiers.specs.Identifier.{identifier_eq}
+use Rattle.feed_identifiers.specs.declared.identifier.Identifier.{Identifier}
+use Rattle.feed_kbart.specs.Places.{has_identifier, is_same_identifier, place_by, places_by, places_having}
 use Rattle.feed_kbart.specs.RowValue.{RowValue}
-use Rattle.feed_kbart.specs.declared.identifiers.Identifiers.{Identifiers}
-use Rattle.feed_kbart.specs.declared.identifiers.Identifiers.TheVariants.{Serial, Book}
-use Rattle.feed_answer.specs.Grades.{is_named}
-use Rattle.feed_answer.specs.QueryValue.{QueryValue}
+use Rattle.feed_answer.specs.Grades.{has_named}
+use Rattle.feed_answer.specs.QueryValue.{QueryValue, asked, is_named, sole}
+use Rattle.feed_answer.proofs.Asked.{sole_is, taken_next}
 use Rattle.node_hits.specs.Looks.{asked_places}
 use Rattle.node_hits.specs.Merging.{merged, next_place, with_each}
-use Rattle.node_hits.specs.Searches.{is_asked}
 
 -- the places from a base on
 pub placed : (RowValue → Bool) → ℕ → List RowValue → List ℕ
@@ -149,82 +150,79 @@ or_swap true b c d = refl
 or_swap false true c d = sym (or_true c)
 or_swap false false c d = refl
 
-abbrev pub any_one : (List ℕ → RowValue → Bool) → List (List ℕ) → RowValue → Bool
-any_one has identifiers row = list_any (λ one. has one row) identifiers
+abbrev pub any_one : List Identifier → RowValue → Bool
+any_one identifiers row = list_any (λ one. has_identifier one row) identifiers
 
-each_are : (has : List ℕ → RowValue → Bool) (test : RowValue → Bool) (limit : ℕ) (rows : List RowValue) (identifiers : List (List ℕ))
-    → with_each has limit rows (take limit (places_by test rows)) identifiers ≡ take limit (places_by (either test (any_one has identifiers)) rows)
-each_are has test limit rows [] = ap (take limit) (alike test (either test (any_one has [])) rows (λ row. sym (or_false (test row))))
-each_are has test limit rows (one ∷ others) =
-    ap (λ l. with_each has limit rows l others) (one_more test (has one) limit rows)
-    ∙ each_are has (either test (has one)) limit rows others
-    ∙ ap (take limit) (alike (either (either test (has one)) (any_one has others)) (either test (any_one has (one ∷ others))) rows
-    (λ row. or_joint (test row) (has one row) (any_one has others row)))
+each_are : (test : RowValue → Bool) (limit : ℕ) (rows : List RowValue) (identifiers : List Identifier)
+    → with_each limit rows (take limit (places_by test rows)) identifiers ≡ take limit (places_by (either test (any_one identifiers)) rows)
+each_are test limit rows [] = ap (take limit) (alike test (either test (any_one [])) rows (λ row. sym (or_false (test row))))
+each_are test limit rows (one ∷ others) =
+    ap (λ l. with_each limit rows l others) (one_more test (has_identifier one) limit rows)
+    ∙ each_are (either test (has_identifier one)) limit rows others
+    ∙ ap (take limit) (alike (either (either test (has_identifier one)) (any_one others)) (either test (any_one (one ∷ others))) rows
+    (λ row. or_joint (test row) (has_identifier one row) (any_one others row)))
 
--- a row has one of the identifiers, in print or online
-named_next : (identifier : List ℕ) (own : Option (List ℕ)) (asked : List (List ℕ)) → (is_same_identifier identifier own || is_named own asked) ≡ is_named own (identifier ∷ asked)
-named_next identifier None asked = refl
-named_next identifier (Some own) asked = refl
+-- a row has one of the identifiers of a query, in print or online
+abbrev among : List Identifier → Option Identifier → Bool
+among identifiers None = false
+among identifiers (Some own) = list_any (λ one. identifier_eq one own) identifiers
 
-named_none : (own : Option (List ℕ)) → is_named own [] ≡ false
-named_none None = refl
-named_none (Some own) = refl
+among_none : (own : Option Identifier) → among [] own ≡ false
+among_none None = refl
+among_none (Some own) = refl
 
-any_named : (print online : Option (List ℕ)) (asked : List (List ℕ))
-    → list_any (λ identifier. is_same_identifier identifier print || is_same_identifier identifier online) asked ≡ (is_named print asked || is_named online asked)
-any_named print online [] = sym (rw (named_none print, named_none online) refl)
-any_named print online (identifier ∷ asked) =
-    ap (λ b. (is_same_identifier identifier print || is_same_identifier identifier online) || b) (any_named print online asked)
-    ∙ or_swap (is_same_identifier identifier print) (is_same_identifier identifier online) (is_named print asked) (is_named online asked)
-    ∙ ap (λ b. b || (is_same_identifier identifier online || is_named online asked)) (named_next identifier print asked)
-    ∙ ap (λ b. is_named print (identifier ∷ asked) || b) (named_next identifier online asked)
+among_next : (one : Identifier) (own : Option Identifier) (others : List Identifier) → (is_same_identifier one own || among others own) ≡ among (one ∷ others) own
+among_next one None others = refl
+among_next one (Some own) others = refl
 
-abbrev asked_by : Identifiers → List (List ℕ) → List (List ℕ) → Bool
-asked_by (Serial print online) issns isbns = is_named print issns || is_named online issns
-asked_by (Book print online) issns isbns = is_named print isbns || is_named online isbns
+any_among : (row : RowValue) (identifiers : List Identifier) → any_one identifiers row ≡ (among identifiers row.identifiers.print || among identifiers row.identifiers.online)
+any_among row [] = sym (rw (among_none row.identifiers.print, among_none row.identifiers.online) refl)
+any_among row (one ∷ others) =
+    let print = row.identifiers.print in
+    let online = row.identifiers.online in
+    ap (λ b. (is_same_identifier one print || is_same_identifier one online) || b) (any_among row others)
+    ∙ or_swap (is_same_identifier one print) (is_same_identifier one online) (among others print) (among others online)
+    ∙ ap (λ b. b || (is_same_identifier one online || among others online)) (among_next one print others)
+    ∙ ap (λ b. among (one ∷ others) print || b) (among_next one online others)
 
--- a row has one of the identifiers of a query
-pub asked_either : (query : QueryValue) (row : RowValue) → either (any_one has_issn query.issns) (any_one has_isbn query.isbns) row ≡ is_asked query row
-asked_either query row = go row.identifiers refl
-  where
-    go : (own : Identifiers) → row.identifiers ≡ own → either (any_one has_issn query.issns) (any_one has_isbn query.isbns) row ≡ is_asked query row
-    go (Serial print online) is =
-        rw is (ap (λ b. b || list_any (λ isbn. is_same_identifier isbn None || is_same_identifier isbn None) query.isbns) (any_named print online query.issns)
-        ∙ ap (λ b. (is_named print query.issns || is_named online query.issns) || b) (any_named None None query.isbns)
-        ∙ or_false (is_named print query.issns || is_named online query.issns))
-    go (Book print online) is =
-        rw is (ap (λ b. b || list_any (λ isbn. is_same_identifier isbn print || is_same_identifier isbn online) query.isbns) (any_named None None query.issns)
-        ∙ any_named print online query.isbns)
+named_among : (query : QueryValue) (own : Option Identifier) → among (asked query) own ≡ is_named query own
+named_among query None = refl
+named_among query (Some own) = refl
+
+pub asked_any : (query : QueryValue) (row : RowValue) → any_one (asked query) row ≡ has_named query row
+asked_any query row =
+    any_among row (asked query)
+    ∙ ap (λ b. b || among (asked query) row.identifiers.online) (named_among query row.identifiers.print)
+    ∙ ap (λ b. is_named query row.identifiers.print || b) (named_among query row.identifiers.online)
 
 -- the first places of all
-pub asked_are : (query : QueryValue) (limit : ℕ) (rows : List RowValue)
-    → with_each has_isbn limit rows (with_each has_issn limit rows [] query.issns) query.isbns ≡ take limit (asked_places query rows)
+pub asked_are : (query : QueryValue) (limit : ℕ) (rows : List RowValue) → with_each limit rows [] (asked query) ≡ take limit (asked_places query rows)
 asked_are query limit rows =
     let none : [] ≡ take limit (places_by (λ row. false) rows) = sym (ap (take limit) (none_placed rows) ∙ none_of limit) in
-    ap (λ l. with_each has_isbn limit rows (with_each has_issn limit rows l query.issns) query.isbns) none
-    ∙ ap (λ l. with_each has_isbn limit rows l query.isbns) (each_are has_issn (λ row. false) limit rows query.issns)
-    ∙ each_are has_isbn (either (λ row. false) (any_one has_issn query.issns)) limit rows query.isbns
-    ∙ ap (take limit) (alike (either (either (λ row. false) (any_one has_issn query.issns)) (any_one has_isbn query.isbns)) (is_asked query) rows (asked_either query))
+    ap (λ l. with_each limit rows l (asked query)) none
+    ∙ each_are (λ row. false) limit rows (asked query)
+    ∙ ap (take limit) (alike (any_one (asked query)) (has_named query) rows (asked_any query))
 
--- those of one identifier
-sole : {A : Type 0} → (xs : List A) (d : A) → length xs ≡ 1 → xs ≡ get_or xs 0 d ∷ []
-sole {A} [] d one = absurd (omega (arith, one))
-sole {A} (x ∷ []) d one = refl
-sole {A} (x ∷ y ∷ xs) d one = absurd (omega (arith, one))
+-- one identifier more, or none
+module _ (limit : ℕ) (rows : List RowValue) (some : List Identifier) (i : ℕ) where
+  each_next : (o : Option Identifier) → slice_get some i ≡ o
+      → with_each limit rows [] (take (i + 1) some) ≡ with_each limit rows (with_each limit rows [] (take i some)) (cons_option o [])
+  each_next o at =
+      ap (with_each limit rows []) (taken_next some i o at) ∙ fold-append (λ some one. merged limit some (places_having one rows)) [] (take i some) (cons_option o [])
 
-pub issn_alone : (query : QueryValue) (issn : List ℕ) (limit : ℕ) (rows : List RowValue) → query.issns ≡ issn ∷ [] → query.isbns ≡ []
-    → take limit (places_with issn rows) ≡ take limit (asked_places query rows)
-issn_alone query issn limit rows issns isbns =
-    ap (take limit) (alike (has_issn issn) (is_asked query) rows (λ row.
-    sym (or_false (has_issn issn row)) ∙ sym (or_false (has_issn issn row || false))
-    ∙ ap (λ i. any_one has_issn i row || any_one has_isbn [] row) (sym issns) ∙ ap (λ i. any_one has_issn query.issns row || any_one has_isbn i row) (sym isbns) ∙ asked_either query row))
+  pub one_each : (one : Identifier) (old new : List ℕ) → slice_get some i ≡ Some one → new ≡ merged limit old (places_having one rows)
+      → old ≡ with_each limit rows [] (take i some) → new ≡ with_each limit rows [] (take (i + 1) some)
+  one_each one old new at more was = more ∙ ap (λ l. merged limit l (places_having one rows)) was ∙ sym (each_next (Some one) at)
 
-pub isbn_alone : (query : QueryValue) (isbn : List ℕ) (limit : ℕ) (rows : List RowValue) → query.issns ≡ [] → query.isbns ≡ isbn ∷ []
-    → take limit (places_with_isbn isbn rows) ≡ take limit (asked_places query rows)
-isbn_alone query isbn limit rows issns isbns =
-    ap (take limit) (alike (has_isbn isbn) (is_asked query) rows (λ row.
-    sym (or_false (has_isbn isbn row))
-    ∙ ap (λ i. any_one has_issn i row || any_one has_isbn (isbn ∷ []) row) (sym issns) ∙ ap (λ i. any_one has_issn query.issns row || any_one has_isbn i row) (sym isbns) ∙ asked_either query row))
+  pub none_each : (old : List ℕ) → slice_get some i ≡ None → old ≡ with_each limit rows [] (take i some) → old ≡ with_each limit rows [] (take (i + 1) some)
+  none_each old at was = was ∙ sym (each_next None at)
+
+-- those of the only one
+pub asked_alone : (query : QueryValue) (one : Identifier) (limit : ℕ) (rows : List RowValue) → sole (asked query) ≡ Some one
+    → take limit (places_having one rows) ≡ take limit (asked_places query rows)
+asked_alone query one limit rows is =
+    ap (take limit) (alike (has_identifier one) (has_named query) rows
+    (λ row. sym (or_false (has_identifier one row)) ∙ ap (λ some. any_one some row) (sym (sole_is (asked query) one is)) ∙ asked_any query row))
 
 -- ---- the loop of a merge
 

@@ -3,15 +3,16 @@ use Rattle.std.proofs.Common.{◌≡◌, ◌+◌, ◌⊎◌, Some, None, inl, in
 use Rattle.std.specs.Prelude.{◌↔◌, if◌then◌else◌}
 use Rattle.std.specs.List.{Contains, cons_option, enumerate_from, filter_map, flat_map}
 use Rattle.std.proofs.lemmas.List.Elements.{Contains-append_cases, Contains-append_left, Contains-append_right}
-use Rattle.feed_kbart.specs.Places.{has_isbn, has_issn, place_by, places_by}
+use Rattle.feed_identifiers.specs.declared.identifier.Identifier.{Identifier}
+use Rattle.feed_kbart.specs.Places.{has_identifier, place_by, places_by, places_having}
 use Rattle.feed_kbart.specs.RowValue.{RowValue}
-use Rattle.feed_answer.specs.Places.{places_among, places_of_isbns, places_of_issns}
-use Rattle.feed_answer.specs.QueryValue.{QueryValue}
+use Rattle.feed_answer.specs.Grades.{has_named}
+use Rattle.feed_answer.specs.Places.{places_among}
+use Rattle.feed_answer.specs.QueryValue.{QueryValue, asked}
 use Rattle.feed_answer.proofs.Places.{places_ascend}
 use Rattle.node_hits.specs.Laws.{ArePlaces, LooksAreAtPlaces}
 use Rattle.node_hits.specs.Looks.{asked_places}
-use Rattle.node_hits.specs.Searches.{is_asked}
-use Rattle.node_hits.proofs.Merged.{alike, any_one, asked_either, either, none_placed}
+use Rattle.node_hits.proofs.Merged.{alike, any_one, asked_any, either, none_placed}
 
 -- ---- the elements of a list with one more
 
@@ -101,46 +102,31 @@ module _ (place : ℕ) where
 
   -- ---- the places of some identifiers
 
-  module _ (has : List ℕ → RowValue → Bool) (rows : List RowValue) where
-    abbrev of_each : List (List ℕ) → List ℕ
-    of_each identifiers = flat_map (λ one. places_by (has one) rows) identifiers
+  module _ (rows : List RowValue) where
+    abbrev of_each : List Identifier → List ℕ
+    of_each identifiers = flat_map (λ one. places_having one rows) identifiers
 
-    of_all : (identifiers : List (List ℕ)) → At (places_by (any_one has identifiers) rows) → At (of_each identifiers)
+    of_all : (identifiers : List Identifier) → At (places_by (any_one identifiers) rows) → At (of_each identifiers)
     of_all [] there = subst At (none_placed rows) there
-    of_all (one ∷ others) there = elim (placed_cases (has one) (any_one has others) rows there) [
-      | inl first ↦ Contains-append_left (places_by (has one) rows) (of_each others) place first
-      | inr later ↦ Contains-append_right (places_by (has one) rows) (of_each others) place (of_all others later)
+    of_all (one ∷ others) there = elim (placed_cases (has_identifier one) (any_one others) rows there) [
+      | inl first ↦ Contains-append_left (places_having one rows) (of_each others) place first
+      | inr later ↦ Contains-append_right (places_having one rows) (of_each others) place (of_all others later)
     ]
 
-    with_any : (identifiers : List (List ℕ)) → At (of_each identifiers) → At (places_by (any_one has identifiers) rows)
+    with_any : (identifiers : List Identifier) → At (of_each identifiers) → At (places_by (any_one identifiers) rows)
     with_any [] there = absurd (none_in place there)
-    with_any (one ∷ others) there = elim (Contains-append_cases (places_by (has one) rows) (of_each others) place there) [
-      | inl first ↦ more_placed (has one) (any_one has (one ∷ others)) rows (λ row. first_passes (has one row) (any_one has others row)) first
-      | inr later ↦ more_placed (any_one has others) (any_one has (one ∷ others)) rows (λ row. second_passes (has one row) (any_one has others row)) (with_any others later)
+    with_any (one ∷ others) there = elim (Contains-append_cases (places_having one rows) (of_each others) place there) [
+      | inl first ↦ more_placed (has_identifier one) (any_one (one ∷ others)) rows (λ row. first_passes (has_identifier one row) (any_one others row)) first
+      | inr later ↦ more_placed (any_one others) (any_one (one ∷ others)) rows (λ row. second_passes (has_identifier one row) (any_one others row)) (with_any others later)
     ]
 
   asked_same : (query : QueryValue) (rows : List RowValue) → At (asked_places query rows) ↔ At (places_among query rows)
-  asked_same query rows = (forth, back)
-    where
-      same : places_by (either (any_one has_issn query.issns) (any_one has_isbn query.isbns)) rows ≡ asked_places query rows
-      same = alike (either (any_one has_issn query.issns) (any_one has_isbn query.isbns)) (is_asked query) rows (asked_either query)
-
-      forth : At (asked_places query rows) → At (places_among query rows)
-      forth has = elim (placed_cases (any_one has_issn query.issns) (any_one has_isbn query.isbns) rows (subst At (sym same) has)) [
-        | inl first ↦ Contains-append_left (places_of_issns query.issns rows) (places_of_isbns query.isbns rows) place (of_all has_issn rows query.issns first)
-        | inr later ↦ Contains-append_right (places_of_issns query.issns rows) (places_of_isbns query.isbns rows) place (of_all has_isbn rows query.isbns later)
-      ]
-
-      back : At (places_among query rows) → At (asked_places query rows)
-      back has = subst At same (elim (Contains-append_cases (places_of_issns query.issns rows) (places_of_isbns query.isbns rows) place has) [
-        | inl first ↦ more_placed (any_one has_issn query.issns) (either (any_one has_issn query.issns) (any_one has_isbn query.isbns)) rows
-            (λ row. first_passes (any_one has_issn query.issns row) (any_one has_isbn query.isbns row)) (with_any has_issn rows query.issns first)
-        | inr later ↦ more_placed (any_one has_isbn query.isbns) (either (any_one has_issn query.issns) (any_one has_isbn query.isbns)) rows
-            (λ row. second_passes (any_one has_issn query.issns row) (any_one has_isbn query.isbns row)) (with_any has_isbn rows query.isbns later)
-      ])
+  asked_same query rows =
+      let same = alike (any_one (asked query)) (has_named query) rows (asked_any query) in
+      (λ has. of_all rows (asked query) (subst At (sym same) has), λ has. subst At same (with_any rows (asked query) has))
 
 are_places : (query : QueryValue) (rows : List RowValue) → ArePlaces query rows
-are_places query rows = record { ascend = places_ascend (is_asked query) rows; same = λ place. asked_same place query rows }
+are_places query rows = record { ascend = places_ascend (has_named query) rows; same = λ place. asked_same place query rows }
 
 pub at_places : LooksAreAtPlaces
 at_places query rows = are_places query rows

@@ -5,22 +5,22 @@ use Rattle.feed_kbart.specs.Identifiers.{kind}
 use Rattle.feed_kbart.specs.RowValue.{RowValue}
 use Rattle.feed_kbart.specs.declared.identifiers.Kind.{Kind}
 use Rattle.feed_kbart.specs.declared.identifiers.Kind.TheVariants.{Serial, Book}
-use Rattle.feed_answer.specs.Grades.{both_grades, days_grade, grade_by, grade_of, volume_grade}
+use Rattle.feed_answer.specs.Grades.{both_grades, days_grade, grade_as, grade_of, has_named, volume_grade}
 use Rattle.feed_answer.specs.QueryValue.{QueryValue}
 use Rattle.feed_answer.specs.declared.grade.Grade.{Grade}
 use Rattle.feed_answer.specs.declared.grade.Grade.TheVariants.{Inside, Overlap, Untested}
-use Rattle.node_hits.specs.Searches.{is_asked, is_asked_as, whole_titles, without_volume}
+use Rattle.node_hits.specs.Searches.{whole_titles, without_volume}
 
 -- such a query compares nothing
 uncompared : (row : RowValue) → both_grades (days_grade row.first_day row.last_day None) (volume_grade row.first_volume row.last_volume None) ≡ Some Untested
 uncompared row = refl
 
-pub graded_as : (k : Kind) (query : QueryValue) (row : RowValue) → grade_by k (whole_titles query) row ≡ (if is_asked_as k query row then Some Untested else None)
+graded_as : (k : Kind) (query : QueryValue) (row : RowValue) → grade_as k (whole_titles query) row ≡ Some Untested
 graded_as Serial query row = refl
 graded_as Book query row = refl
 
-pub graded : (query : QueryValue) (row : RowValue) → grade_of (whole_titles query) row ≡ (if is_asked query row then Some Untested else None)
-graded query row = graded_as (kind row.identifiers) query row
+pub graded : (query : QueryValue) (row : RowValue) → grade_of (whole_titles query) row ≡ (if has_named query row then Some Untested else None)
+graded query row = ap (λ g. if has_named query row then g else None) (graded_as (kind row.identifiers) query row)
 
 -- the grade of a row that is asked for, by its days
 abbrev pub by_days : Kind → RowValue → QueryValue → Option Grade
@@ -34,11 +34,10 @@ undenied (Some Untested) = refl
 undenied (Some Overlap) = refl
 undenied (Some Inside) = refl
 
-pub dated_as : (k : Kind) (query : QueryValue) (row : RowValue)
-    → grade_by k (without_volume query) row ≡ (if is_asked_as k query row then by_days k row query else None)
-dated_as Serial query row = ap (λ g. if is_asked_as Serial query row then g else None) (undenied (days_grade row.first_day row.last_day query.days))
+dated_as : (k : Kind) (query : QueryValue) (row : RowValue) → grade_as k (without_volume query) row ≡ by_days k row query
+dated_as Serial query row = undenied (days_grade row.first_day row.last_day query.days)
 dated_as Book query row = refl
 
 pub dated : (query : QueryValue) (row : RowValue)
-    → grade_of (without_volume query) row ≡ (if is_asked query row then by_days (kind row.identifiers) row query else None)
-dated query row = dated_as (kind row.identifiers) query row
+    → grade_of (without_volume query) row ≡ (if has_named query row then by_days (kind row.identifiers) row query else None)
+dated query row = ap (λ g. if has_named query row then g else None) (dated_as (kind row.identifiers) query row)

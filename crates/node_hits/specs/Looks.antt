@@ -11,7 +11,8 @@ use Rattle.feed_answer.specs.HitValue.{HitValue}
 use Rattle.feed_answer.specs.Places.{hit_at}
 use Rattle.feed_answer.specs.QueryValue.{QueryValue}
 use Rattle.node_hits.specs.Hits.{ReleaseHitValue, is_found, release_hit}
-use Rattle.node_hits.specs.Searches.{SearchValue, compared, is_asked}
+use Rattle.feed_answer.specs.Grades.{has_named}
+use Rattle.node_hits.specs.Searches.{SearchValue, compared}
 use Rattle.node_hits.specs.declared.shares.Shares.{Shares}
 
 -- a hit with long texts counts for so many bytes of each, since a search may read them all
@@ -26,7 +27,7 @@ text_looks row =
 
 -- the places of the rows that have one of the identifiers of a query, in file order
 abbrev pub asked_places : QueryValue → List RowValue → List ℕ
-asked_places query rows = places_by (is_asked query) rows
+asked_places query rows = places_by (has_named query) rows
 
 -- the same in a release: none if the library has nothing of its package
 abbrev pub open_places : site_file.SiteValue → Name → QueryValue → List RowValue → List ℕ

@@ -1,7 +1,8 @@
 -- How the places of several identifiers are merged: the first ones of two ascending lists.
-use Rattle.std.specs.Prelude.{ℕ, zero, suc, ◌==◌, nat_lt, if◌then◌else◌, Bool, List, [], ◌∷◌, Option, Some, None, fold}
+use Rattle.std.specs.Prelude.{ℕ, zero, suc, ◌==◌, nat_lt, if◌then◌else◌, List, [], ◌∷◌, Option, Some, None, fold}
 use Rattle.std.specs.Option.{option_map_or}
-use Rattle.feed_kbart.specs.Places.{places_by}
+use Rattle.feed_identifiers.specs.declared.identifier.Identifier.{Identifier}
+use Rattle.feed_kbart.specs.Places.{places_having}
 use Rattle.feed_kbart.specs.RowValue.{RowValue}
 
 -- the least place of two lists, and what is left of each
@@ -17,6 +18,6 @@ abbrev pub merged : ℕ → List ℕ → List ℕ → List ℕ
 merged zero xs ys = []
 merged (suc n) xs ys = option_map_or (λ next. next.0 ∷ merged n next.1 next.2) (next_place xs ys) []
 
--- some places with those of the rows that have one of some identifiers, each by this test
-abbrev pub with_each : (List ℕ → RowValue → Bool) → ℕ → List RowValue → List ℕ → List (List ℕ) → List ℕ
-with_each has limit rows places identifiers = fold (λ some one. merged limit some (places_by (has one) rows)) places identifiers
+-- some places with those of the rows that have one of some identifiers
+abbrev pub with_each : ℕ → List RowValue → List ℕ → List Identifier → List ℕ
+with_each limit rows places identifiers = fold (λ some one. merged limit some (places_having one rows)) places identifiers

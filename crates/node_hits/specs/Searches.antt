@@ -1,11 +1,11 @@
 -- The scopes of a search: the rows that match a query, those that its date alone would have, or all others of its titles.
-use Rattle.std.specs.Prelude.{ℕ, ◌&&◌, ◌||◌, not, Bool, true, false, List, Option, Some, None, is_some, option_map, slice_get}
+use Rattle.std.specs.Prelude.{ℕ, ◌&&◌, not, Bool, true, false, List, Option, Some, None, is_some, option_map, slice_get}
 use Rattle.std.specs.Option.{option_and_then, option_map_or}
-use Rattle.feed_kbart.specs.Identifiers.{kind, online_isbn, online_issn, print_isbn, print_issn}
+use Rattle.feed_kbart.specs.Identifiers.{kind}
 use Rattle.feed_kbart.specs.RowValue.{RowValue}
 use Rattle.feed_kbart.specs.declared.identifiers.Kind.{Kind}
 use Rattle.feed_kbart.specs.declared.identifiers.Kind.TheVariants.{Serial, Book}
-use Rattle.feed_answer.specs.Grades.{both_grades, days_grade, is_named, volume_grade}
+use Rattle.feed_answer.specs.Grades.{days_grade, grade_as, has_named, volume_grade}
 use Rattle.feed_answer.specs.HitValue.{HitValue}
 use Rattle.feed_answer.specs.QueryValue.{QueryValue}
 use Rattle.node_links.specs.Requests.{CitedTitleValue}
@@ -41,26 +41,13 @@ compared_as Others query = whole_titles query
 abbrev pub compared : SearchValue → QueryValue
 compared search = compared_as search.scope search.query
 
--- a row of this kind has one of the identifiers of a query
-abbrev pub is_asked_as : Kind → QueryValue → RowValue → Bool
-is_asked_as Serial query row = is_named (print_issn row.identifiers) query.issns || is_named (online_issn row.identifiers) query.issns
-is_asked_as Book query row = is_named (print_isbn row.identifiers) query.isbns || is_named (online_isbn row.identifiers) query.isbns
-
-abbrev pub is_asked : QueryValue → RowValue → Bool
-is_asked query row = is_asked_as (kind row.identifiers) query row
-
 -- the row at a place has one of the identifiers of a query, if there is a row
 abbrev pub is_asked_at : QueryValue → List RowValue → ℕ → Bool
-is_asked_at query rows place = option_map_or (is_asked query) (slice_get rows place) true
+is_asked_at query rows place = option_map_or (has_named query) (slice_get rows place) true
 
--- the grade of a row of this kind that has one of the identifiers, if it matches
-abbrev pub asked_grade_as : Kind → QueryValue → RowValue → Option Grade
-asked_grade_as Serial query row =
-    both_grades (days_grade row.first_day row.last_day query.days) (volume_grade row.first_volume row.last_volume query.volume)
-asked_grade_as Book query row = Some Untested
-
+-- the grade of a row that has one of the identifiers, if it matches
 abbrev pub asked_grade : QueryValue → RowValue → Option Grade
-asked_grade query row = asked_grade_as (kind row.identifiers) query row
+asked_grade query row = grade_as (kind row.identifiers) query row
 
 -- such a row with its grade, and the row at a place
 abbrev pub asked_hit_by : QueryValue → RowValue → Option HitValue

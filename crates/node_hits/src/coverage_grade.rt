@@ -2,28 +2,23 @@
 ghost use Rattle.std.specs.Prelude.{◌≡◌, not, is_some};
 ghost use Rattle.node_hits.specs.Searches.{asked_grade, is_covered, is_dated, is_dated_as, without_volume};
 
-use feed_answer::{Grade, Query, both_grades, days_grade, volume_grade};
+use feed_answer::{Grade, Query, days_grade, named_grade, volume_grade};
 use feed_kbart::{Kind, Row};
 
 /// Returns the grade of a row that has one of the identifiers of a query, if it matches.
 pub(crate) fn asked_grade(row: &Row, query: &Query) -> Option<Grade>
     ensures { result ≡ asked_grade query.now row.now }
 {
-    match row.kind() {
-        Kind::Serial => both_grades(
-            days_grade(row, query.days()),
-            volume_grade(row, query.volume()),
-        ),
-        Kind::Book => Some(Grade::Untested),
-    }
+    named_grade(&row.cells(), query)
 }
 
 /// Returns the same whatever its volumes are.
 pub(crate) fn dated_grade(row: &Row, query: &Query) -> Option<Grade>
     ensures { result ≡ asked_grade (without_volume query.now) row.now }
 {
-    match row.kind() {
-        Kind::Serial => days_grade(row, query.days()),
+    let cells = row.cells();
+    match cells.kind() {
+        Kind::Serial => days_grade(&cells, query.days()),
         Kind::Book => Some(Grade::Untested),
     }
 }
@@ -43,10 +38,11 @@ fn is_covered(grade: Option<Grade>) -> bool
 pub(crate) fn is_dated(row: &Row, query: &Query) -> bool
     ensures { result ≡ is_dated query.now row.now }
 {
-    match row.kind() {
+    let cells = row.cells();
+    match cells.kind() {
         Kind::Serial => {
-            is_covered(days_grade(row, query.days()))
-                && !volume_grade(row, query.volume()).is_some()
+            is_covered(days_grade(&cells, query.days()))
+                && !volume_grade(&cells, query.volume()).is_some()
         }
         Kind::Book => false,
     }

@@ -1,13 +1,12 @@
 //! The places of the first rows that have one of the identifiers of a query.
-ghost use Rattle.std.specs.Prelude.{◌≡◌, IfOk, option_map, take};
+ghost use Rattle.std.specs.Prelude.{◌≡◌, [], IfOk, option_map, take};
 ghost use Rattle.feed_answer.specs.Places.{listed};
-ghost use Rattle.feed_kbart.specs.Places.{has_isbn, has_issn};
+ghost use Rattle.feed_answer.specs.QueryValue.{asked};
 ghost use Rattle.node_hits.specs.Looks.{asked_places, open_places};
 ghost use Rattle.node_hits.specs.Merging.{merged, next_place, with_each};
 
 use crate::hits::LibraryRelease;
 use feed_answer::{Query, RowPlaces};
-use feed_identifiers::{Isbn, Issn};
 use feed_kbart::Holdings;
 use node_site::may_hold;
 use std::alloc::{AllocError, Global};
@@ -70,34 +69,20 @@ fn merge_places(
     Ok(places)
 }
 
-fn with_issns(
+// Returns the places of the first rows that have one of the identifiers of a query, in one list.
+fn with_each(
     alloc: Global,
-    places: Vec<u32>,
     holdings: &Holdings,
-    issns: &[Issn],
+    query: &Query,
     limit: usize,
 ) -> Result<Vec<u32>, AllocError>
-    ensures { IfOk result (λ all. all.items ≡ with_each has_issn limit holdings.now.rows places.items issns.now) }
+    ensures { IfOk result (λ all. all.items ≡ with_each limit holdings.now.rows [] (asked query.now)) }
 {
-    let mut all = places;
-    for issn in issns {
-        all = merge_places(alloc, all, holdings.with_issn(issn), limit)?;
-    }
-    Ok(all)
-}
-
-fn with_isbns(
-    alloc: Global,
-    places: Vec<u32>,
-    holdings: &Holdings,
-    isbns: &[Isbn],
-    limit: usize,
-) -> Result<Vec<u32>, AllocError>
-    ensures { IfOk result (λ all. all.items ≡ with_each has_isbn limit holdings.now.rows places.items isbns.now) }
-{
-    let mut all = places;
-    for isbn in isbns {
-        all = merge_places(alloc, all, holdings.with_isbn(isbn), limit)?;
+    let mut all = Vec::new(alloc);
+    for place in 0..query.count() {
+        if let Some(identifier) = query.identifier(place) {
+            all = merge_places(alloc, all, holdings.with_identifier(&identifier), limit)?;
+        }
     }
     Ok(all)
 }
@@ -112,14 +97,9 @@ fn first_places<'a>(
 ) -> Result<RowPlaces<'a>, AllocError>
     ensures { IfOk result (λ places. listed places ≡ take limit (asked_places query.now holdings.now.rows)) }
 {
-    let (issns, isbns) = (query.issns(), query.isbns());
-    if issns.len() == 1 && isbns.is_empty() {
-        Ok(RowPlaces::Indexed(front(holdings.with_issn(&issns[0]), limit)))
-    } else if issns.is_empty() && isbns.len() == 1 {
-        Ok(RowPlaces::Indexed(front(holdings.with_isbn(&isbns[0]), limit)))
-    } else {
-        let places = with_issns(alloc, Vec::new(alloc), holdings, issns, limit)?;
-        Ok(RowPlaces::Merged(with_isbns(alloc, places, holdings, isbns, limit)?))
+    match query.sole_identifier() {
+        Some(one) => Ok(RowPlaces::Indexed(front(holdings.with_identifier(&one), limit))),
+        None => Ok(RowPlaces::Merged(with_each(alloc, holdings, query, limit)?)),
     }
 }
 
