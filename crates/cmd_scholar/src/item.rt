@@ -23,9 +23,10 @@ pub enum LeftOut {
 fn embargo_in(row: &Row) -> Result<Embargo, LeftOut>
     ensures { result ≡ embargo_in row.now }
 {
-    match row.kind() {
+    let cells = row.cells();
+    match cells.kind() {
         Kind::Book => Err(LeftOut::Book),
-        Kind::Serial => Embargo::read(row.embargo()).ok_or(LeftOut::OtherEmbargo),
+        Kind::Serial => Embargo::read(cells.embargo_info).ok_or(LeftOut::OtherEmbargo),
     }
 }
 
@@ -56,13 +57,14 @@ pub fn count_left_out(rows: &[Row], why: LeftOut) -> usize
 fn put_item_with(out: &mut Vec<u8>, row: &Row, embargo: Embargo) -> Result<(), AllocError>
     ensures { OnOk result (out.new.items ≡ out.old.items ++ xml_text (item_with embargo row.now)) }
 {
-    let first = row.first_day();
-    let last = row.last_day();
+    let cells = row.cells();
+    let first = cells.first_day();
+    let last = cells.last_day();
     put_all(
         out,
         &[
             ScholarFragment::Opened(ITEM),
-            ScholarFragment::Leaf(TITLE, row.title()),
+            ScholarFragment::Leaf(TITLE, cells.publication_title),
             ScholarFragment::Issn(row.print()),
             ScholarFragment::Issn(row.online()),
             ScholarFragment::Opened(COVERAGE),

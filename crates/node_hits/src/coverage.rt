@@ -100,8 +100,9 @@ fn span_words(
 pub fn days_words(alloc: Global, row: &Row) -> Result<Vec<u8>, AllocError>
     ensures { IfOk result (λ words. words.items ≡ days_words row.now) }
 {
-    let first = day_text(alloc, row.first_day())?;
-    let last = day_text(alloc, row.last_day())?;
+    let cells = row.cells();
+    let first = day_text(alloc, cells.first_day())?;
+    let last = day_text(alloc, cells.last_day())?;
     span_words(alloc, b"from ", b"up to ", b"from ", &first, &last)
 }
 
@@ -110,8 +111,9 @@ pub fn days_words(alloc: Global, row: &Row) -> Result<Vec<u8>, AllocError>
 pub fn volumes_words(alloc: Global, row: &Row) -> Result<Vec<u8>, AllocError>
     ensures { IfOk result (λ words. words.items ≡ volumes_words row.now) }
 {
-    let first = volume_text(alloc, row.first_volume())?;
-    let last = volume_text(alloc, row.last_volume())?;
+    let (first, last) = row.cells().volumes();
+    let first = volume_text(alloc, first)?;
+    let last = volume_text(alloc, last)?;
     span_words(
         alloc,
         b"from volume ",

@@ -105,13 +105,14 @@ impl<'a> ReleaseHit<'a> {
             (hit_of hit.now)) }
     {
         let (site, name, row) = (release.site, release.name, hit.row);
-        let (first, last) = (row.first_day(), row.last_day());
+        let cells = row.cells();
+        let (first, last) = (cells.first_day(), cells.last_day());
         let days = search.days();
-        let availability = availability_of(release.today, row.embargo(), first, last, days);
+        let availability = availability_of(release.today, cells.embargo_info, first, last, days);
         let article = article_len(alloc, search, links, availability, name, row)?;
         let is_direct = is_direct(site, name.package(), is_free(row));
-        let prefix = links.prefix_for(alloc, row.url(), is_direct)?;
-        let kind = row.kind();
+        let prefix = links.prefix_for(alloc, cells.title_url, is_direct)?;
+        let kind = cells.kind();
         let is_first = search.is_first(kind);
         Ok(ReleaseHit {
             site,
@@ -349,8 +350,9 @@ fn article_len(
         ≡ option_map length (article_of links.old.site search.now availability name.now row.now)) }
 {
     if leads_to_article(search.scope(), availability, row) {
-        let (id, url) = (name.package(), row.url());
-        links.article_len(alloc, id, url, is_free(row), row.title_id())
+        let cells = row.cells();
+        let (id, url) = (name.package(), cells.title_url);
+        links.article_len(alloc, id, url, is_free(row), cells.title_id)
     } else {
         Ok(None)
     }
@@ -374,8 +376,9 @@ fn holds_day(site: &SiteFile, name: &ReleaseName, row: &Row, day: i32) -> bool
         first: day,
         last: day,
     });
-    let (first, last) = (row.first_day(), row.last_day());
-    library_has(site, name.package(), row.title_id(), first, last, asked)
+    let cells = row.cells();
+    let (first, last) = (cells.first_day(), cells.last_day());
+    library_has(site, name.package(), cells.title_id, first, last, asked)
 }
 
 // Returns whether the library has all days that are asked for. Its own days are those from one to another, so it has
@@ -396,9 +399,10 @@ fn is_held_on(site: &SiteFile, name: &ReleaseName, row: &Row, days: Option<DayRa
     ensures { result ≡ library_has site.now name.now.package_name row.now.title_id row.now.first_day row.now.last_day
         (days_asked (kind row.now.identifiers) days) }
 {
-    let (first, last) = (row.first_day(), row.last_day());
-    let asked = days_asked(row.kind(), days);
-    library_has(site, name.package(), row.title_id(), first, last, asked)
+    let cells = row.cells();
+    let (first, last) = (cells.first_day(), cells.last_day());
+    let asked = days_asked(cells.kind(), days);
+    library_has(site, name.package(), cells.title_id, first, last, asked)
 }
 
 // Returns whether the library has what a query asks for of a hit of a release.

@@ -81,17 +81,18 @@ fn put_grade_members(out: &mut Vec<u8>, found: &ReleaseHit<'_>) -> Result<(), Al
 fn put_title_members<'a>(out: &mut Vec<u8>, row: &'a Row, link: &'a [u8]) -> Result<(), AllocError>
     ensures { OnOk result (out.new.items ≡ out.old.items ++ title_members row.now link.now) }
 {
+    let cells = row.cells();
     put_all(
         out,
         &[
             Fragment::Plain(b",\"title\":"),
-            Fragment::Quoted(row.title()),
+            Fragment::Quoted(cells.publication_title),
             Fragment::Plain(b",\"url\":"),
             Fragment::Quoted(link),
             Fragment::Plain(b",\"title_id\":"),
-            Fragment::Quoted(row.title_id()),
+            Fragment::Quoted(cells.title_id),
             Fragment::Plain(b",\"depth\":"),
-            Fragment::Quoted(row.depth()),
+            Fragment::Quoted(cells.coverage_depth),
         ],
     )
 }
@@ -122,8 +123,9 @@ fn put_target_members(out: &mut Vec<u8>, row: &Row) -> Result<(), AllocError>
 fn put_days_members(out: &mut Vec<u8>, row: &Row) -> Result<(), AllocError>
     ensures { OnOk result (out.new.items ≡ out.old.items ++ days_members row.now) }
 {
-    let first = day_text(*out.allocator(), row.first_day())?;
-    let last = day_text(*out.allocator(), row.last_day())?;
+    let cells = row.cells();
+    let first = day_text(*out.allocator(), cells.first_day())?;
+    let last = day_text(*out.allocator(), cells.last_day())?;
     let words = days_words(*out.allocator(), row)?;
     put_all(
         out,
@@ -141,8 +143,9 @@ fn put_days_members(out: &mut Vec<u8>, row: &Row) -> Result<(), AllocError>
 fn put_volumes_members(out: &mut Vec<u8>, row: &Row) -> Result<(), AllocError>
     ensures { OnOk result (out.new.items ≡ out.old.items ++ volumes_members row.now) }
 {
-    let first = volume_text(*out.allocator(), row.first_volume())?;
-    let last = volume_text(*out.allocator(), row.last_volume())?;
+    let (first, last) = row.cells().volumes();
+    let first = volume_text(*out.allocator(), first)?;
+    let last = volume_text(*out.allocator(), last)?;
     let words = volumes_words(*out.allocator(), row)?;
     put_all(
         out,
@@ -178,15 +181,16 @@ fn put_access_members<'a>(
     ensures { OnOk result (out.new.items
         ≡ out.old.items ++ access_members row.now words.now article.now note.now end.now) }
 {
+    let cells = row.cells();
     put_all(
         out,
         &[
             Fragment::Plain(b",\"embargo\":"),
-            Fragment::Quoted(row.embargo()),
+            Fragment::Quoted(cells.embargo_info),
             Fragment::Plain(b",\"embargo_words\":"),
             Fragment::Quoted(words),
             Fragment::Plain(b",\"access\":"),
-            Fragment::Quoted(row.access()),
+            Fragment::Quoted(cells.access_type),
             Fragment::Plain(b",\"article\":"),
             Fragment::Quoted(article),
             Fragment::Plain(b",\"note\":"),

@@ -43,16 +43,16 @@ impl<'a> Model for Shown<'a> {
 fn bytes_after(bytes: usize, found: &ReleaseHit<'_>) -> usize
     ensures { result ≡ bytes - text_size found.now }
 {
-    let row = found.row();
+    let cells = found.row().cells();
     found
         .left_beside_page(bytes)
         .saturating_sub(found.name().package().len())
         .saturating_sub(name_text(found.name()).len())
-        .saturating_sub(row.title().len())
-        .saturating_sub(row.title_id().len())
-        .saturating_sub(row.depth().len())
-        .saturating_sub(row.embargo().len())
-        .saturating_sub(row.access().len())
+        .saturating_sub(cells.publication_title.len())
+        .saturating_sub(cells.title_id.len())
+        .saturating_sub(cells.coverage_depth.len())
+        .saturating_sub(cells.embargo_info.len())
+        .saturating_sub(cells.access_type.len())
         .saturating_sub(found.article_len())
         .saturating_sub(found.note().len())
 }

@@ -19,12 +19,13 @@ pub(crate) struct TextRoom {
 pub(crate) fn text_looks(row: &Row) -> usize
     ensures { result ≡ text_looks row.now }
 {
-    row.title().len() / LOOK_SIZE
-        + row.url().len() / LOOK_SIZE
-        + row.title_id().len() / LOOK_SIZE
-        + row.depth().len() / LOOK_SIZE
-        + row.embargo().len() / LOOK_SIZE
-        + row.access().len() / LOOK_SIZE
+    let cells = row.cells();
+    cells.publication_title.len() / LOOK_SIZE
+        + cells.title_url.len() / LOOK_SIZE
+        + cells.title_id.len() / LOOK_SIZE
+        + cells.coverage_depth.len() / LOOK_SIZE
+        + cells.embargo_info.len() / LOOK_SIZE
+        + cells.access_type.len() / LOOK_SIZE
 }
 
 impl TextRoom {

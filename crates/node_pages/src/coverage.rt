@@ -125,8 +125,9 @@ fn date_of(day: Option<i32>) -> Option<[u8; 10]>
 fn put_days(out: &mut Vec<u8>, site: &SiteFile, row: &Row) -> Result<(), AllocError>
     ensures { OnOk result (out.new.items ≡ out.old.items ++ days_words site.now row.now) }
 {
-    let first = date_of(row.first_day());
-    let last = date_of(row.last_day());
+    let cells = row.cells();
+    let first = date_of(cells.first_day());
+    let last = date_of(cells.last_day());
     match (&first, &last) {
         (Some(first), Some(last)) => {
             let in_years = begins_year(first) && ends_year(last);
@@ -187,7 +188,7 @@ fn put_volumes_between(
 fn put_volumes(out: &mut Vec<u8>, site: &SiteFile, row: &Row) -> Result<(), AllocError>
     ensures { OnOk result (out.new.items ≡ out.old.items ++ volumes_words site.now row.now) }
 {
-    match (row.first_volume(), row.last_volume()) {
+    match row.cells().volumes() {
         (Some(first), Some(last)) => put_volumes_between(out, site, first, last),
         (Some(first), None) => put_volume_sentence(out, site, Text::FromVolume, first),
         (None, Some(last)) => put_volume_sentence(out, site, Text::UpToVolume, last),

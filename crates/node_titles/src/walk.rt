@@ -91,16 +91,21 @@ fn is_held(site: &SiteFile, name: &ReleaseName, row: &Row) -> bool
     ensures { result ≡ library_has site.now name.now.package_name row.now.title_id row.now.first_day row.now.last_day
         None }
 {
-    let (first, last) = (row.first_day(), row.last_day());
-    library_has(site, name.package(), row.title_id(), first, last, None)
+    let cells = row.cells();
+    let (first, last) = (cells.first_day(), cells.last_day());
+    library_has(site, name.package(), cells.title_id, first, last, None)
 }
 
 // Returns whether a row is short enough to be found.
 fn is_short(row: &Row) -> bool
     ensures { result ≡ is_short row.now }
 {
-    let bytes = row.title().len().saturating_add(row.depth().len());
-    bytes.saturating_add(row.embargo().len()) <= ROW_LIMIT
+    let cells = row.cells();
+    let bytes = cells
+        .publication_title
+        .len()
+        .saturating_add(cells.coverage_depth.len());
+    bytes.saturating_add(cells.embargo_info.len()) <= ROW_LIMIT
 }
 
 // Tests the length first, so that a long title is neither folded nor searched.
@@ -125,10 +130,11 @@ fn is_found(
 fn bytes_after(bytes: usize, row: &Row) -> usize
     ensures { result ≡ bytes_after bytes row.now }
 {
+    let cells = row.cells();
     bytes
-        .saturating_sub(row.title().len())
-        .saturating_sub(row.depth().len())
-        .saturating_sub(row.embargo().len())
+        .saturating_sub(cells.publication_title.len())
+        .saturating_sub(cells.coverage_depth.len())
+        .saturating_sub(cells.embargo_info.len())
 }
 
 // Returns the rows behind the first ones.

@@ -1,5 +1,6 @@
 use Rattle.std.proofs.Common.{◌∙◌, ap}
 use Rattle.std.proofs.lemmas.Result.{on_ok_weaker}
+use Rattle.feed_kbart.specs.RowValue.{RowValue}
 use Rattle.node_hits.specs.Coverages.{day_text}
 use Rattle.node_hits.proofs.Written.{days_written}
 use Rattle.node_hits.proofs.hits_json.put_days_members.Goals as goal
@@ -7,6 +8,7 @@ use Rattle.node_hits.proofs.hits_json.put_days_members.Goals as goal
 pub returns : goal.returns
 returns c = on_ok_weaker c.put_all.result
     (days_written c.args.out.now.items c.put_all.new.out.items c.deref.result.now c.deref-2.result.now c.deref-3.result.now c.args.row.now
-    (c.deref.ensures.value ∙ c.in_ok-first.ensures ∙ ap day_text c.first_day.ensures) (c.deref-2.ensures.value ∙ c.in_ok-last.ensures ∙ ap day_text c.last_day.ensures)
+    (c.deref.ensures.value ∙ c.in_ok-first.ensures ∙ ap day_text (c.first_day.ensures ∙ ap (λ (row : RowValue). row.first_day) c.cells-cells.ensures.content))
+    (c.deref-2.ensures.value ∙ c.in_ok-last.ensures ∙ ap day_text (c.last_day.ensures ∙ ap (λ (row : RowValue). row.last_day) c.cells-cells.ensures.content))
     (c.deref-3.ensures.value ∙ c.in_ok-words.ensures))
     c.put_all.ensures
