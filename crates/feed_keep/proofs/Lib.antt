@@ -7,3 +7,4 @@ mod Listed
 pub mod Failed
 pub mod Ascending
 pub mod Strict
+mod Later

@@ -9,3 +9,4 @@ pub mod InMemory
 pub mod BadFile
 pub mod CheckOrder
 pub mod Capacity
+pub mod Retired
