@@ -1,18 +1,18 @@
 -- Records of a keeper, one after another, and what they say together.
-use Rattle.std.proofs.Common.{◌≡◌, ◌<◌, ◌≤◌, ◌+◌, ◌++◌, ℕ, zero, suc, List, [], ◌∷◌, length, sum_by, get_or, Option, Some, None, is_some, false, ◌⊎◌, inl, inr, refl, sym, ◌∙◌, ap, subst, arith}
-use Rattle.std.specs.List.{IsDistinct, All}
+use Rattle.std.proofs.Common.{◌≡◌, ◌<◌, ◌≤◌, ◌+◌, ◌++◌, ℕ, suc, List, [], ◌∷◌, length, sum_by, Option, Some, None, is_some, false, refl, sym, ◌∙◌, ap, subst, arith}
+use Rattle.std.specs.List.{All, IsDistinct}
 use Rattle.std.proofs.lemmas.List.Sums.{sum_by-cons}
-use Rattle.std.proofs.lemmas.List.Elements.{All-nil, All-cons, All-head, All-tail, All-map, All-append}
-use Rattle.feed_names.specs.ReleaseName.{Name, name_eq}
-use Rattle.feed_model.specs.Content.{Record, Content, names, within}
+use Rattle.std.proofs.lemmas.List.Elements.{All-nil, All-cons, All-head, All-tail, All-append}
+use Rattle.feed_names.specs.ReleaseName.{name_eq}
 use Rattle.feed_model.specs.Handles.{HasLaterActive}
+use Rattle.feed_model.specs.Content.{Record, Content, names, within}
 use Rattle.feed_model.specs.Sound.{IsSoundRecord, IsSound}
 use Rattle.feed_keep.specs.declared.record.Record as code
 use Rattle.feed_keep.specs.Shown.{shown, shown_record}
-use Rattle.feed_releases.specs.ReleaseValue.{ReleaseValue, content_of, IsActiveAfter}
+use Rattle.feed_releases.specs.ReleaseValue.{ReleaseValue, content_of}
 use Rattle.feed_releases.specs.Reopening.{CheckValue, IsReopening, content_in, records_in}
 use Rattle.feed_releases.specs.ReopeningSteps.{IsNext}
-use Rattle.feed_releases.proofs.Finding.{length-content_of, none_later}
+use Rattle.feed_releases.proofs.Finding.{length-content_of}
 use Rattle.std.proofs.lemmas.List.{append-nil, length-append}
 use Rattle.std.proofs.Math.Seq.{append_snoc}
 
@@ -72,6 +72,17 @@ pushed_content rs now x current check rest others is pushed kept =
     ∙ ap (λ (c : Content). c ++ shown others) (content_of-push rs x ∙ ap (λ (r : Record). content_of rs ++ r ∷ []) kept)
     ∙ append_snoc (content_of rs) check.kept (shown others) ∙ next_content rs current (Some check) rest others is
 
+-- no record was checked
+pub reopening_begun : {most : ℕ} (rs : List ReleaseValue) (records rest : List code.Record) (room : ℕ) → rs ≡ [] → rest ≡ records → IsDistinct name_eq (names (shown records))
+    → All (λ r. ¬ (HasLaterActive (shown records) r.name)) (shown records) → length records ≤ most → length records ≤ room → IsReopening most rs room (content_in rs None rest)
+reopening_begun rs records rest room none same distinct current few places = rw (none, same) (record {
+  distinct = distinct;
+  few = omega (arith, few, length-shown_records records);
+  current = current;
+  sound = All-nil IsSoundRecord;
+  room = omega (arith, places, length-shown_records records);
+})
+
 pub reopening_further : {most : ℕ} (rs : List ReleaseValue) (room : ℕ) (was now : Content) → now ≡ was → IsReopening most rs room was → IsReopening most rs room now
 reopening_further rs room was now same is = subst (IsReopening _ rs room) (sym same) is
 
@@ -80,6 +91,7 @@ pub reopening_pushed : {most : ℕ} (rs after : List ReleaseValue) (x : ReleaseV
 reopening_pushed rs after x r room more was now pushed kept sound same capacity is = rw (same, capacity) (record {
   distinct = is.distinct;
   few = is.few;
+  current = is.current;
   sound = subst (All IsSoundRecord) (sym (ap content_of pushed ∙ content_of-push rs x ∙ ap (λ (y : Record). content_of rs ++ y ∷ []) kept))
       (All-append IsSoundRecord (content_of rs) (r ∷ []) is.sound (All-cons IsSoundRecord r [] sound (All-nil IsSoundRecord)));
   room = is.room;
@@ -114,56 +126,10 @@ pub reopened_all : (rs : List ReleaseValue) (current : Option CheckValue) (rest 
 reopened_all rs current rest others is =
     sym (append-nil (content_of rs)) ∙ ap (λ (ys : List code.Record). content_of rs ++ shown ys) (sym is.none) ∙ next_content rs current None rest others is
 
-pub reopened_distinct : {most : ℕ} (rs : List ReleaseValue) (room : ℕ) (content : Content) → content_of rs ≡ content → IsReopening most rs room content → IsDistinct name_eq (names (content_of rs))
-reopened_distinct rs room content same is = subst (λ (c : Content). IsDistinct name_eq (names c)) (sym same) is.distinct
-
-pub reopened_sound : {most : ℕ} (rs : List ReleaseValue) (room : ℕ) (content : Content) → content_of rs ≡ content → IsReopening most rs room content
-    → All (λ r. ¬ (HasLaterActive (content_of rs) r.name)) (content_of rs) → IsSound (within most content)
-reopened_sound rs room content same is current = record {
+pub reopened_sound : {most : ℕ} (rs : List ReleaseValue) (room : ℕ) (content : Content) → content_of rs ≡ content → IsReopening most rs room content → IsSound (within most content)
+reopened_sound rs room content same is = record {
   distinct = is.distinct;
   few = is.few;
   each = subst (All IsSoundRecord) same is.sound;
-  current = subst (λ (c : Content). All (λ r. ¬ (HasLaterActive c r.name)) c) same current;
+  current = is.current;
 }
-
-pub reopened_late : {most : ℕ} (rs : List ReleaseValue) (content : Content) → content_of rs ≡ content → (All (λ r. ¬ (HasLaterActive (content_of rs) r.name)) (content_of rs) → ⊥)
-    → IsSound (within most content) → ⊥
-reopened_late rs content same late sound = late (subst (λ (c : Content). All (λ r. ¬ (HasLaterActive c r.name)) c) (sym same) sound.current)
-
--- no release so far has a later active one
-abbrev pub NoneLater : List ReleaseValue → ℕ → Type 0
-NoneLater rs n = (k : ℕ) (d : ReleaseValue) → k < n → HasLaterActive (content_of rs) (get_or rs k d).kept.name → ⊥
-
--- a later active record is a later active release
-pub passed_at : (rs : List ReleaseValue) (n : Name) → HasLaterActive (content_of rs) n → ((k : ℕ) (d : ReleaseValue) → k < length rs → IsActiveAfter n (get_or rs k d) → ⊥) → ⊥
-passed_at rs n later none = none_later rs n none later.0 later.1 later.2 later.3
-
-pub none_later_next : (rs : List ReleaseValue) (n : ℕ) (r : ReleaseValue) → NoneLater rs n → n < length rs → r ≡ get_or rs n r → (HasLaterActive (content_of rs) r.kept.name → ⊥)
-    → NoneLater rs (n + 1)
-none_later_next rs n r before lt here not k d less later = pick (split k n less)
-  where
-    split : (a b : ℕ) → a < b + 1 → (a < b) ⊎ (a ≡ b)
-    split a b l = grind arith
-
-    same : (xs : List ReleaseValue) (i : ℕ) (a b : ReleaseValue) → i < length xs → get_or xs i a ≡ get_or xs i b
-    same [] i a b l = absurd (omega arith)
-    same (x ∷ xs) zero a b l = refl
-    same (x ∷ xs) (suc i) a b l = same xs i a b (omega arith)
-
-    pick : (k < n) ⊎ (k ≡ n) → ⊥
-    pick (inl l) = before k d l later
-    pick (inr e) = not (subst (λ (x : ReleaseValue). HasLaterActive (content_of rs) x.kept.name) (ap (λ i. get_or rs i d) e ∙ same rs n d r lt ∙ sym here) later)
-
-content_of-at : (rs : List ReleaseValue) (k : ℕ) (d : Record) (e : ReleaseValue) → k < length rs → get_or (content_of rs) k d ≡ (get_or rs k e).kept
-content_of-at [] k d e lt = absurd (omega arith)
-content_of-at (r ∷ rs) zero d e lt = refl
-content_of-at (r ∷ rs) (suc k) d e lt = content_of-at rs k d e (omega arith)
-
-pub none_later_all : (rs : List ReleaseValue) (n : ℕ) → NoneLater rs n → length rs ≤ n → All (λ r. ¬ (HasLaterActive (content_of rs) r.name)) (content_of rs)
-none_later_all rs n none le = All-map (λ r. ¬ (HasLaterActive (content_of rs) r.name)) (λ (r : ReleaseValue). r.kept) rs (λ k d lt. none k d (omega (arith, lt, le)))
-
-pub one_later : (rs : List ReleaseValue) (n : ℕ) (r : ReleaseValue) → n < length rs → r ≡ get_or rs n r → HasLaterActive (content_of rs) r.kept.name
-    → All (λ r. ¬ (HasLaterActive (content_of rs) r.name)) (content_of rs) → ⊥
-one_later rs n r lt here later all =
-    all n r.kept (omega (arith, lt, length-content_of rs)) (subst (λ (x : Record). HasLaterActive (content_of rs) x.name)
-    (ap (λ (x : ReleaseValue). x.kept) here ∙ sym (content_of-at rs n r.kept r lt)) later)

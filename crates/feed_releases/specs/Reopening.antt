@@ -4,6 +4,7 @@ use Rattle.std.specs.List.{IsDistinct, All}
 use Rattle.feed_names.specs.ReleaseName.{name_eq}
 use Rattle.feed_model.specs.Reply.{max_file, missing_below}
 use Rattle.feed_model.specs.Content.{Part, Record, Content, byte_in, names}
+use Rattle.feed_model.specs.Handles.{HasLaterActive}
 use Rattle.feed_model.specs.Parts.{AreWithin}
 use Rattle.feed_model.specs.Sound.{IsSoundRecord}
 use Rattle.feed_keep.specs.declared.record.Record as code
@@ -53,10 +54,11 @@ pub record ReopeningValue : Type 0 where
   pub most : ℕ
   pub left : ℕ
 
--- the releases so far are sound, and there is room for all; no name appears twice, and there are at most as many as a
--- feed may have
+-- the releases so far are sound, and there is room for all; no name appears twice, none has a later active one in its
+-- package, and there are at most as many as a feed may have
 pub record IsReopening (most : ℕ) (releases : List ReleaseValue) (places : ℕ) (content : Content) : Type 0 where
   pub distinct : IsDistinct name_eq (names content)
   pub few : length content ≤ most
+  pub current : All (λ r. ¬ (HasLaterActive content r.name)) content
   pub sound : All IsSoundRecord (content_of releases)
   pub room : length content ≤ places

@@ -1,19 +1,16 @@
 //! Rebuilds the releases of a feed from the records of its keeper, in steps.
-ghost use Rattle.std.specs.Prelude.{◌≡◌, ◌↔◌, ◌⊎◌, ◌++◌, ◌≤◌, length, All, IfOk, IfErr, IsTrue};
+ghost use Rattle.std.specs.Prelude.{◌≡◌, ◌⊎◌, ◌++◌, ◌≤◌, length, All, IfOk, IfErr};
 ghost use Rattle.std.specs.List.{IsDistinct};
 ghost use Rattle.std.specs.Vec.Iter.{into_iter_items};
 ghost use Rattle.feed_names.specs.ReleaseName.{name_eq};
 ghost use Rattle.feed_model.specs.Content.{names, within};
-ghost use Rattle.feed_model.specs.Handles.{HasLaterActive};
 ghost use Rattle.feed_model.specs.Sound.{IsSound, IsSoundRecord};
 ghost use Rattle.feed_keep.specs.Shown.{shown};
-ghost use Rattle.feed_releases.specs.ReleaseValue.{content_of};
 ghost use Rattle.feed_releases.specs.Reopening.{records_in};
 ghost use Rattle.feed_releases.specs.ReopeningSteps.{IsNext, IsReopeningStep};
 
 use crate::release::{RecordCheck, RecordStep, Release};
-use crate::releases::is_passed;
-use feed_keep::Record;
+use feed_keep::{Record, are_current};
 use feed_model::KeepFault;
 use std::alloc::Global;
 use std::marker::Model;
@@ -57,7 +54,8 @@ pub(crate) enum ReopeningStep {
 }
 
 impl Reopening {
-    /// Returns the records before any check. The error is `Damaged` if there are more than `most`.
+    /// Returns the records before any check of a file. The error is `Damaged` if there are more than `most`, or if one
+    /// has a later active one in its package.
     pub(crate) fn of(
         alloc: Global,
         records: Vec<Record>,
@@ -71,6 +69,11 @@ impl Reopening {
     {
         if records.len() > most {
             return Err(KeepFault::Damaged);
+        }
+        match are_current(alloc, &records) {
+            Ok(true) => {}
+            Ok(false) => return Err(KeepFault::Damaged),
+            Err(_) => return Err(KeepFault::Memory),
         }
         let Ok(releases) = Vec::with_capacity(alloc, records.len()) else {
             return Err(KeepFault::Memory);
@@ -104,13 +107,7 @@ impl Reopening {
         } = self;
         let check = match next_check(alloc, current, &mut rest, in_steps) {
             Ok(Some(check)) => check,
-            Ok(None) => {
-                return if are_current(&releases) {
-                    Ok(ReopeningStep::Done(releases))
-                } else {
-                    Err(KeepFault::Damaged)
-                };
-            }
+            Ok(None) => return Ok(ReopeningStep::Done(releases)),
             Err(cause) => return Err(cause),
         };
         match check.step(alloc) {
@@ -155,18 +152,4 @@ fn next_check(
         Some(check) => Ok(Some(check)),
         None => Err(KeepFault::Damaged),
     }
-}
-
-// Returns whether no release has a later active one in its package.
-fn are_current(releases: &[Release]) -> bool
-    requires distinct { IsDistinct name_eq (names (content_of releases.now)) }
-    ensures { IsTrue result ↔ All (λ r. ¬ (HasLaterActive (content_of releases.now) r.name))
-        (content_of releases.now) }
-{
-    for release in releases {
-        if is_passed(releases, release.name()) {
-            return false;
-        }
-    }
-    true
 }

@@ -1,24 +1,15 @@
-use Rattle.std.proofs.Common.{inl, inr, refl}
+use Rattle.std.proofs.Common.{inl, inr}
 use Rattle.std.specs.Prelude.{vec_capacity}
 use Rattle.std.specs.Vec.Iter.{into_iter_items}
-use Rattle.feed_releases.proofs.Reopened.{pushed_content, reopened_all, reopened_late, reopened_not, reopened_rest_not, reopened_sound, reopening_pushed}
+use Rattle.feed_releases.proofs.Reopened.{pushed_content, reopened_all, reopened_not, reopened_rest_not, reopened_sound, reopening_pushed}
 use Rattle.feed_releases.proofs.feed.reopen.Reopening.step.Goals as goal
 
-pub returns-then-are_current-clause-ok : goal.returns-then-are_current-clause-ok
-returns-then-are_current-clause-ok c =
+pub returns-in-Ok-None-clause-ok : goal.returns-in-Ok-None-clause-ok
+returns-in-Ok-None-clause-ok c =
     let i = c.self.inside in
     let next = rw c.in-Ok-None.field-0-is at c.in-Ok-None.ensures.ok in
     let same = reopened_all i.releases.items i.current (into_iter_items i.rest) (into_iter_items c.next_check.new.rest) next in
-    let current = rw c.deref.ensures.value at c.are_current.ensures in
-    rw (← c.self.view_is) (same, reopened_sound i.releases.items (vec_capacity i.releases) _ same c.self.invariant (current.0 (rw c.if-are_current.true refl)))
-
-pub returns-else-are_current-clause-err : goal.returns-else-are_current-clause-err
-returns-else-are_current-clause-err c =
-    let i = c.self.inside in
-    let next = rw c.in-Ok-None.field-0-is at c.in-Ok-None.ensures.ok in
-    let same = reopened_all i.releases.items i.current (into_iter_items i.rest) (into_iter_items c.next_check.new.rest) next in
-    let current = rw c.deref.ensures.value at c.are_current.ensures in
-    inr (refl, rw (← c.self.view_is) (reopened_late i.releases.items _ same (λ all. (let t = current.1 all in let f = c.if-are_current.false in absurd (cc)))))
+    rw (← c.self.view_is) (same, reopened_sound i.releases.items (vec_capacity i.releases) _ same c.self.invariant)
 
 pub returns-in-Err-clause-err : goal.returns-in-Err-clause-err
 returns-in-Err-clause-err c =
