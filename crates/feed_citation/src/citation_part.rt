@@ -66,8 +66,8 @@ pub const PARTS: [CitationPart; 19] = [
     CitationPart::Institution,
 ];
 
-// The name of each part, in the order of the parts.
-static NAMES: [&'static str; 19] = [
+/// The name of each part, in the order of the parts.
+const NAMES: [&str; 19] = [
     "article", "title", "author", "date", "volume", "issue", "page", "doi", "pmid", "genre",
     "aulast", "aufirst", "epage", "pages", "series", "edition", "pub", "place", "inst",
 ];

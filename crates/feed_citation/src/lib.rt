@@ -2,5 +2,7 @@
 #![tactic(auto)]
 
 mod citation_part;
+mod laws;
 
 pub use citation_part::{CitationPart, PARTS};
+pub use laws::{parts_are_in_place, parts_are_named};
