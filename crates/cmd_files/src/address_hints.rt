@@ -71,7 +71,7 @@ fn host_in(url: &str) -> Option<&str> {
     }
 }
 
-// Returns whether an address ends with a colon and a number that is no port.
+// Returns whether an address ends with a colon and a number that is not a port.
 fn has_large_port(addr: &str) -> bool {
     match addr.rsplit_once(':') {
         Some((_, port)) => is_number(port) && port.parse::<u16>().is_err(),
