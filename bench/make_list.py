@@ -187,10 +187,9 @@ def plain_issn(number):
     return f"{digits[:4]}-{digits[4:]}{'X' if check == 10 else check}"
 
 
-def plain_list(first, end):
-    """Returns a list whose rows have the numbers from the first to the one before the end: an ISSN for each."""
-    rows = [f"Journal {at}\t{plain_issn(at)}\t\t1990\t1\t\t\thttps://a.example/{at}\tfulltext\n"
-            for at in range(first, end)]
+def plain_list(numbers):
+    """Returns a list with a row for each of these numbers: an ISSN for each."""
+    rows = [f"Journal {at}\t{plain_issn(at)}\t\t1990\t1\t\t\thttps://a.example/{at}\tfulltext\n" for at in numbers]
     return ("\t".join(PLAIN) + "\n" + "".join(rows)).encode()
 
 

@@ -23,30 +23,36 @@ TARGETS = {"status": "/status", "of-one": "/resolve/{package}?issn={issn}", "of-
            "titles": "/titles?q=Journal", "metrics": "/metrics", "front": "/", "feed": "/feed",
            "feed-json": "/feed?format=json"}
 SWITCHES = 9
+# A dear query: as many ISSNs as one may have, in each representation.
+ASKED = 64
+REPRESENTATIONS = ["text", "json", "html", "fragment", "sfx"]
 # For what memory is allocated: the bytes and the rows of a list, the toolchain's SQLite, and all else of a node.
 OWNERS = ["list", "sqlite", "beside"]
 
 
-def lists_of(packages, rows, day=DAYS[0]):
-    """Yields the names and the bytes of the lists of so many packages, which have so many rows together."""
+def lists_of(packages, rows, day=DAYS[0], issns=None):
+    """Yields the names and the bytes of the lists of so many packages, which have so many rows together: each an ISSN
+    of its own, or so many in turn."""
     for at in range(packages):
-        yield f"P{at:04}_{day}.txt", plain_list(rows * at // packages, rows * (at + 1) // packages)
+        numbers = range(rows * at // packages, rows * (at + 1) // packages)
+        yield f"P{at:04}_{day}.txt", plain_list([it % issns for it in numbers] if issns else numbers)
 
 
-def database_of(shop, packages, rows):
-    """Returns a database with an active release of each of so many packages. Python's sqlite3 makes it, in seconds."""
+def database_of(shop, packages, rows, issns=None):
+    """Returns a database with an active release of each of so many packages, with so many ISSNs or one for each row.
+    Python's sqlite3 makes it, in seconds."""
     def make():
         path = shop.fresh(".db")
         with contextlib.closing(sqlite3.connect(path)) as base:
             base.execute("PRAGMA journal_mode = WAL")
             base.executescript(f"{TABLES} INSERT INTO feed_layout VALUES (2);")
-            for name, text in lists_of(packages, rows):
+            for name, text in lists_of(packages, rows, issns=issns):
                 base.execute("INSERT INTO feed_release VALUES (?, ?, ?, ?, 2)", (name, name[:-15], DAY, len(text)))
                 base.executemany("INSERT INTO feed_piece VALUES (?, ?, ?)",
                                  [(name, first, text[first:first + MIB]) for first in range(0, len(text), MIB)])
             base.commit()
         return path
-    return shop.once(("packages", packages, rows), make)
+    return shop.once(("packages", packages, rows, issns), make)
 
 
 def token_of(shop):
@@ -58,10 +64,10 @@ def token_of(shop):
 
 
 @contextlib.contextmanager
-def node_with(shop, packages, rows=None, **started_as):
+def node_with(shop, packages, rows=None, issns=None, **started_as):
     """Runs a node over a copy of a database with so many packages, by default of a row each."""
     database = shop.fresh(".db")
-    shutil.copy(database_of(shop, packages, rows or packages), database)
+    shutil.copy(database_of(shop, packages, rows or packages, issns), database)
     child, port = serving_node(shop, database, "--from", shop.shelf_address(), "--token", token_of(shop),
                                **started_as)
     try:
@@ -162,6 +168,21 @@ def packages_requests(shop):
     yield from figures_of("packages-requests", units, runners, ("nginx",))
 
 
+def asked_dearly(shop, packages, rows):
+    """Returns the time of a query with 64 ISSNs in each representation, of a node whose rows all have one of them."""
+    query = "&".join(f"rft.issn={plain_issn(it)}" for it in range(ASKED))
+    with node_with(shop, packages, rows, ASKED) as (_, port):
+        return asked(port, [f"/resolve?format={it}&rft.date=1995&{query}" for it in REPRESENTATIONS])
+
+
+def packages_dear(shop):
+    """The dearest queries: 64 ISSNs, over a package with 5,000 rows, and over 4,000 packages that have all of them."""
+    units = {f"-{it}": "ms" for it in REPRESENTATIONS}
+    runners = {KBFEED: lambda: asked_dearly(shop, MANY, MANY * ASKED),
+               "1 package": lambda: asked_dearly(shop, 1, 5_000)}
+    yield from figures_of("packages-dear", units, runners, ("nginx",))
+
+
 def resident(shop, packages, rows):
     """Returns the memory in bytes of a node that answers from so many packages, which have so many rows together."""
     with node_with(shop, packages, rows) as (child, _):
@@ -232,4 +253,4 @@ def packages_feed(shop):
 
 
 GROUPS = {"packages-open": packages_open, "packages-switch": packages_switch, "packages-requests": packages_requests,
-          "packages-memory": packages_memory, "packages-feed": packages_feed}
+          "packages-dear": packages_dear, "packages-memory": packages_memory, "packages-feed": packages_feed}
