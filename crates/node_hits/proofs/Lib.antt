@@ -9,6 +9,7 @@ pub mod BooksFirst
 pub mod Tallies
 pub mod Articles
 pub mod Merged
+pub mod Counted
 pub mod PlacesAsked
 pub mod ShareBounds
 pub mod ShownBounds

@@ -61,7 +61,7 @@ both_next x xs ys =
 
 -- ---- the first places of two tests
 
-abbrev merged_by : ℕ → Option (ℕ × List ℕ × List ℕ) → List ℕ
+abbrev pub merged_by : ℕ → Option (ℕ × List ℕ × List ℕ) → List ℕ
 merged_by n next = option_map_or (λ next. next.0 ∷ merged n next.1 next.2) next []
 
 abbrev pub either : (RowValue → Bool) → (RowValue → Bool) → RowValue → Bool
@@ -205,24 +205,19 @@ asked_are query limit rows =
 
 -- one identifier more, or none
 module _ (limit : ℕ) (rows : List RowValue) (some : List Identifier) (i : ℕ) where
-  each_next : (o : Option Identifier) → slice_get some i ≡ o
-      → with_each limit rows [] (take (i + 1) some) ≡ with_each limit rows (with_each limit rows [] (take i some)) (cons_option o [])
-  each_next o at =
-      ap (with_each limit rows []) (taken_next some i o at) ∙ fold-append (λ some one. merged limit some (places_having one rows)) [] (take i some) (cons_option o [])
-
-  pub one_each : (one : Identifier) (old new : List ℕ) → slice_get some i ≡ Some one → new ≡ merged limit old (places_having one rows)
+  pub each_next : (old new : List ℕ) → new ≡ with_each limit rows old (cons_option (slice_get some i) [])
       → old ≡ with_each limit rows [] (take i some) → new ≡ with_each limit rows [] (take (i + 1) some)
-  one_each one old new at more was = more ∙ ap (λ l. merged limit l (places_having one rows)) was ∙ sym (each_next (Some one) at)
-
-  pub none_each : (old : List ℕ) → slice_get some i ≡ None → old ≡ with_each limit rows [] (take i some) → old ≡ with_each limit rows [] (take (i + 1) some)
-  none_each old at was = was ∙ sym (each_next None at)
+  each_next old new more was =
+      more ∙ ap (λ l. with_each limit rows l (cons_option (slice_get some i) [])) was
+      ∙ sym (ap (with_each limit rows []) (taken_next some i (slice_get some i) refl)
+      ∙ fold-append (λ some one. merged limit some (places_having one rows)) [] (take i some) (cons_option (slice_get some i) []))
 
 -- those of the only one
-pub asked_alone : (query : QueryValue) (one : Identifier) (limit : ℕ) (rows : List RowValue) → sole (asked query) ≡ Some one
-    → take limit (places_having one rows) ≡ take limit (asked_places query rows)
-asked_alone query one limit rows is =
-    ap (take limit) (alike (has_identifier one) (has_named query) rows
-    (λ row. sym (or_false (has_identifier one row)) ∙ ap (λ some. any_one some row) (sym (sole_is (asked query) one is)) ∙ asked_any query row))
+pub asked_alone : (query : QueryValue) (one : Identifier) (rows : List RowValue) → sole (asked query) ≡ Some one
+    → places_having one rows ≡ asked_places query rows
+asked_alone query one rows is =
+    alike (has_identifier one) (has_named query) rows
+    (λ row. sym (or_false (has_identifier one row)) ∙ ap (λ some. any_one some row) (sym (sole_is (asked query) one is)) ∙ asked_any query row)
 
 -- ---- the loop of a merge
 

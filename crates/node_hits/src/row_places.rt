@@ -1,5 +1,6 @@
 //! The places of the first rows that have one of the identifiers of a query.
-ghost use Rattle.std.specs.Prelude.{◌≡◌, [], IfOk, option_map, take};
+ghost use Rattle.std.specs.Prelude.{◌≡◌, [], IfOk, length, min, option_map, take};
+ghost use Rattle.std.specs.List.{cons_option, slice_get};
 ghost use Rattle.feed_answer.specs.Places.{listed};
 ghost use Rattle.feed_answer.specs.QueryValue.{asked};
 ghost use Rattle.node_hits.specs.Looks.{asked_places, open_places};
@@ -69,6 +70,26 @@ fn merge_places(
     Ok(places)
 }
 
+// Returns some places with those of the rows that have the identifier at a place of a query: the first ones.
+fn with_one(
+    alloc: Global,
+    all: Vec<u32>,
+    holdings: &Holdings,
+    query: &Query,
+    place: usize,
+    limit: usize,
+) -> Result<Vec<u32>, AllocError>
+    ensures { IfOk result (λ more. more.items
+        ≡ with_each limit holdings.now.rows all.items (cons_option (slice_get (asked query.now) place) [])) }
+{
+    match query.identifier(place) {
+        Some(identifier) => {
+            merge_places(alloc, all, holdings.with_identifier(&identifier), limit)
+        }
+        None => Ok(all),
+    }
+}
+
 // Returns the places of the first rows that have one of the identifiers of a query, in one list.
 fn with_each(
     alloc: Global,
@@ -80,11 +101,44 @@ fn with_each(
 {
     let mut all = Vec::new(alloc);
     for place in 0..query.count() {
-        if let Some(identifier) = query.identifier(place) {
-            all = merge_places(alloc, all, holdings.with_identifier(&identifier), limit)?;
-        }
+        all = with_one(alloc, all, holdings, query, place, limit)?;
     }
     Ok(all)
+}
+
+// Returns how many rows have one of the identifiers of a query, up to a limit. Looks up no more identifiers once there
+// are so many.
+fn count_each(
+    alloc: Global,
+    holdings: &Holdings,
+    query: &Query,
+    limit: usize,
+) -> Result<usize, AllocError>
+    ensures { IfOk result (λ count. count ≡ min limit (length (asked_places query.now holdings.now.rows))) }
+{
+    let mut all = Vec::new(alloc);
+    for place in 0..query.count() {
+        if all.len() >= limit {
+            return Ok(limit);
+        }
+        all = with_one(alloc, all, holdings, query, place, limit)?;
+    }
+    Ok(all.len())
+}
+
+/// Returns how many rows have one of the identifiers of a query, up to a limit.
+pub(crate) fn place_count(
+    alloc: Global,
+    holdings: &Holdings,
+    query: &Query,
+    limit: usize,
+) -> Result<usize, AllocError>
+    ensures { IfOk result (λ count. count ≡ min limit (length (asked_places query.now holdings.now.rows))) }
+{
+    match query.sole_identifier() {
+        Some(one) => Ok(holdings.with_identifier(&one).len().min(limit)),
+        None => count_each(alloc, holdings, query, limit),
+    }
 }
 
 // Returns the places of the first rows that have one of the identifiers of a query. Those of one identifier are a part

@@ -4,8 +4,9 @@ ghost use Rattle.node_hits.specs.Looks.{open_places};
 ghost use Rattle.node_hits.specs.Shares.{equal_share};
 
 use crate::hits::LibraryRelease;
-use crate::row_places::open_places;
+use crate::row_places::place_count;
 use feed_answer::Query;
+use node_site::may_hold;
 use std::alloc::{AllocError, Global};
 
 /// The most rows that are looked at for a query, in all releases together, so that no query makes a response slow.
@@ -44,6 +45,10 @@ pub fn row_count(
         ≡ min limit (length (open_places release.now.site.now release.now.name.now query.now
         release.now.holdings.now.rows))) }
 {
-    let places = open_places(alloc, release, query, limit)?;
-    Ok(places.as_slice().len())
+    let count = place_count(alloc, release.holdings, query, limit)?;
+    if count == 0 || may_hold(release.site, release.name.package()) {
+        Ok(count)
+    } else {
+        Ok(0)
+    }
 }
