@@ -1,9 +1,10 @@
 -- The places of several identifiers, merged one after another, are those of the rows that have one of them.
-use Rattle.std.proofs.Common.{◌≡◌, ◌<◌, ◌≤◌, ◌+◌, ◌-◌, ℕ, zero, suc, Bool, true, false, ◌||◌, List, [], ◌∷◌, ◌++◌, Option, Some, None, refl, sym, ap, ◌∙◌, append_assoc, arith, length, take}
-use Rattle.std.specs.Prelude.{◌==◌, if◌then◌else◌, nat_lt, slice_get}
+use Rattle.std.proofs.Common.{◌≡◌, ◌<◌, ◌≤◌, ◌+◌, ◌-◌, ℕ, zero, suc, Bool, true, false, ◌||◌, List, [], ◌∷◌, ◌++◌, Option, Some, None, refl, sym, ap, ◌∙◌, append_assoc, arith, get_or, length, take}
+use Rattle.std.specs.Prelude.{◌==◌, All, if◌then◌else◌, nat_lt, slice_get}
 use Rattle.std.specs.List.{cons_option, enumerate_from, filter_map, list_any}
 use Rattle.std.specs.Option.{option_map_or}
 use Rattle.std.proofs.lemmas.List.{append-nil}
+use Rattle.std.proofs.lemmas.List.Elements.{All-head, All-tail}
 use Rattle.std.proofs.lemmas.List.Sums.{fold-append}
 use Rattle.std.proofs.lemmas.Bool.{ne_eqb}
 use Rattle.std.proofs.lemmas.Bool.Decides.{nat_tests}
@@ -255,3 +256,17 @@ front_alone (suc n) (place ∷ places) = ap (λ l. place ∷ l) (front_alone n p
 pub merge_none : (limit : ℕ) (places other : List ℕ) → length other ≡ 0 → take limit places ≡ merged limit places other
 merge_none limit places [] none = front_alone limit places
 merge_none limit places (place ∷ other) none = absurd (omega (arith, none))
+
+-- a list whose first places are all before those of the other
+before_first : (limit : ℕ) (places : List ℕ) (first : ℕ) (other : List ℕ) → limit ≤ length places → All (λ place. place < first) (take limit places)
+    → take limit places ≡ merged limit places (first ∷ other)
+before_first zero places first other long less = refl
+before_first (suc n) [] first other long less = absurd (omega (arith, long))
+before_first (suc n) (place ∷ places) first other long less =
+    ap (λ l. place ∷ l) (before_first n places first other (omega (arith, long)) (All-tail (λ place. place < first) place (take n places) less))
+    ∙ sym (ap (merged_by n) (first_next place places (first ∷ other) (All-head (λ place. place < first) place (take n places) less)))
+
+pub merge_before : (limit : ℕ) (places other : List ℕ) → 0 < length other → limit ≤ length places → All (λ place. place < get_or other 0 0) (take limit places)
+    → take limit places ≡ merged limit places other
+merge_before limit places [] some long less = absurd (omega (arith, some))
+merge_before limit places (first ∷ other) some long less = before_first limit places first other long less

@@ -1,5 +1,6 @@
 //! The places of the first rows that have one of the identifiers of a query.
-ghost use Rattle.std.specs.Prelude.{◌≡◌, [], IfOk, length, min, option_map, take};
+ghost use Rattle.std.specs.Prelude.{◌≡◌, ◌<◌, ◌≤◌, [], All, IfOk, length, min, option_map, take};
+ghost use Rattle.std.specs.Bool.{OnTrue};
 ghost use Rattle.std.specs.List.{cons_option, slice_get};
 ghost use Rattle.feed_answer.specs.Places.{listed};
 ghost use Rattle.feed_answer.specs.QueryValue.{asked};
@@ -39,7 +40,15 @@ fn next_place<'a>(one: &'a [u32], other: &'a [u32]) -> Option<(u32, &'a [u32], &
     }
 }
 
-// Returns the first places of two ascending lists, each once.
+// Returns whether so many places at the front are all less than another.
+fn are_before(places: &[u32], limit: usize, other: u32) -> bool
+    ensures long { OnTrue result (limit ≤ length places.now) }
+    ensures less { OnTrue result (All (λ place. place < other) (take limit places.now)) }
+{
+    limit <= places.len() && places[..limit].iter().all(|place| *place < other)
+}
+
+// Returns the first places of two ascending lists, each once. Takes no memory if these are the first list's.
 fn merge_places(
     alloc: Global,
     one: Vec<u32>,
@@ -49,7 +58,7 @@ fn merge_places(
     ensures { IfOk result (λ places. places.items ≡ merged limit one.items other.now) }
 {
     let mut first = one;
-    if other.is_empty() {
+    if other.is_empty() || are_before(&first, limit, other[0]) {
         first.truncate(limit);
         return Ok(first);
     }
