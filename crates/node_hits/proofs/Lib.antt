@@ -13,6 +13,7 @@ pub mod Counted
 pub mod PlacesAsked
 pub mod ShareBounds
 pub mod ShownBounds
+pub mod SearchBounds
 pub mod HitsFound
 pub mod Added
 pub mod AskedRows

@@ -74,15 +74,15 @@ each_below limit (rows ∷ counts) few =
 
 -- ---- the shares
 
-equal_fits : (releases : ℕ) → releases ≤ 5000 → equal_share releases * releases ≤ 5000
-equal_fits releases few = go (5000 / max 1 releases) (div-mul-le_self 5000 (max 1 releases))
+pub equal_fits : (releases : ℕ) → equal_share releases * releases ≤ max 5000 releases
+equal_fits releases = go (5000 / max 1 releases) (div-mul-le_self 5000 (max 1 releases))
   where
-    go : (q : ℕ) → q * max 1 releases ≤ 5000 → max 1 q * releases ≤ 5000
-    go zero le = omega (arith, few)
+    go : (q : ℕ) → q * max 1 releases ≤ 5000 → max 1 q * releases ≤ max 5000 releases
+    go zero le = omega arith
     go (suc q) le =
         let most = mul-le-mul_left (suc q) (let le : releases ≤ max 1 releases = omega arith in le) in
         let same : max 1 (suc q) ≡ suc q = omega arith in
-        subst (λ n. n * releases ≤ 5000) (sym same) (omega (arith, most, le))
+        subst (λ n. n * releases ≤ max 5000 releases) (sym same) (omega (arith, most, le))
 
 -- an addition for each release that has more rows is no more than what is left
 additions_fit : (left releases : ℕ) → left / max 1 releases * releases ≤ left
@@ -91,13 +91,13 @@ additions_fit left releases =
     let fits = div-mul-le_self left (max 1 releases) in
     omega (arith, most, fits)
 
-widened_fits : (counts : List ℕ) → having_rows counts ≤ 5000 → sum_by (λ rows. min (widened (equal_share (having_rows counts)) counts) rows) counts ≤ 5000
-widened_fits counts few =
+widened_fits : (counts : List ℕ) → sum_by (λ rows. min (widened (equal_share (having_rows counts)) counts) rows) counts ≤ max 5000 (having_rows counts)
+widened_fits counts =
     let share : ℕ = equal_share (having_rows counts) in
     let above : ℕ = count_by (λ rows. nat_lt share rows) counts in
     let more : ℕ = left_by share counts / max 1 above in
     let narrow = shares_bound share counts in
-    let equal = equal_fits (having_rows counts) few in
+    let equal = equal_fits (having_rows counts) in
     let wide = widened_bound share more counts in
     let added = additions_fit (left_by share counts) above in
     omega (arith, narrow, equal, wide, added)
@@ -120,7 +120,7 @@ each_has_share counts = go (nat_le (sum counts) row_limit) refl
         record {
           equal = omega (arith, same, small);
           texts = refl;
-          bounded = λ few. omega (arith, smaller, fits);
+          bounded = omega (arith, smaller, fits);
           all = λ few. subst (λ n. All (λ rows. rows ≤ n) counts) (sym same) (each_below 5000 counts few);
         }
     go false is =
@@ -129,6 +129,6 @@ each_has_share counts = go (nat_le (sum counts) row_limit) refl
         record {
           equal = omega (arith, same);
           texts = refl;
-          bounded = λ few. subst (λ n. sum_by (λ rows. min n rows) counts ≤ 5000) (sym same) (widened_fits counts few);
+          bounded = subst (λ n. sum_by (λ rows. min n rows) counts ≤ max 5000 (having_rows counts)) (sym same) (widened_fits counts);
           all = λ few. absurd (omega (arith, many, few));
         }

@@ -1,5 +1,5 @@
 -- The laws of redirects and of hits in JSON.
-use Rattle.std.specs.Prelude.{◌≡◌, ◌↔◌, ◌⊎◌, ◌<◌, ◌≤◌, ◌^◌, ◌/◌, max, min, ℕ, List, [], ◌∷◌, Some, true, false, All, length, sum, sum_by}
+use Rattle.std.specs.Prelude.{◌≡◌, ◌↔◌, ◌⊎◌, ◌<◌, ◌≤◌, ◌^◌, ◌/◌, max, min, ℕ, List, [], ◌∷◌, Some, true, false, All, length, map, sum, sum_by}
 use Rattle.std.specs.List.{Contains, list_all}
 use Rattle.std.specs.List.Sorted.{IsStrictlyIncreasing}
 use Rattle.json.specs.Json.{document, array}
@@ -24,7 +24,7 @@ use Rattle.feed_kbart.specs.HoldingsValue.{HoldingsValue}
 use Rattle.feed_kbart.specs.RowValue.{RowValue}
 use Rattle.node_hits.specs.Hits.{ReleaseHitValue, best_link, cited_in, is_for_hits, is_free, is_full_text, is_open_or_unknown, library_hits, link_text, may_be_full_text, page_text}
 use Rattle.node_hits.specs.Hits.{rank_of, release_hit}
-use Rattle.node_hits.specs.Looks.{FoundValue, asked_places, looks_in, release_found, text_looks}
+use Rattle.node_hits.specs.Looks.{FoundValue, asked_places, looks_in, open_places, release_found, text_looks}
 use Rattle.node_hits.specs.Shares.{having_rows, shares_of}
 use Rattle.node_hits.specs.declared.shares.Shares.{Shares}
 use Rattle.node_hits.specs.HitsJson.{hits_json, item_values}
@@ -96,11 +96,12 @@ abbrev pub TallyTellsOfHits : Type 0
 TallyTellsOfHits = (founds : List FoundValue) → tally_from (with_releases no_hits founds) ≡ tally_of founds
 
 -- the shares among releases with so many rows each. Each has an equal share of the rows at least, and of the texts. They look
--- at no more than 5,000 rows in all, unless more releases than that have rows. All rows are looked at, if these are no more
+-- at no more than 5,000 rows in all, or at one of each release that has rows if these are more. All rows are looked at, if
+-- they are no more
 pub record AreShares (counts : List ℕ) (shares : Shares) : Type 0 where
   pub equal : max 1 (5000 / max 1 (having_rows counts)) ≤ shares.rows
   pub texts : shares.texts ≡ max 1 (5000 / max 1 (having_rows counts))
-  pub bounded : having_rows counts ≤ 5000 → sum_by (λ rows. min shares.rows rows) counts ≤ 5000
+  pub bounded : sum_by (λ rows. min shares.rows rows) counts ≤ max 5000 (having_rows counts)
   pub all : sum counts ≤ 5000 → All (λ rows. rows ≤ shares.rows) counts
 
 abbrev pub EachHasShare : Type 0
@@ -112,6 +113,25 @@ HitsAreFound = (shares : Shares) (site : site_file.SiteValue) (today : TodayValu
     (found : ReleaseHitValue) → Contains (looks_in shares site today search name rows) (Some found)
     → Contains (release_found shares site today search name rows).hits found
     ⊎ ((0 < text_looks found.hit.row) × ((release_found shares site today search name rows).is_whole ≡ false))
+
+-- how many rows of each of some releases a search may look at, and what it finds in them within their shares
+abbrev pub counts_of : site_file.SiteValue → SearchValue → List (Name × List RowValue) → List ℕ
+counts_of site search releases = map (λ release. length (open_places site release.0 search.query release.1)) releases
+
+abbrev pub found_in_all : site_file.SiteValue → TodayValue → SearchValue → List (Name × List RowValue) → List FoundValue
+found_in_all site today search releases =
+    map (λ release. release_found (shares_of (counts_of site search releases)) site today search release.0 release.1) releases
+
+-- a search is bounded by a number: so many hits it counts in all releases together, and so much their texts count
+pub record IsBounded (most : ℕ) (found : List ReleaseHitValue) : Type 0 where
+  pub hits : length found ≤ most
+  pub texts : sum_by (λ hit. text_looks hit.hit.row) found ≤ most
+
+-- whatever releases there are, with whatever rows, a search counts 5,000 hits in all of them together at most. Their texts count
+-- as 5,000 at most, by 250 bytes of each. If more releases have rows of the query, their number is the bound
+abbrev pub SearchIsBounded : Type 0
+SearchIsBounded = (site : site_file.SiteValue) (today : TodayValue) (search : SearchValue) (releases : List (Name × List RowValue))
+    → IsBounded (max 5000 (having_rows (counts_of site search releases))) (counted (found_in_all site today search releases))
 
 -- whatever the lists, the site and the query are, a response shows at most 1,000 hits, and their texts, the links to them and to
 -- the article among these, have fewer than 524,288 bytes in all.

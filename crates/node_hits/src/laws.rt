@@ -2,7 +2,7 @@
 ghost use Rattle.node_hits.specs.Laws.{AnswerIsJson, ArticlesComeFirst, BestLinkRanksHighest, BooksComeFirst};
 ghost use Rattle.node_hits.specs.Laws.{EachHasShare, HitsAreFound, HitsAreJson};
 ghost use Rattle.node_hits.specs.Laws.{LinksAreProxied, LooksAreAtPlaces, RanksInOrder};
-ghost use Rattle.node_hits.specs.Laws.{RedirectsToLink, ShownHitsAreBounded, SoleLinkIsOfSoleHit};
+ghost use Rattle.node_hits.specs.Laws.{RedirectsToLink, SearchIsBounded, ShownHitsAreBounded, SoleLinkIsOfSoleHit};
 ghost use Rattle.node_hits.specs.Laws.{TallyTellsOfHits, WholeIsOfAnswer};
 
 /// The URL of a redirect is one of `http` or `https` in at most 8,000 bytes of visible ASCII, so no byte of a file can
@@ -62,6 +62,12 @@ pub fn each_has_share()
 /// not whole.
 pub fn hits_are_found()
     ensures { HitsAreFound }
+{}
+
+/// A search counts 5,000 hits at most in all releases together, and their texts count as 5,000 at most, by 250 bytes of
+/// each. If more releases have rows of the query, their number is the bound.
+pub fn search_is_bounded()
+    ensures { SearchIsBounded }
 {}
 
 /// A response shows at most 1,000 hits. Their texts and links have fewer than 524,288 bytes in all, whatever the lists,

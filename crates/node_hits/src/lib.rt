@@ -37,8 +37,8 @@ pub use hits_text::put_release;
 pub use laws::{
     answer_is_json, articles_come_first, best_link_ranks_highest, books_come_first, each_has_share,
     hits_are_found, hits_are_json, links_are_proxied, looks_are_at_places, ranks_in_order,
-    redirects_to_link, shown_hits_are_bounded, sole_link_is_of_sole_hit, tally_tells_of_hits,
-    whole_is_of_answer,
+    redirects_to_link, search_is_bounded, shown_hits_are_bounded, sole_link_is_of_sole_hit,
+    tally_tells_of_hits, whole_is_of_answer,
 };
 pub use lookup::Lookup;
 pub use query_facts::{QueryFacts, is_blank, names_work};
