@@ -11,3 +11,4 @@ pub mod LastFields
 pub mod Shown
 pub mod PlainLines
 pub mod HeadLines
+pub mod Timed

@@ -10,9 +10,10 @@ use Rattle.node_monitoring.specs.Forwarded.{forwarded_element}
 use Rattle.node_monitoring.specs.LogLines.{EntryValue, line_text}
 use Rattle.node_monitoring.specs.Queries.{page_of}
 use Rattle.node_monitoring.specs.Counts.{Added, HasCounted, place_of, class_of, request_place}
-use Rattle.node_monitoring.specs.Histograms.{HasObserved}
+use Rattle.node_monitoring.specs.Histograms.{HasObserved, times_of}
 use Rattle.node_monitoring.specs.MetricsTexts.{MetricsValue}
 use Rattle.node_monitoring.specs.declared.counter.Counter.TheVariants as counter
+use Rattle.node_monitoring.specs.declared.histogram.Timing.TheVariants.{Request}
 use Rattle.node_monitoring.specs.declared.request_kind.Target.{Target}
 use Rattle.node_monitoring.specs.declared.request_kind.Target.TheVariants as target
 use Rattle.node_monitoring.specs.declared.log_line.LoggedExchange.{LoggedExchange}
@@ -53,7 +54,7 @@ pub record HasCountedRequest (e : LoggedExchange) (old new : MetricsValue) : Typ
   pub named : Target
   pub is : IsTargetIn e.received.bytes.now named
   pub requests : (history : List Added) → HasCounted old.requests history → HasCounted new.requests (request_added named e ∷ history)
-  pub times : (observed : List ℕ) → HasObserved old.times.requests observed → HasObserved new.times.requests (e.micros ∷ observed)
+  pub times : (observed : List ℕ) → HasObserved (times_of old.times Request) observed → HasObserved (times_of new.times Request) (e.micros ∷ observed)
   pub names : new.site_names ≡ old.site_names
   pub sites : (history : List Added) → HasCounted old.sites history → HasCounted new.sites (site_added old.site_names e.site ++ history)
 

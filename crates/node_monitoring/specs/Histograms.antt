@@ -1,9 +1,10 @@
 -- The times that the histograms of a node have observed, in microseconds.
-use Rattle.std.specs.Prelude.{◌≡◌, ◌<◌, ◌+◌, ℕ, nat_le, List, length, sum, count_by, slice_index, if◌then◌else◌}
+use Rattle.std.specs.Prelude.{◌≡◌, ◌<◌, ◌+◌, ℕ, nat_le, List, [], length, get_or, sum, count_by, slice_index, if◌then◌else◌}
+use Rattle.node_monitoring.specs.contracts.histogram.Timing.{the_type}
 use Rattle.node_monitoring.specs.declared.histogram.TheConstants.{BOUNDS}
 use Rattle.node_monitoring.specs.declared.histogram.Timing.{Timing}
-use Rattle.node_monitoring.specs.declared.histogram.Timing.TheVariants.{Request, Turn, Commit}
 use Rattle.node_monitoring.specs.Counts.{capped}
+use denote.Enum.Declared.{tag_of}
 
 -- the counts of the buckets, the count of all times, and their sum
 pub record HistogramValue : Type 0 where
@@ -26,17 +27,10 @@ pub record HasObserved (h : HistogramValue) (observed : List ℕ) : Type 0 where
   pub count : h.count ≡ capped (length observed)
   pub sum : h.sum ≡ capped (sum observed)
 
--- the times of the requests, of the turns and of the commits
-pub record HistogramsValue : Type 0 where
-  pub requests : HistogramValue
-  pub turns : HistogramValue
-  pub commits : HistogramValue
-
-abbrev pub times_of : HistogramsValue → Timing → HistogramValue
-times_of h Request = h.requests
-times_of h Turn = h.turns
-times_of h Commit = h.commits
+-- the histogram of a kind of time
+abbrev pub times_of : List HistogramValue → Timing → HistogramValue
+times_of all timing = get_or all (tag_of the_type timing) (record { buckets = []; count = 0; sum = 0 })
 
 -- the other histograms are as before
-abbrev pub KeepsOthers : Timing → HistogramsValue → HistogramsValue → Type 0
+abbrev pub KeepsOthers : Timing → List HistogramValue → List HistogramValue → Type 0
 KeepsOthers timing old new = (other : Timing) → ¬ (other ≡ timing) → times_of new other ≡ times_of old other

@@ -85,7 +85,7 @@ AreGaugesOnce m g =
     (values_of (codes "kbfeed_connections_open") [] (flat_map lines_of (families m g)) ≡ decimal g.open ∷ [])
     × (values_of (codes "kbfeed_held_bytes") [] (flat_map lines_of (families m g)) ≡ decimal g.held_bytes ∷ [])
 
--- so have the count and the sum of each histogram
+-- the words of the kinds of times
 abbrev pub timing_words : List (List ℕ × Timing)
 timing_words = (codes "request", timing.Request) ∷ (codes "turn", timing.Turn) ∷ (codes "commit", timing.Commit) ∷ []
 
@@ -97,6 +97,7 @@ AreTimesOnce m g named =
     (values_of (time_name named.0 (codes "_count")) [] (flat_map lines_of (families m g)) ≡ decimal (times_of m.times named.1).count ∷ [])
     × (values_of (time_name named.0 (codes "_sum")) [] (flat_map lines_of (families m g)) ≡ seconds_text (times_of m.times named.1).sum ∷ [])
 
+-- so have the count and the sum of each histogram
 abbrev pub TimesAreNamed : Type 0
 TimesAreNamed = (m : MetricsValue) (g : Gauges) → AllByRecursion (AreTimesOnce m g) timing_words
 

@@ -3,7 +3,8 @@ ghost use Rattle.std.specs.Prelude.{◌≡◌, ◌∷◌, ◌++◌, ℕ, List, O
 ghost use Rattle.httparse.specs.Grammar.{RequestHead};
 ghost use Rattle.feed_http_heads.specs.Requests.{HasHead};
 ghost use Rattle.node_monitoring.specs.Counts.{Added, HasCounted};
-ghost use Rattle.node_monitoring.specs.Histograms.{HasObserved};
+ghost use Rattle.node_monitoring.specs.Histograms.{HasObserved, times_of};
+ghost use Rattle.node_monitoring.specs.declared.histogram.Timing.TheVariants.{Request};
 ghost use Rattle.node_monitoring.specs.Exchanges.{added_by, request_added, HasCountedRequest};
 ghost use Rattle.node_monitoring.specs.Exchanges.{is_hidden, line_of, IsLogged, IsRecorded};
 ghost use Rattle.node_monitoring.specs.SiteNames.{site_added, site_name};
@@ -29,8 +30,8 @@ const NO_FIELDS: Fields<'static> = Fields {
 fn count_exchange(metrics: &mut Metrics, target: Target, exchange: &LoggedExchange<'_>)
     ensures requests { (history : List Added) → HasCounted metrics.old.requests history
         → HasCounted metrics.new.requests (request_added target exchange.now ∷ history) }
-    ensures times { (observed : List ℕ) → HasObserved metrics.old.times.requests observed
-        → HasObserved metrics.new.times.requests (exchange.now.micros ∷ observed) }
+    ensures times { (observed : List ℕ) → HasObserved (times_of metrics.old.times Request) observed
+        → HasObserved (times_of metrics.new.times Request) (exchange.now.micros ∷ observed) }
     ensures counters { (history : List Added) → HasCounted metrics.old.counters history
         → HasCounted metrics.new.counters (added_by exchange.now ++ history) }
     ensures names { metrics.new.site_names ≡ metrics.old.site_names }
@@ -96,8 +97,8 @@ fn record_request(
     ensures requests { (head : RequestHead) → HasHead parsed.now.request head → (history : List Added)
         → HasCounted metrics.old.requests history
         → HasCounted metrics.new.requests (request_added (target_of head) exchange.now ∷ history) }
-    ensures times { (observed : List ℕ) → HasObserved metrics.old.times.requests observed
-        → HasObserved metrics.new.times.requests (exchange.now.micros ∷ observed) }
+    ensures times { (observed : List ℕ) → HasObserved (times_of metrics.old.times Request) observed
+        → HasObserved (times_of metrics.new.times Request) (exchange.now.micros ∷ observed) }
     ensures counters { (history : List Added) → HasCounted metrics.old.counters history
         → HasCounted metrics.new.counters (added_by exchange.now ++ history) }
     ensures names { metrics.new.site_names ≡ metrics.old.site_names }

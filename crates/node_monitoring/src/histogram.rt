@@ -96,7 +96,7 @@ impl Histogram {
     }
 }
 
-/// What a node measures the times of.
+/// A kind of time that a node measures.
 #[derive(Clone, Copy, Debug, PartialEq, Eq)]
 pub enum Timing {
     /// From the last byte of the head of a request to the last byte of its response.
@@ -107,20 +107,25 @@ pub enum Timing {
     Commit,
 }
 
-/// A histogram for each of the times that a node measures.
+/// The number of kinds of times.
+const TIMING_COUNT: usize = Timing::Commit as usize + 1;
+
+/// A histogram for each kind of time, in the order of the kinds.
 #[derive(Drop)]
 pub(crate) struct Histograms {
-    requests: Histogram,
-    turns: Histogram,
-    commits: Histogram,
+    all: [Histogram; TIMING_COUNT],
 }
 
 impl Model for Histograms {
-    ghost use Rattle.node_monitoring.specs.Histograms.{HistogramsValue};
+    ghost use Rattle.std.specs.Prelude.{◌≡◌, List, length};
+    ghost use Rattle.node_monitoring.specs.declared.histogram.TheConstants.{TIMING_COUNT};
+    ghost use Rattle.node_monitoring.specs.Histograms.{HistogramValue};
 
-    ghost Value = { HistogramsValue };
+    ghost Value = { List HistogramValue };
 
-    ghost view = { λ h. record { requests = h.requests; turns = h.turns; commits = h.commits } };
+    ghost view = { λ h. h.all };
+
+    ghost invariant = { λ h. length h.all ≡ TIMING_COUNT };
 }
 
 impl Histograms {
@@ -129,9 +134,11 @@ impl Histograms {
         ensures { (timing : Timing) → IfOk result (λ histograms. HasObserved (times_of histograms timing) []) }
     {
         Ok(Histograms {
-            requests: Histogram::new(alloc)?,
-            turns: Histogram::new(alloc)?,
-            commits: Histogram::new(alloc)?,
+            all: [
+                Histogram::new(alloc)?,
+                Histogram::new(alloc)?,
+                Histogram::new(alloc)?,
+            ],
         })
     }
 
@@ -141,21 +148,13 @@ impl Histograms {
             → HasObserved (times_of self.new timing) (micros ∷ observed) }
         ensures others { KeepsOthers timing self.old self.new }
     {
-        match timing {
-            Timing::Request => self.requests.observe(micros),
-            Timing::Turn => self.turns.observe(micros),
-            Timing::Commit => self.commits.observe(micros),
-        }
+        self.all[timing as usize].observe(micros);
     }
 
-    /// Returns the histogram of a time.
+    /// Returns the histogram of a kind of time.
     pub(crate) fn of(&self, timing: Timing) -> &Histogram
         ensures { result.now ≡ times_of self.now timing }
     {
-        match timing {
-            Timing::Request => &self.requests,
-            Timing::Turn => &self.turns,
-            Timing::Commit => &self.commits,
-        }
+        &self.all[timing as usize]
     }
 }
