@@ -28,6 +28,10 @@ module _ {T : Type 0} where
   abbrev pub IsClosable : Table T → ℕ → Type 0
   IsClosable table key = IsSome (peer_at table key) × (waits Places table key ≡ false)
 
+  -- so many connections can be added, or none is left that may be closed for a place
+  abbrev pub HasRoomFor : ℕ → Table T → Type 0
+  HasRoomFor count table = (size_of table + count ≤ table.clients) ⊎ ((key : ℕ) → ¬ (IsClosable table key))
+
   -- these are keys below a limit of connections that may be closed, the greatest first
   abbrev pub AreClosable : Table T → ℕ → List ℕ → Type 0
   AreClosable table limit [] = Unit {0}

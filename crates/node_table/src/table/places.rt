@@ -16,7 +16,7 @@ use std::collections::BinaryHeap;
 type Order = BinaryHeap<(u128, usize)>;
 
 impl<T: Stream> Table<T> {
-    ghost use Rattle.node_table.specs.Places.{HasPlaces, IsClosable, AreEvictions, IsEviction};
+    ghost use Rattle.node_table.specs.Places.{HasPlaces, HasRoomFor, AreEvictions, IsEviction};
     ghost use Rattle.node_table.specs.Places.{IsOrder, IsOrderBelow};
     ghost use Rattle.node_table.specs.Tables.{waits, IsFirstToClose, IsRemoved, KeepsConnections};
 
@@ -100,7 +100,12 @@ impl<T: Stream> Table<T> {
     }
 
     /// Closes connections until this many can be added, each time the one that is closed first for a place. None is
-    /// closed that waits for its share, and none at all if the memory for their order cannot be allocated.
+    /// closed that waits for its share.
+    ///
+    /// # Errors
+    ///
+    /// Running out of memory for the order of closing, if there are fewer free places. None is closed then. Memory may
+    /// run out at any time, so the contract cannot say when it does.
     pub fn make_places<L: Log>(
         &mut self,
         alloc: Global,
@@ -110,8 +115,8 @@ impl<T: Stream> Table<T> {
     ) -> Result<(), AllocError>
         ensures evicted { (number : ℕ) × AreEvictions L.records number now self.old self.new log.old log.new }
         ensures few { (size_of self.new ≡ size_of self.old) ⊎ (self.old.clients ≤ size_of self.new + count) }
-        ensures enough { IfOk result (λ _. (size_of self.new + count ≤ self.new.clients)
-            ⊎ ((key : ℕ) → ¬ (IsClosable self.new key))) }
+        ensures enough { IfOk result (λ _. HasRoomFor count self.new) }
+        ensures error { IfErr result (λ _. self.old.clients < size_of self.old + count) }
         ensures kept { IfErr result (λ _. (self.new ≡ self.old) × (log.new ≡ log.old)) }
         ensures connections { KeepsConnections self.old self.new }
     {
