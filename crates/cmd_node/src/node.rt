@@ -1,7 +1,7 @@
 //! `kbfeed node`: a link resolver that answers readers over HTTP from the database of a node, and fetches releases.
 ghost use Rattle.std.specs.Prelude.{◌≡◌, option_copied};
 
-use crate::site::{note_open_prefixes, read_sites};
+use crate::site::{note_doubts, read_sites};
 use crate::token::Token;
 use crate::wanted::{note_missing, read_wanted};
 use cmd_database::{Database, begin_feed, close_keeper, open_feed, report_keeper};
@@ -140,7 +140,7 @@ fn run_server<D: Database, O: Write, F: Write + Drop>(
     let sites = read_sites(options, console)?;
     let wanted = read_wanted(options.wanted, console)?;
     if options.is_check {
-        note_open_prefixes(&sites, console);
+        note_doubts(&sites, console);
         return check_server(database, options, &wanted, sites.list().len(), console);
     }
     let Ok(state) = state_of(console.rt.alloc(), options.site, &sites) else {

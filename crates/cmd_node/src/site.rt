@@ -5,13 +5,16 @@ ghost use Rattle.cmd_node.specs.Sites.{IsSiteRead};
 use feed_console::{Console, DONE, FAILED, open_plain_file, read_front};
 use feed_options::{NodeOptions, SitePath};
 use node_response::Site;
-use node_site::{HOLDINGS_LIMIT, SITE_LIMIT, SiteFault, prefixes_left_open};
+use node_site::{HOLDINGS_LIMIT, SITE_LIMIT, SiteFault, SiteFile, prefixes_left_open};
 use node_site_files::{read_folder, report_holdings, report_site};
 use node_sites::{NamedSite, NodeSites};
 use std::alloc::{AllocError, Global};
 use std::fs::File;
 use std::io;
 use std::io::{Read, Write};
+
+// The languages that pages have texts in.
+const LANGUAGES: [&str; 3] = ["en", "de", "fr"];
 
 /// Returns what the responses of a node with these options depend on beside its releases and the day: the site of each
 /// host, with the site file, if there is one, and the holdings file that it names. Otherwise reports what is wrong and
@@ -120,20 +123,23 @@ fn site_in<R: Read>(
     Ok(Site::read(alloc, version, options.max_age, bytes))
 }
 
-/// Reports each prefix, of a proxy or a platform, behind which a list can add parameters: one that ends in `=` and gets
-/// the address as it is. The node runs with it.
-pub fn note_open_prefixes<O: Write, F: Write + Drop>(
-    sites: &NodeSites,
-    console: &mut Console<'_, O, F>,
-) {
+/// Reports what a site file says and probably does not mean. The node runs with it.
+pub fn note_doubts<O: Write, F: Write + Drop>(sites: &NodeSites, console: &mut Console<'_, O, F>) {
     for named in sites.list() {
-        note_open_in(&named.site, console);
+        let library = named.site.library();
+        note_open_prefixes(library, console);
+        note_language(library, console);
+        note_joined_prefix(library, console);
     }
 }
 
-// Reports those of a site.
-fn note_open_in<O: Write, F: Write + Drop>(site: &Site, console: &mut Console<'_, O, F>) {
-    let Ok(prefixes) = prefixes_left_open(console.rt.alloc(), site.library()) else {
+// Reports each prefix, of a proxy or a platform, behind which a list can add parameters: one that ends in `=` and gets
+// the address as it is.
+fn note_open_prefixes<O: Write, F: Write + Drop>(
+    library: &SiteFile,
+    console: &mut Console<'_, O, F>,
+) {
+    let Ok(prefixes) = prefixes_left_open(console.rt.alloc(), library) else {
         return;
     };
     for prefix in &prefixes {
@@ -143,5 +149,36 @@ fn note_open_in<O: Write, F: Write + Drop>(site: &Site, console: &mut Console<'_
             "addresses are not encoded behind it, so a list can add parameters: set encode if the proxy takes that",
             DONE,
         );
+    }
+}
+
+// Notes a language that has no texts.
+fn note_language<O: Write, F: Write + Drop>(library: &SiteFile, console: &mut Console<'_, O, F>) {
+    let Some(tag) = library.language() else {
+        return;
+    };
+    let primary = tag.split('-').next().unwrap_or(tag);
+    if !LANGUAGES
+        .iter()
+        .any(|known| primary.eq_ignore_ascii_case(known))
+    {
+        let hint = format_args!("{tag}: the texts are in English, but for en, de and fr");
+        console.faults.note("library.language", hint);
+    }
+}
+
+// Notes a prefix of a proxy to which addresses are joined without a sign between.
+fn note_joined_prefix<O: Write, F: Write + Drop>(
+    library: &SiteFile,
+    console: &mut Console<'_, O, F>,
+) {
+    let Some(prefix) = library.prefix() else {
+        return;
+    };
+    if !prefix.contains("{url}") && !prefix.ends_with(['=', '/', '?', '&', '#']) {
+        let hint = format_args!(
+            "addresses follow it, as in {prefix}https://a.example/: end it in = or /, or write {{url}} in it"
+        );
+        console.faults.note("proxy.prefix", hint);
     }
 }

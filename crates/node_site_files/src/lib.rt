@@ -3,6 +3,7 @@
 #![tactic(auto)]
 
 mod site_faults;
+mod site_hints;
 mod sites_folder;
 
 pub use site_faults::{report_holdings, report_site};

@@ -1,4 +1,5 @@
 //! Reports of what is wrong with a site file, with its holdings file, and with a folder of them.
+use crate::site_hints::note_meant_site;
 use feed_console::{Console, FAILED, REFUSED};
 use node_site::{HoldingsFault, SiteFault, SitesFault};
 use node_sites::FileFault;
@@ -13,13 +14,15 @@ pub fn report_site<O: Write, F: Write + Drop>(
 ) -> u8 {
     let faults = &mut console.faults;
     let words = fault.words();
-    match (name, fault) {
+    let status = match (name, &fault) {
         (_, SiteFault::Memory) => faults.report("Memory", FAILED),
         (Some(name), fault) => {
             faults.report_with(format_args!("Site {name} {fault}"), path, words, REFUSED)
         }
         (None, fault) => faults.report_with(format_args!("Site {fault}"), path, words, REFUSED),
-    }
+    };
+    note_meant_site(path, &fault, console);
+    status
 }
 
 /// Reports what is wrong with a holdings file, and returns the exit status. The name is that of the file in a folder.
