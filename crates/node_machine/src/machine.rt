@@ -1,12 +1,12 @@
 //! The node as a value, and its connections.
-ghost use Rattle.std.specs.Prelude.{◌≡◌, ◌<◌, ◌≤◌, ◌+◌, ◌⊎◌, ◌∷◌, ℕ, true, List, None, Some, IfSome, IsSome, IsSomeAnd};
-ghost use Rattle.std.specs.Prelude.{option_copied};
+ghost use Rattle.std.specs.Prelude.{◌≡◌, ◌<◌, ◌≤◌, ◌+◌, ◌⊎◌, ◌∷◌, ℕ, true, List, None, Some, IsSome, IsSomeAnd};
+ghost use Rattle.std.specs.Prelude.{IfErr, IfOk, IfSome, option_copied};
 ghost use Rattle.node_turns.specs.Queues.{MayServe};
 ghost use Rattle.node_turns.specs.Turns.{behind_ring, fresh_ring, spare_keys, IsFromBehind, IsFromFresh, IsTaken};
 ghost use Rattle.feed_model.specs.Content.{IsContent};
 ghost use Rattle.feed_releases.specs.Feeds.{most_of, recorded};
 ghost use Rattle.node_table.specs.Peers.{held_limit};
-ghost use Rattle.node_table.specs.Places.{AreEvictions};
+ghost use Rattle.node_table.specs.Places.{AreEvictions, HasRoomFor};
 ghost use Rattle.node_table.specs.Tables.{peer_at, size_of, bytes_held, HasClosed, IsExpired, IsFirstToClose};
 ghost use Rattle.node_table.specs.Tables.{IsReadyAfter, IsRemoved};
 ghost use Rattle.node_table.specs.declared.peer.Peer.{Peer};
@@ -25,7 +25,7 @@ use node_connection::Shortage;
 use node_request::SitesRequest;
 use node_table::{CloseCause, Log, NewConnection, Stream, Table};
 use node_turns::TurnRest;
-use std::alloc::Global;
+use std::alloc::{AllocError, Global};
 
 /// A node without its sockets. Times are in microseconds since a moment that the caller chooses.
 #[derive(Drop)]
@@ -104,17 +104,28 @@ impl<'a, T: Stream, K: Keep, S: FeedRespond + Drop> NodeMachine<'a, T, K, S> {
         self.table.make_room(now, log);
     }
 
-    /// Closes connections until this many can be added, as `Table::make_places` does. None is closed if the memory for
-    /// their order cannot be allocated.
-    pub fn make_places<L: Log>(&mut self, count: usize, now: u64, log: &mut L)
+    /// Closes connections until this many can be added, as `Table::make_places` does.
+    ///
+    /// # Errors
+    ///
+    /// Running out of memory for the order of closing, if there are fewer free places. None is closed then.
+    pub fn make_places<L: Log>(
+        &mut self,
+        count: usize,
+        now: u64,
+        log: &mut L,
+    ) -> Result<(), AllocError>
         ensures history { KeepsHistory S.wanted S.responses S.sites self.old self.new }
         ensures later { IsLater S.wanted S.responses S.sites self.old self.new }
         ensures evicted { (number : ℕ)
             × AreEvictions L.records number now (table_of self.old) (table_of self.new) log.old log.new }
         ensures few { (size_of (table_of self.new) ≡ size_of (table_of self.old))
             ⊎ ((table_of self.old).clients ≤ size_of (table_of self.new) + count) }
+        ensures enough { IfOk result (λ _. HasRoomFor count (table_of self.new)) }
+        ensures error { IfErr result (λ _. (table_of self.old).clients < size_of (table_of self.old) + count) }
+        ensures kept { IfErr result (λ _. (self.new ≡ self.old) × (log.new ≡ log.old)) }
     {
-        let _ = self.table.make_places(self.alloc, count, now, log);
+        self.table.make_places(self.alloc, count, now, log)
     }
 
     /// Closes the connection whose response takes the most memory, if the responses take more than 33,554,432 bytes.

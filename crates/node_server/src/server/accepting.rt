@@ -58,7 +58,8 @@ impl Server {
         let accepted = self.take_waiting(places);
         let count = accepted.sockets.len();
         let has_failed = accepted.has_failed;
-        node.make_places(count, self.now, log);
+        // Without the memory for that, each connection for which there is no place closes another one.
+        let _ = node.make_places(count, self.now, log);
         self.admit_all(node, accepted, log);
         let is_short = has_failed && count == 0;
         self.make_room_if(is_short, node, log);
