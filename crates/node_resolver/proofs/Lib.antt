@@ -12,3 +12,4 @@ pub mod SameTags
 pub mod Held
 pub mod Shared
 pub mod Hosted
+pub mod Bounded

@@ -1,5 +1,5 @@
 -- The laws of responses.
-use Rattle.std.specs.Prelude.{◌≡◌, ◌⊎◌, ◌<◌, ℕ, Bool, true, All, List, Some, map}
+use Rattle.std.specs.Prelude.{◌≡◌, ◌⊎◌, ◌<◌, max, ℕ, Bool, true, All, List, Some, map}
 use Rattle.std.specs.List.{Contains, flat_map}
 use Rattle.json.specs.Json.{document, array}
 use Rattle.json.specs.Value.{items_of}
@@ -14,8 +14,9 @@ use Rattle.node_request.specs.declared.representation.Representation.TheVariants
 use Rattle.node_hits.specs.Hits.{ReleaseHitValue, held_hits, is_found, link_text, release_hit}
 use Rattle.node_site.specs.Site as site_file
 use Rattle.node_response.specs.Responses.{ResponseTextValue}
-use Rattle.node_hits.specs.Laws.{AreShares}
+use Rattle.node_hits.specs.Laws.{AreShares, IsBounded}
 use Rattle.node_hits.specs.Looks.{looks_in, text_looks}
+use Rattle.node_hits.specs.Shares.{having_rows}
 use Rattle.node_resolver.specs.Answers.{Sited, answers_body, found_among, hits_among, release_in, row_counts, shares_in, tally_among}
 use Rattle.node_resolver.specs.Status.{IsCountable, active_value, status_body}
 use Rattle.node_response.specs.Tags.{SiteValue}
@@ -87,6 +88,12 @@ pub record IsLookedAt (search : SearchValue) (actives : Sited) (active : ActiveV
 abbrev pub EachReleaseIsLookedAt : Type 0
 EachReleaseIsLookedAt =
     (search : SearchValue) (actives : Sited) (active : ActiveValue) → Contains actives.actives active → IsLookedAt search actives active
+
+-- whatever the releases are, a search counts 5,000 hits in all of them together at most, and their texts count as 5,000 at most,
+-- by 250 bytes of each. If more releases have rows that the query may look at, their number is the bound
+abbrev pub EachSearchIsBounded : Type 0
+EachSearchIsBounded = (search : SearchValue) (actives : Sited)
+    → IsBounded (max 5000 (having_rows (row_counts actives.library search.query actives.actives))) (hits_among search actives)
 
 -- the best link, of all hits or of the open ones, is that of such a hit
 abbrev pub LinksAreHeld : Type 0

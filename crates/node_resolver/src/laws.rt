@@ -1,6 +1,7 @@
 //! Laws of all responses, each stated as the contract of a function with an empty body.
 ghost use Rattle.node_resolver.specs.Laws.{SameReleasesSameBytes, SameReleasesSameNodeBytes, StatusIsJson};
-ghost use Rattle.node_resolver.specs.Laws.{EachReleaseIsLookedAt, HitsAreHeld, LinksAreHeld, WholeTextIsWritten};
+ghost use Rattle.node_resolver.specs.Laws.{EachReleaseIsLookedAt, EachSearchIsBounded, HitsAreHeld, LinksAreHeld};
+ghost use Rattle.node_resolver.specs.Laws.{WholeTextIsWritten};
 ghost use Rattle.node_resolver.specs.Messages.{EveryPageIsUtf8, FormIsGet, GoesToBest, HeadIsHeadOfGet};
 ghost use Rattle.node_resolver.specs.Messages.{RedirectsSoleHit};
 ghost use Rattle.node_resolver.specs.SiteLaws.{HostHasItsSite, HostWithoutSiteIsMisdirected};
@@ -51,6 +52,12 @@ pub fn hits_are_held()
 /// or its texts are long and its release is said to have more.
 pub fn each_release_is_looked_at()
     ensures { EachReleaseIsLookedAt }
+{}
+
+/// In all releases together, a search counts 5,000 hits at most, and their texts count as 5,000 at most, by 250 bytes of
+/// each. If more releases have rows that the query may look at, their number is the bound.
+pub fn each_search_is_bounded()
+    ensures { EachSearchIsBounded }
 {}
 
 /// A hit that the library does not have is never linked to.
