@@ -54,8 +54,8 @@ pub fn each_release_is_looked_at()
     ensures { EachReleaseIsLookedAt }
 {}
 
-/// In all releases together, a search counts 5,000 hits at most, and their texts count as 5,000 at most, by 250 bytes of
-/// each. If more releases have rows that the query may look at, their number is the bound.
+/// In all releases together, a search counts 5,000 hits at most, and their texts count as 5,000 at most, by 250 bytes
+/// of each. If more releases have rows that the query may look at, their number is the bound.
 pub fn each_search_is_bounded()
     ensures { EachSearchIsBounded }
 {}
