@@ -5,16 +5,15 @@ ghost use Rattle.cmd_node.specs.Sites.{IsSiteRead};
 use feed_console::{Console, DONE, FAILED, open_plain_file, read_front};
 use feed_options::{NodeOptions, SitePath};
 use node_response::Site;
-use node_site::{HOLDINGS_LIMIT, SITE_LIMIT, SiteFault, SiteFile, prefixes_left_open};
+use node_site::{
+    HOLDINGS_LIMIT, Language, SITE_LIMIT, SiteFault, SiteFile, TEXTS, prefixes_left_open, text_of,
+};
 use node_site_files::{read_folder, report_holdings, report_site};
 use node_sites::{NamedSite, NodeSites};
 use std::alloc::{AllocError, Global};
 use std::fs::File;
 use std::io;
 use std::io::{Read, Write};
-
-// The languages that pages have texts in.
-const LANGUAGES: [&str; 3] = ["en", "de", "fr"];
 
 /// Returns what the responses of a node with these options depend on beside its releases and the day: the site of each
 /// host, with the site file, if there is one, and the holdings file that it names. Otherwise reports what is wrong and
@@ -123,7 +122,7 @@ fn site_in<R: Read>(
     Ok(Site::read(alloc, version, options.max_age, bytes))
 }
 
-/// Reports what a site file says and probably does not mean. The node runs with it.
+/// Reports settings of site files that are probably mistakes. The node runs with them.
 pub fn note_doubts<O: Write, F: Write + Drop>(sites: &NodeSites, console: &mut Console<'_, O, F>) {
     for named in sites.list() {
         let library = named.site.library();
@@ -152,19 +151,21 @@ fn note_open_prefixes<O: Write, F: Write + Drop>(
     }
 }
 
-// Notes a language that has no texts.
+// Notes a language whose pages are in English, since neither this program nor the site file has texts in it.
 fn note_language<O: Write, F: Write + Drop>(library: &SiteFile, console: &mut Console<'_, O, F>) {
     let Some(tag) = library.language() else {
         return;
     };
     let primary = tag.split('-').next().unwrap_or(tag);
-    if !LANGUAGES
-        .iter()
-        .any(|known| primary.eq_ignore_ascii_case(known))
-    {
-        let hint = format_args!("{tag}: the texts are in English, but for en, de and fr");
+    if !primary.eq_ignore_ascii_case("en") && is_english(library) {
+        let hint = format_args!("{tag}: the pages are in English");
         console.faults.note("library.language", hint);
     }
+}
+
+// Returns whether each text of the pages is the English one.
+fn is_english(library: &SiteFile) -> bool {
+    TEXTS.iter().all(|text| text_of(library, *text) == text.words(Language::English).as_bytes())
 }
 
 // Notes a prefix of a proxy to which addresses are joined without a sign between.

@@ -59,6 +59,7 @@ fn note_line<O: Write, F: Write + Drop>(
     let Some((key, value)) = line.split_once('=') else {
         return;
     };
+    let value = value.split(" #").next().unwrap_or(value);
     let (key, value) = (key.trim(), value.trim());
     if is_answer(value) {
         let hint = format_args!("write {key} = true or {key} = false");
@@ -74,15 +75,20 @@ fn note_line<O: Write, F: Write + Drop>(
 
 // Returns whether a value is yes or no in a form that is not TOML's.
 fn is_answer(value: &str) -> bool {
-    ["yes", "no", "on", "off", "true", "false"]
-        .iter()
-        .any(|word| value.eq_ignore_ascii_case(word))
+    let is_switch = value == "true" || value == "false";
+    !is_switch
+        && ["yes", "no", "on", "off", "true", "false"]
+            .iter()
+            .any(|word| value.eq_ignore_ascii_case(word))
 }
 
 // Returns whether a value is a word without quotation marks.
 fn is_bare(value: &str) -> bool {
     match value.chars().next() {
-        Some(first) => first.is_alphabetic() && !value.contains('"'),
+        Some(first) => first.is_alphabetic()
+            && !value.contains('"')
+            && value != "true"
+            && value != "false",
         None => false,
     }
 }
@@ -115,7 +121,7 @@ fn note_key<O: Write, F: Write + Drop>(
             let hint = format_args!("write [{section}] above its keys, with one bracket");
             console.faults.note(path, hint);
         }
-        ValueFault::Template | ValueFault::Article => note_field(path, bytes, console),
+        ValueFault::Template | ValueFault::Article => note_field(path, key, bytes, console),
         _ => {}
     }
 }
@@ -151,14 +157,15 @@ fn note_name<O: Write, F: Write + Drop>(
     }
 }
 
-// Notes the first name in braces that no template may have, and the similar one that it may.
+// Notes the first name in braces that no template may have, in a value of a key, and the similar one that it may.
 fn note_field<O: Write, F: Write + Drop>(
     path: &str,
+    key: &str,
     bytes: &[u8],
     console: &mut Console<'_, O, F>,
 ) {
     let text = str::from_utf8(bytes).unwrap_or("");
-    let Some(name) = unknown_field(text) else {
+    let Some(name) = unknown_field(key, text) else {
         return;
     };
     let alloc = console.rt.alloc();
@@ -181,9 +188,21 @@ fn is_field(name: &str) -> bool {
     name == "url" || Field::named(name.as_bytes()).is_some()
 }
 
-// Returns the first name in braces that is not one of a field.
-fn unknown_field(text: &str) -> Option<&str> {
-    for part in text.split('{').skip(1) {
+// Returns the first name in braces that is not one of a field, in the lines of a key.
+fn unknown_field<'a>(key: &str, text: &'a str) -> Option<&'a str> {
+    for line in text.lines() {
+        let (name, value) = line.split_once('=').unwrap_or((line, ""));
+        if name.trim() == key {
+            if let Some(field) = unknown_in(value) {
+                return Some(field);
+            }
+        }
+    }
+    None
+}
+
+fn unknown_in(value: &str) -> Option<&str> {
+    for part in value.split('{').skip(1) {
         if let Some((name, _)) = part.split_once('}') {
             if !is_field(name) {
                 return Some(name);
