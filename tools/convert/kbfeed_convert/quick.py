@@ -96,7 +96,7 @@ class Shortcut:
         order = settings.order
         self.memos: list[tuple[int, Memo]] = [
             (at["embargo_info"], Memo(embargo)), (at["coverage_depth"], Memo(depth)), (at["access_type"], Memo(access)),
-            (at["publication_type"], Memo(lambda it: kind(it, settings.kind))),
+            (at["publication_type"], Memo(functools.partial(kind, settings.kind, converter.is_kbart))),
             *[(at[label], Memo(functools.partial(date, label, bool(end), order))) for end, label in enumerate(DATES)],
             *[(at[label], Memo(functools.partial(volume, label, bool(end)))) for end, label in enumerate(VOLUMES)],
             *[(at[label], Memo(functools.partial(published, label, order))) for label in PUBLISHED
@@ -130,12 +130,13 @@ class Shortcut:
             if found is None:
                 return None
             text, change, rule, taken = found
-            if change:
+            if text != cells[place]:
                 if cells is given:
                     cells = given.copy()
+                cells[place] = text
+            if change:
                 changes.append(change)
                 rules.append(rule)
-                cells[place] = text
             read.append(taken)
         first, last, one, two = read[4:8]
         if self.converter.refused(given):
@@ -169,11 +170,13 @@ def access(cell: str) -> Cell | None:
     return changed("access_type", cell, values.access(cell), "the access in words")
 
 
-def kind(cell: str, default: str) -> Cell | None:
+def kind(default: str, is_kbart: bool, cell: str) -> Cell | None:
     """Reads the type of a record that has ISSNs alone."""
     found, rule = kinds.read(cell, True, False, default)
     if found != "serial":
         return None
+    if not cell.strip() and not is_kbart:
+        return Cell(found, "", "", None)
     return changed("publication_type", cell, cell if (strict.lower(cell) or "serial") == "serial" else found, rule)
 
 

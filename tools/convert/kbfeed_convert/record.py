@@ -416,6 +416,9 @@ class Converter:
         """Notes the identifiers that do not read."""
         for label in NUMBERS:
             cell = draft.cells[label]
+        elif kind and not cell.strip() and not self.is_kbart:
+            # The reader takes no type for a serial, and others may not.
+            draft.cells["publication_type"] = kind
             if cell.strip(" ") and not identifiers.numbers(cell) and folded(cell) not in dates.NONE:
                 rule = "not read: its digits are lost in a spreadsheet" if identifiers.is_scientific(cell) \
                     else "not read: no number whose check character fits"
