@@ -30,6 +30,8 @@ FORMS = [
 APART = re.compile(r"(?<=[0-9])([./-]) (?=[0-9])")
 # A month in a script that names its parts, which are no two years.
 CJK_MONTH = re.compile(rf"{YEAR}\s*[年년]\s*([0-9]{{1,2}})\s*[月월](?:\s*([0-9]{{1,2}})\s*[日일号號])?")
+# The number of an issue or a volume behind such a year, as in `2002年3号`, which is no month.
+CJK_NUMBER = re.compile(rf"{YEAR}\s*[年년]\s*(?:[第제]\s*)?[0-9]{{1,4}}\s*[期号號호巻卷권輯집册冊]")
 CJK_PART = re.compile(r"\s*[年月년월]\s*")
 CJK_DAY = re.compile("[日일도号號]")
 OPEN = word_set("dates", "open")
@@ -64,6 +66,9 @@ SHORT_DATE = re.compile(rf"(?<![0-9/.-])([0-9]{{1,2}}[/.][0-9]{{1,2}}[/.])([0-9]
 SHORT_RANGE = re.compile(r"([0-9]{2})(?:/([0-9]{2}))? ?[-‐‑–—] ?([0-9]{2})(?:/([0-9]{2}))?")
 MONTH_SHORT = re.compile(r"(?<![^\W_])(?<![0-9] )(?<![0-9]-)([^\W\d_]{3,9})\.?(?:[/-]| ?['’])"
                          rf"([0-9]{{2}}){SHORT_END}")
+# `5-Jan-90`, as spreadsheets write days.
+DAY_SHORT = re.compile(r"(?<![^\W_])(0?[1-9]|[12][0-9]|3[01]) ?[/-] ?([^\W\d_]{3,9})\.? ?[/-] ?"
+                       rf"([0-9]{{2}}){SHORT_END}")
 # A number from one to four behind a year, which may be a quarter.
 QUARTER = re.compile(rf"{YEAR}/([1-4])")
 QUARTERS_IN = re.compile(rf"(?<![0-9/.-]){YEAR}/([0-9]{{1,2}})(?![0-9/.-])")
@@ -135,6 +140,7 @@ def long_years(text: str) -> str:
             return re.sub("[0-9]{2}", lambda it: whole_year(it[0]), text)
     text = APOSTROPHE.sub(lambda it: whole_year(it[1]), text)
     text = SHORT_DATE.sub(lambda it: it[1] + whole_year(it[2]), text)
+    text = DAY_SHORT.sub(lambda it: f"{it[1]} {it[2]} {whole_year(it[3])}" if folded(it[2]) in MONTHS else it[0], text)
     return MONTH_SHORT.sub(lambda it: f"{it[1]} {whole_year(it[2])}" if folded(it[1]) in MONTHS else it[0], text)
 
 
@@ -187,6 +193,8 @@ def read(cell: str, is_last: bool, order: str) -> Read:
         return Read("", "an open end in words")
     if named := CJK_MONTH.fullmatch(now.strip()):
         return parts(int(named[1]), int(named[2]), int(named[3]) if named[3] else None)
+    if numbered := CJK_NUMBER.match(now.strip("[]() ")):
+        return Read(numbered[1], "a year in a text")
     now = CJK_DAY.sub("", CJK_PART.sub("-", now)).strip("-[]()?.,;* ")
     if found := by_numbers(now, is_last, order) or by_names(now, is_last):
         return found

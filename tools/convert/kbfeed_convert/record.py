@@ -41,6 +41,8 @@ NUMBER_FIRST = re.compile(r"\s*[0-9]{1,4} ?\([^()0-9]*[0-9]{4}[^()0-9]*\)\W*")
 # `v.54(2)`, and brackets behind a volume with anything but the number of an issue, as `(Suppl)` and `(2-3)`.
 NUMBER = re.compile(r"([^\W\d]+)?[. ]*[0-9]{1,4} ?(\((?![^()]*[0-9]{4})[^()]*\))?")
 PART_OF_VOLUME = re.compile(r"(?<=[0-9])\((?![0-9]+\)|[^()]*[0-9]{4})[^()]*\)")
+# `1巻1号`
+WRITTEN_NUMBER = re.compile("[0-9０-９] ?[期号號호巻卷권]")
 # The words of an access that is free.
 FREE = word_set("access", "F")
 # The words of the two ends of a range in headers.
@@ -839,8 +841,9 @@ def is_number(part: str) -> bool:
 
 def has_number_beside(cell: str, rule: str) -> bool:
     """Returns whether a date that a rule found may have a volume or an issue beside it: a word for one is there."""
-    return rule in IN_TEXTS and (NUMBER_FIRST.fullmatch(cell) is not None or any(
-        MEANINGS.get(it, NONE) & {"volume", "issue"} for it in folded(cell).split()))
+    return rule in IN_TEXTS and (
+        NUMBER_FIRST.fullmatch(cell) is not None or WRITTEN_NUMBER.search(cell) is not None
+        or any(MEANINGS.get(it, NONE) & {"volume", "issue"} for it in folded(cell).split()))
 
 
 def has_year_beside(cell: str) -> bool:

@@ -6,7 +6,7 @@ import unicodedata
 from typing import Iterator, NamedTuple
 
 from . import dates
-from .texts import TABLES, folded, plain, words
+from .texts import TABLES, folded, plain, word_set, words
 
 with open(pathlib.Path(__file__).parent / "coverage.toml", "rb") as file:
     TABLE: dict[str, list[str]] = tomllib.load(file)
@@ -62,6 +62,10 @@ SERIES = re.compile(r"\b(?:[no]\. ?[sf]\.|ser(?:ies?)?\.? ?[0-9]{1,2}(?=[:, ])) 
 LACKS = re.compile(r"(?<=[\[(])l ?= ?")
 # The brackets of MARC around an end that is not known for certain, as in `v.1(1966)- <v.29(1994)>`.
 ANGLES = re.compile(r"<([^<>]{1,60})>")
+# `Volume 1 / 1971`, and the full stop of `12 mo. delay`.
+VOLUME_YEAR = re.compile(r"(?<![^\W_])([^\W\d_]{1,10}\.? ?[0-9]{1,4}) ?/ ?(?=(?:1[4-9]|20)[0-9]{2}(?![0-9/]))")
+UNIT_STOP = re.compile(r"([0-9][ -]?)([^\W\d_]{1,5})\.(?=[ )])")
+SHORT_UNITS = word_set("single", "stopped")
 # An ending in brackets, as of `year(s)`, and one with an apostrophe, as of `1995'ten`.
 ENDING = re.compile(r"\((?:s|es|e|en|n)\)")
 
@@ -109,6 +113,9 @@ def simplified(cell: str) -> str:
         text = COUNTED_UNITS.sub(r"\1 \2 ago", AFTER.sub("embargo ", text))
         text = LAST_YEAR.sub("1 year ago", COUNTED.sub(lambda it: f" {it[1]} {it[2] or 'year'} ago", text))
     text = LACKS.sub("lacks ", SERIES.sub("", text))
+    if "/" in text:
+        text = VOLUME_YEAR.sub(lambda it: f"{it[1]} " if is_volume(it[1]) else it[0], text)
+    text = UNIT_STOP.sub(lambda it: it[1] + it[2] if it[2] in SHORT_UNITS else it[0], text)
     if ">" in text or "→" in text:
         text = ANGLES.sub(lambda it: f" {it[1]} " if re.search("[0-9]", it[1]) else it[0], text)
         text = ARROW.sub("-", text)
@@ -116,6 +123,11 @@ def simplified(cell: str) -> str:
 
 
 def tokens(cell: str) -> list[Token]:
+def is_volume(text: str) -> bool:
+    """Returns whether a text begins with a word for a volume."""
+    return "volume" in MEANINGS.get(re.split("[^a-z]", text)[0], NONE)
+
+
     """Returns the tokens of a statement. The longest phrase that the table has is one token."""
     found: list[Token] = []
     pending: list[Token] = []
