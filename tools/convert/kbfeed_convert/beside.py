@@ -26,6 +26,9 @@ NUMBERED = re.compile(r"\d")
 UNITS = frozenset(it.casefold() for many in TABLES["units"].values() for it in many)
 WRITTEN = frozenset(it for it in UNITS if len(it) == 1 and not it.isascii())
 APART = re.compile(r"[\s,.;:()/-]+")
+# A range of years, or an open one, inside a text: `JSTOR: 1990-2004`.
+RANGE = re.compile(rf"(?<![0-9]){dates.YEAR}\)? ?[-–—~～] ?(?:[^\W\d]{{1,4}}[. ]{{0,2}}[0-9]{{0,4}} ?\()?"
+                   rf"(?:{dates.YEAR}(?![0-9])|$|[;,)]|(?:{'|'.join(dates.OPEN - {''})})\b)", re.I)
 # Four characters that may have been a year, as `19?9`.
 ALMOST = re.compile(r"(?<![\w?])(?=(?:[^\d\s]*\d){2})[\w?]{4}(?![\w?])")
 
@@ -142,7 +145,8 @@ def is_dated(header: str, cell: str) -> bool:
     """Returns whether a cell of a column that is not used has dates of the coverage, by itself or by its header."""
     kind = unused.label_kind(header)
     return kind != "harmless" and (unused.cell_kind(cell) in ("dates", "nested")
-                                   or kind == "dates" and dates.YEARS.search(cell) is not None)
+                                   or kind == "dates" and dates.YEARS.search(cell) is not None
+                                   or RANGE.search(cell) is not None and not HISTORY & {*folded(cell).split()})
 
 
 def says_no(cell: str) -> bool:

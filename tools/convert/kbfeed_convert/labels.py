@@ -297,18 +297,20 @@ class Columns:
 
     def guess_ends(self, records: list[list[str]], is_date: Callable[[str, str], bool]) -> str:
         """Gives the label of a first or of a last date to the columns without one that have dates, and a word for one
-        of the ends in their headers, if no column has that label. Returns their headers."""
+        of the ends in their headers, if no column has that label, or they are of a part of the coverage. Returns their
+        headers."""
         ends = {"date_first_issue_online": "first", "date_last_issue_online": "last"}
         missing = {label: word for label, word in ends.items() if label not in self.places}
         found = []
-        for place in self.guess_dates(records, is_date) if missing else []:
+        for place in self.guess_dates(records, is_date):
             text = folded(self.header[place])
             tokens = frozenset(text.split())
             said = [label for label, word in ends.items() if has_word(word, text, tokens)]
             is_other = has_word("other", text, tokens) or has_word("print", text, tokens)
-            if len(said) == 1 and said[0] in missing and not is_other:
+            # Those of a part of the coverage count beside others.
+            if len(said) == 1 and (said[0] in missing or tokens & APART) and not is_other:
                 found.append(self.give(place, said[0]))
-        self.twice += [it for it in missing if len(self.places.get(it, [])) > 1]
+        self.twice += [it for it in ends if it not in self.twice and len(self.places.get(it, [])) > 1]
         return ", ".join(found)
 
     def guess_end(self, records: list[list[str]], is_date: Callable[[str, str], bool],

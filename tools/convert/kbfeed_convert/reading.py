@@ -146,7 +146,8 @@ def held_titles(text: io.TextIOWrapper, shape: form.Form, columns: labels.Column
     places = [it for it, header in columns.left_over() if unused.may_be_held(header)]
     places += columns.places.get("access_type", [])
     sure = {*places}
-    places += [it for it, header in columns.left_over() if it not in sure and unused.label_kind(header) != "harmless"]
+    places += [it for it, header in columns.left_over() if it not in sure
+               and (unused.label_kind(header) != "harmless" or unused.says_held(header))]
     if shape.is_kbart:
         places = [it for it, header in columns.left_over() if folded(header) == ACTION]
     if any(mapping.place_of(shape.header, it) >= 0 for it in rules.where) or not places:
@@ -162,6 +163,7 @@ def held_titles(text: io.TextIOWrapper, shape: form.Form, columns: labels.Column
             if (no := unused.not_held(cells)) and (it in sure or cells - no and unused.are_held(cells))}
     said = {it: values for it, cells in few.items() if (values := unused.held_values(columns.header[it], cells))}
     held = said if len(said) == 1 and not held else held
+    held |= {it: values for it, cells in few.items() if (values := unused.not_deleted(columns.header[it], cells))}
     where = {columns.header[it].strip(): sorted(values) for it, values in held.items()}
     return (rules._replace(where=where) if where else rules,
             [f"the column {header!r} says which titles are held: "

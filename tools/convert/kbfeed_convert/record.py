@@ -174,6 +174,10 @@ class Converter:
         # The other columns that no label names, and that may say something of the coverage.
         self.beside_columns = [(at, plain(header)[:100]) for at, header in columns.left_over()
                                if unused.label_kind(header) != "harmless" and not self.is_kbart]
+        # The columns with the coverage in print, of a list that has another one.
+        self.printed = [(at, header) for at, header in columns.left_over()
+                        if unused.is_printed(header) and any(it in places for it in (*DATES, "coverage"))
+                        and not self.is_kbart]
         # Whether the header of each column of numbers says that all of them are of its side, as `P-ISSN`.
         self.sided_columns = [not self.is_kbart and bool(of := places.get(label, [])) and all(
             has_word(side, text, frozenset(text.split())) for text in (folded(columns.header[it]) for it in of))
@@ -412,15 +416,15 @@ class Converter:
         kind, rule = kinds.read(cell, "issn" in found, "isbn" in found, self.settings.kind)
         if kind and (strict.lower(cell) or "serial") != kind:
             draft.put("publication_type", kind, rule)
+        elif kind and not cell.strip() and not self.is_kbart:
+            # The reader takes no type for a serial, and others may not.
+            draft.cells["publication_type"] = kind
         return kind
 
     def note_unread(self, draft: Draft) -> None:
         """Notes the identifiers that do not read."""
         for label in NUMBERS:
             cell = draft.cells[label]
-        elif kind and not cell.strip() and not self.is_kbart:
-            # The reader takes no type for a serial, and others may not.
-            draft.cells["publication_type"] = kind
             if cell.strip(" ") and not identifiers.numbers(cell) and folded(cell) not in dates.NONE:
                 rule = "not read: its digits are lost in a spreadsheet" if identifiers.is_scientific(cell) \
                     else "not read: no number whose check character fits"
@@ -489,6 +493,8 @@ class Converter:
                 for cell in self.columns.cells(draft.fields, label) if has_year_beside(cell)]
         lost += [(header, cell, LOST) for at, header in self.beside_columns for cell in draft.fields[at:at + 1]
                  if beside.is_dated(header, cell)]
+        lost += [(header, cell, LOST) for at, header in self.printed for cell in draft.fields[at:at + 1]
+                 if dates.YEARS.search(cell)]
         for it in lost:
             draft.note(*it)
         return bool(lost)
@@ -533,6 +539,8 @@ class Converter:
         if len(places) > 1 and not any(is_own(self.columns.header[it]) for it in places) and not self.chooser.choices:
             cells = dict.fromkeys(it for at in sorted(places) for it in map(str.strip, fields[at:at + 1])
                                   if it and folded(it) not in dates.NONE)
+            # `Not available` beside the range of another part.
+            cells = {it: None for it in cells if statuses.verdict(it) != "no"} or cells
             cell, many = "; ".join(cells), [self.read(it) for it in cells]
             if len(many) > 1 and all(it.ranges and not it.unread for it in many) and not coverage.are_apart(many):
                 return cell, coverage.common(many)
@@ -646,6 +654,10 @@ class Converter:
         if label in self.several:
             if len(every := self.columns.filled(draft.fields, label)) > 1:
                 draft.note(label, " | ".join(every), SEVERAL)
+                if len({it for cell in every for it in dates.YEARS.findall(cell)}) > 1:
+                    # Nobody knows of which of the dates a number is.
+                    for numbers in (VOLUMES, ISSUES):
+                        draft.put(numbers[is_last], "", "a number beside several dates")
             given = self.columns.foremost(draft.fields, label)
         if len(given) < 2:
             if self.settings.has_quarters and (both := dates.quarter_or_month(cell.strip())):

@@ -73,7 +73,8 @@ ENDING = re.compile(r"\((?:s|es|e|en|n)\)")
 def meanings() -> dict[str, frozenset[str]]:
     """Returns what each word and phrase means: some have several meanings."""
     found: dict[str, set[str]] = {}
-    for meaning, many in [*TABLE.items(), *((it, TABLES["dates"][it]) for it in ("open", "after", "before"))]:
+    for meaning, many in [*TABLE.items(), ("ended", TABLES["held"]["cancelled"]),
+                          *((it, TABLES["dates"][it]) for it in ("open", "after", "before"))]:
         for word in many:
             found.setdefault(folded(word), set()).update({meaning, "to"} if meaning == "ended" else {meaning})
     for meaning, table in (("month", MONTHS), ("unit", UNITS), ("number", NUMBERS)):
@@ -112,22 +113,22 @@ def simplified(cell: str) -> str:
     if "year" in text or "month" in text or "current" in text:
         text = COUNTED_UNITS.sub(r"\1 \2 ago", AFTER.sub("embargo ", text))
         text = LAST_YEAR.sub("1 year ago", COUNTED.sub(lambda it: f" {it[1]} {it[2] or 'year'} ago", text))
-    text = LACKS.sub("lacks ", SERIES.sub("", text))
     if "/" in text:
         text = VOLUME_YEAR.sub(lambda it: f"{it[1]} " if is_volume(it[1]) else it[0], text)
     text = UNIT_STOP.sub(lambda it: it[1] + it[2] if it[2] in SHORT_UNITS else it[0], text)
+    text = LACKS.sub("lacks ", SERIES.sub("", text))
     if ">" in text or "→" in text:
         text = ANGLES.sub(lambda it: f" {it[1]} " if re.search("[0-9]", it[1]) else it[0], text)
         text = ARROW.sub("-", text)
     return dates.APART.sub(r"\1", ANNATA.sub("vol ", text).replace("t/m", "tot"))
 
 
-def tokens(cell: str) -> list[Token]:
 def is_volume(text: str) -> bool:
     """Returns whether a text begins with a word for a volume."""
     return "volume" in MEANINGS.get(re.split("[^a-z]", text)[0], NONE)
 
 
+def tokens(cell: str) -> list[Token]:
     """Returns the tokens of a statement. The longest phrase that the table has is one token."""
     found: list[Token] = []
     pending: list[Token] = []

@@ -14,9 +14,13 @@ SHOWN = {"dates": "dates", "embargo": "an embargo", "status": "a status"}
 LABELS = {kind: word_set("suspects", kind) for kind in KINDS}
 # Those of scripts without spaces, which are anywhere in a label.
 WRITTEN = {kind: [it for it in many if it >= "\u3000" and kind == "status"] for kind, many in LABELS.items()}
-HARMLESS, TO_READERS = word_set("suspects", "harmless"), word_set("suspects", "access")
+HARMLESS, TO_READERS, ABOUT = (word_set("suspects", it) for it in ("harmless", "access", "about"))
 STATUS = word_set("suspects", "status_cells")
 HELD, NOT_HELD, HELD_LABELS, HELD_COLUMNS = (word_set("held", it) for it in ("yes", "no", "labels", "columns"))
+# Words of titles that still appear: one that is not among them has ceased.
+PUBLISHED = word_set("held", "published")
+NOT_LABELS = word_set("held", "not_labels")
+PRINT, ONLINE = word_set("words", "print"), word_set("words", "online")
 # The year in `Subscribed 2026`.
 YEAR_BEHIND = re.compile(" [0-9]{4}$")
 UNITS = frozenset(it for it, unit in words("units").items() if len(it) > 3 and unit in ("D", "M", "W"))
@@ -134,7 +138,8 @@ def not_held(cells: set[str]) -> set[str]:
 def negated(cells: set[str]) -> set[str]:
     """Returns the cells of a column that are another one with a word as `not`, as `не активна` beside `активна`."""
     said = {it: [word for word in it.split() if "not" not in MEANINGS.get(word, NONE)] for it in cells}
-    return {it for it, words in said.items() if words and " ".join(words) != it and " ".join(words) in cells}
+    return {it for it, words in said.items() if words and " ".join(words) != it and " ".join(words) in cells
+            and " ".join(words) not in PUBLISHED}
 
 
 def held_values(header: str, cells: set[str]) -> set[str]:
@@ -149,6 +154,23 @@ def held_values(header: str, cells: set[str]) -> set[str]:
     return {it for it in cells if said[it] == "yes"} if {*said.values()} == {"yes", "no"} else set()
 
 
+def not_deleted(header: str, cells: set[str]) -> set[str]:
+    """Returns the cells of a column as `Deleted` that are not `yes`, if some are, or nothing."""
+    said = {it: values.YES_NO.get(it) for it in cells} if folded(header) in NOT_LABELS else {}
+    return {it for it in cells if said[it] != "yes"} if "yes" in said.values() else set()
+
+
+def says_held(header: str) -> bool:
+    """Returns whether the label of a column says that its cells may say by yes or no which titles are held."""
+    return YEAR_BEHIND.sub("", folded(header)) in HELD_LABELS | NOT_LABELS
+
+
+def is_printed(header: str) -> bool:
+    """Returns whether a column has the coverage in print, by its label: an online one is not there."""
+    tokens = {*folded(header).split()}
+    return bool(tokens & PRINT and tokens & LABELS["dates"]) and not tokens & ONLINE
+
+
 def label_kind(header: str) -> str:
     """Returns what a column looks like by its label, or nothing; `harmless` if its dates are not those of a title."""
     tokens = set(folded(header).split())
@@ -158,7 +180,7 @@ def label_kind(header: str) -> str:
         # `Months`, of which nobody knows what they are
         return "embargo"
     return next((kind for kind in ("embargo", "status", "dates") if tokens & LABELS[kind]
-                 or any(it in token for it in WRITTEN[kind] for token in tokens)), "")
+                 or any(it in token for it in WRITTEN[kind] for token in tokens)), "harmless" if tokens & ABOUT else "")
 
 
 class Column:
