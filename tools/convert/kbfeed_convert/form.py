@@ -174,7 +174,9 @@ def with_second_line(form: Form, first: list[tuple[int, str]], renamed: dict[str
         return form._replace(header=joined, line=second.line)
     above = next((it for it in reversed(found) if it.line < form.line), None)
     joined = labels.with_second(above.cells, form.header, label) if above else []
-    is_better = len({*map(label, joined)} - {None}) > len({*map(label, form.header)} - {None})
+    names, alone = (list(filter(None, map(label, it))) for it in (joined, form.header))
+    # `Print` and `Online` above two columns `From`: the labels are as many, and none is there twice.
+    is_better = len({*names}) > len({*alone}) or {*names} == {*alone} and len(names) < len(alone)
     return form._replace(header=joined) if is_better else form
 
 

@@ -114,7 +114,8 @@ def with_second(header: list[str], second: list[str], meaning: Callable[[str], s
         group = upper.strip() or group
         joined.append(f"{group} {lower.strip()}" if lower.strip() else upper)
     parts = [whole for whole, lower in zip(joined, below) if lower.strip()]
-    if len(parts) < 2 or any(re.search("[0-9]{3}", it) for it in below) or not all(map(meaning, parts)):
+    if len(parts) < 2 or any(re.search("[0-9]{3}", it) for it in below) or not all(
+            meaning(whole) or has_word("print", folded(whole), frozenset(folded(whole).split())) for whole in parts):
         return []
     return joined if len({*map(meaning, joined)} - {None}) > len({*map(meaning, header)} - {None}) else []
 

@@ -19,6 +19,9 @@ ALIKE: dict[int, str | None] = {**DASHES, **INVISIBLE, **SPACES}
 LINE_END = re.compile(r"(?:(?<=[0-9-])[ \t]*[\r\n]\s*(?=[0-9])"
                       r"|(?<=[0-9)-])[ \t]*[\r\n]\s*(?=(?:v|vol|bd|jg|t)\.? ?[0-9]))", re.I)
 
+# One behind a dash, before a line without any: it is inside a range.
+DASH_END = re.compile(r"(?<=[-–—])[ \t]*[\r\n]+[ \t]*(?=[0-9][^\r\n–—-]*(?:[\r\n]|\Z))")
+
 # The cells that a cache keeps, and how to empty each cache.
 SIZE = 8_192
 CACHES: list[Callable[[], None]] = []
@@ -49,7 +52,7 @@ def plain(text: str) -> str:
 
 def with_signs(text: str) -> str:
     """Returns a text with a semicolon for each line end between two numbers."""
-    return LINE_END.sub("; ", text) if "\n" in text or "\r" in text else text
+    return LINE_END.sub("; ", DASH_END.sub(" ", text)) if "\n" in text or "\r" in text else text
 
 
 @remembered

@@ -102,7 +102,7 @@ NO_EMBARGO = word_set("embargo", "none")
 RECENT = word_set("embargo", "recent")
 HIDDEN = word_set("embargo", "hidden")
 # A sign by which something may be lost, as in `?5Y`, and the sign of a moving wall: `+5Y` is the last five years.
-UNCLEAR = re.compile(r"[^\w\s.,:;()\[\]/'+-]")
+UNCLEAR = re.compile(r"[^\w\s.,:;()\[\]/'+-]|[^\W_]\s*\+")
 SIGNED = re.compile(r"([+-])\s?[0-9]")
 SPAN = re.compile(r"(?<![0-9])[0-9]{1,3} ?(?:-|to|bis|à|a) ?[0-9]{1,3}(?![0-9])")
 
