@@ -73,7 +73,7 @@ def convert(given: argparse.Namespace, name: str, out: Output, report_out: Repor
                 raise Refused(f"the list would have more than {BYTES} bytes")
             out.write(line)
         report.record(record, outcome)
-    report.end(left_over.suspects(), "" if report.rows else "no record is a row")
+    report.end(left_over.suspects(), left_over.categories(), "" if report.rows else "no record is a row")
     return report
 
 

@@ -312,6 +312,6 @@ def run(given: argparse.Namespace, day: str, report: Callable[..., Report],
         made.record(record, outcome)
         made.own(mine)
         library.add(record, outcome, mine)
-    made.end(left_over.suspects(), "" if made.rows else "no record is a row")
+    made.end(left_over.suspects(), left_over.categories(), "" if made.rows else "no record is a row")
     lines = library.write(folder, day, os.path.basename(os.path.normpath(folder))) if made.rows else []
     return made, lines

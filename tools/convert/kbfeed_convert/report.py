@@ -144,9 +144,9 @@ class Report:
                 and (new.last_volume is None or old.first_volume <= new.last_volume)):
             self.note("the volumes of a title begin again", number)
 
-    def end(self, suspects: list[dict[str, Any]], refused: str = "") -> None:
-        """Writes the end of the report. `suspects` are the columns that should perhaps be used, and `refused` is why
-        nothing else was written."""
+    def end(self, suspects: list[dict[str, Any]], categories: list[str], refused: str = "") -> None:
+        """Writes the end of the report. `suspects` are the columns that should perhaps be used, `categories` a warning
+        of those that only may be, and `refused` is why nothing else was written."""
         self.suspects = suspects
         if self.records != self.converted + sum(self.dropped.values()):
             raise Internal("the counts of records do not add up")
@@ -154,6 +154,7 @@ class Report:
         rules = sorted(self.rules.items(), key=lambda it: not DOUBTFUL.search(it[0]))
         self.warnings += map(unused.warning, suspects)
         self.warnings += [f"{rule}: {counted(count, 'record')}, the first is {first}" for rule, (count, first) in rules]
+        self.warnings += categories
         counts = {"records": self.records, "converted": self.converted, "dropped": dict(self.dropped),
                   "rows": self.rows}
         widened = [{key: it[key] for key in it if key != "last"} for it in self.widened.values()] + suspects

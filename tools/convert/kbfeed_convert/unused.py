@@ -27,6 +27,8 @@ UNITS = frozenset(it for it, unit in words("units").items() if len(it) > 3 and u
 # The share of the cells that have to look like one kind, and how many different ones the report has.
 MOST = 0.5
 CELLS = 5
+# The most different values of a category, and the characters of each.
+VALUES, SHORT = 4, 24
 # Of that many characters one may be a letter in a long cell of dates.
 FEW = 4
 # The beginnings of a list of lists or of objects in JSON, which is not used.
@@ -191,6 +193,8 @@ class Column:
         self.filled = self.held = 0
         self.counts = dict.fromkeys((*KINDS, "open"), 0)
         self.cells: dict[str, None] = {}
+        # The different cells, or more than a category has.
+        self.different: dict[str, str] = {}
 
     def look(self, cell: str) -> None:
         """Counts a cell that is not empty."""
@@ -204,11 +208,14 @@ class Column:
             self.counts["dates" if kind == "nested" else kind] += 1
         if len(self.cells) < CELLS:
             self.cells[cell[:100]] = None
+        if len(self.different) <= VALUES:
+            self.different.setdefault(folded(cell[:100]), cell[:100])
 
     def suspect(self) -> str:
         """Returns what the column looks like, or nothing."""
         if not self.filled or self.kind == "harmless":
-            return ""
+            # A category may have `dropped`.
+            return "status" if self.counts["status"] and ABOUT & {*folded(self.header).split()} else ""
         if self.kind and (self.kind != "dates" or self.counts["dates"] or self.counts["embargo"]):
             return self.kind
         if self.counts["status"] or self.filled > self.held >= MOST * self.filled:
@@ -220,6 +227,14 @@ class Column:
         return kind if count >= MOST * self.filled else ""
 
 
+    def is_category(self, records: int) -> bool:
+        """Returns whether a column that looks like nothing has a few short values that repeat, or a mark in some
+        records: one of them may say that a title is not held."""
+        is_mark = self.filled < records and all(not it or values.YES_NO.get(it) == "yes" for it in self.different)
+        return (not self.kind and 2 <= len(self.different) + is_mark <= VALUES and self.filled > len(self.different)
+                and all(len(it) <= SHORT and not re.search("[0-9]", it) for it in self.different))
+
+
 class Unused:
     """Looks at the columns of a list that are not used. `uses` says of a place and a cell whether that is used, and
     `held` has the places of the columns that say which titles are held."""
@@ -227,9 +242,11 @@ class Unused:
     def __init__(self, columns: Columns, uses: Callable[[int, str], bool], held: set[int]):
         self.uses = uses
         self.columns = [Column(place, header.strip(), place in held) for place, header in columns.left_over()]
+        self.records = 0
 
     def look(self, cells: list[str]) -> None:
         """Counts the cells of a record."""
+        self.records += 1
         for column in self.columns:
             cell = cells[column.place].strip() if column.place < len(cells) else ""
             if cell and not self.uses(column.place, cell):
@@ -239,6 +256,14 @@ class Unused:
         """Returns each column that looks like one that counts, with the number of its cells and some of them."""
         return [{"column": it.header, "looks_like": kind, "filled": it.filled, "cells": list(it.cells)}
                 for it in self.columns if (kind := it.suspect())]
+
+
+    def categories(self) -> list[str]:
+        """Returns a warning of the columns that may be categories, or none."""
+        found = [f"{it.header!r} ({', '.join(map(repr, it.different.values()))})" for it in self.columns
+                 if not it.suspect() and it.is_category(self.records)]
+        return [f"columns with few values are not used, and may say which titles are held: {'; '.join(found)}"] \
+            if found else []
 
 
 def warning(suspect: dict[str, Any]) -> str:
