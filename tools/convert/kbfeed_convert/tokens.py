@@ -56,6 +56,9 @@ AFTER = re.compile(r"\bafter (?=(?:an? |the |first |initial )?[0-9]{1,3}[ -]?(?:
 LAST_YEAR = re.compile(r"(?<=[-o] )(?:the )?(?:last|previous|prior) year\b")
 # A year and its quarter, as `2001-IV`.
 ROMAN = re.compile(r"(?<![0-9/-])([0-9]{4})[-/](i{1,3}|iv)(?![^\W_])")
+# A volume in Roman numerals, as `Vol. XII`.
+ROMAN_VOLUME = re.compile(r"(?<![^\W_])([^\W\d_]{1,10}\.? )([ivxlc]{1,8})(?![^\W_]|\.[^\W_])")
+LETTERS = {"i": 1, "v": 5, "x": 10, "l": 50, "c": 100}
 # The mark of a series before a volume, as in `n.s. v.1` and `ser. 2, v.1`, and `[L=1968]`, which is lacking.
 SERIES = re.compile(r"\b(?:[no]\. ?[sf]\.|ser(?:ies?)?\.? ?[0-9]{1,2}(?=[:, ])) ?[:,]? ?"
                     r"(?=(?:(?:v|vol|bd|t|jg|no|n)\.? ?)?[0-9])")
@@ -113,6 +116,7 @@ def simplified(cell: str) -> str:
     if "year" in text or "month" in text or "current" in text:
         text = COUNTED_UNITS.sub(r"\1 \2 ago", AFTER.sub("embargo ", text))
         text = LAST_YEAR.sub("1 year ago", COUNTED.sub(lambda it: f" {it[1]} {it[2] or 'year'} ago", text))
+    text = ROMAN_VOLUME.sub(lambda it: f"{it[1]}{roman(it[2])}" if is_volume(it[1]) else it[0], text)
     if "/" in text:
         text = VOLUME_YEAR.sub(lambda it: f"{it[1]} " if is_volume(it[1]) else it[0], text)
     text = UNIT_STOP.sub(lambda it: it[1] + it[2] if it[2] in SHORT_UNITS else it[0], text)
@@ -121,6 +125,12 @@ def simplified(cell: str) -> str:
         text = ANGLES.sub(lambda it: f" {it[1]} " if re.search("[0-9]", it[1]) else it[0], text)
         text = ARROW.sub("-", text)
     return dates.APART.sub(r"\1", ANNATA.sub("vol ", text).replace("t/m", "tot"))
+
+
+def roman(text: str) -> int:
+    """Returns a number in Roman numerals."""
+    digits = [LETTERS[it] for it in text]
+    return sum(-one if one < two else one for one, two in zip(digits, [*digits[1:], 0]))
 
 
 def is_volume(text: str) -> bool:
