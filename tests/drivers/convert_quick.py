@@ -3,9 +3,9 @@
 
 convert_quick.py COUNT [SEED]
 
-The lists are those of convert_random.py, whose cells tempt the rules, and some of convert_speed.py, whose records are
-usual. Prints how many lists were compared, and exits with 1 at the first that differs. How many records went the short
-way is printed on standard error."""
+The lists are those of convert_random.py and convert_spoilt.py, whose cells tempt the rules, and some of
+convert_speed.py, whose records are usual. Prints how many lists were compared, and exits with 1 at the first that
+differs. How many records went the short way is printed on standard error."""
 import argparse
 import pathlib
 import random
@@ -16,14 +16,14 @@ sys.dont_write_bytecode = True
 sys.path.insert(0, str(pathlib.Path(__file__).resolve().parent))
 import convert_random
 import convert_speed
-from convert_spoilt import Collected
+import convert_spoilt
 from kbfeed_convert import command, quick
 from kbfeed_convert.faults import Refused
 
 
 def converted(path, is_short):
     """Returns the rows and the report of a list, and how many records went the short way."""
-    out, report, count = Collected(), Collected(), 0
+    out, report, count = convert_spoilt.Collected(), convert_spoilt.Collected(), 0
     row = quick.Shortcut.row
 
     def counted(self, record):
@@ -46,6 +46,22 @@ def usual_list(r):
     return "".join(lines).encode()
 
 
+def stated_list(r):
+    lines = ["\t".join(convert_speed.STATED_LABELS) + "\n", *[convert_speed.stated_record(r) for _ in range(50)]]
+    return "".join(lines).encode()
+
+
+def spoilt_list(r):
+    """A list with statements or dates, of which half have something wrong."""
+    header, records, _, is_statement, _ = convert_spoilt.random_list(r)
+    if r.random() < 0.5:
+        header, records, _ = convert_spoilt.spoilt(r, header, records, is_statement)
+    return "\n".join("\t".join(it) for it in [header, *records]).encode()
+
+
+LISTS = [usual_list, stated_list, spoilt_list, spoilt_list, spoilt_list]
+
+
 def main():
     parser = argparse.ArgumentParser(description=__doc__, formatter_class=argparse.RawDescriptionHelpFormatter)
     parser.add_argument("count", type=int)
@@ -56,7 +72,8 @@ def main():
         path = pathlib.Path(name) / "L_2024-01-01.txt"
         for number in range(given.count):
             r = random.Random(given.seed * 1_000_003 + number)
-            path.write_bytes(usual_list(r) if number % 10 == 0 else convert_random.random_list(r))
+            made = LISTS[number % 10] if number % 10 < len(LISTS) else convert_random.random_list
+            path.write_bytes(made(r))
             *one, count = converted(path, True)
             *other, none = converted(path, False)
             assert one == other and not none, number

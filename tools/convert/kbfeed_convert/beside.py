@@ -35,6 +35,7 @@ ALMOST = re.compile(r"(?<![\w?])(?=(?:[^\d\s]*\d){2})[\w?]{4}(?![\w?])")
 
 # Words by which a text is about the history of a title, and no part of its coverage.
 HISTORY = word_set("suspects", "history")
+EARLIER = word_set("suspects", "earlier")
 # Words for an end in a header.
 ENDS = word_set("suspects", "ends")
 # Words by which a title has gone to another place, as in `transferred to Acme in 2010`.
@@ -99,6 +100,9 @@ def said(header: str, cell: str, order: str, has_volumes: bool) -> Said:
     means = {it for word in words for it in MEANINGS.get(word, NONE) if "issue" not in MEANINGS.get(word, NONE)}
     is_less = bool(means & LESS) or "to" in means and ALMOST.search(cell) is not None
     if not years and not (is_less and (means & TIMES or NUMBERED.search(cell))):
+        return NOTHING
+    if {*words[:1]} & EARLIER:
+        # `Formerly: Dock (until 1965)`
         return NOTHING
     found = coverage.read(cell[:LONGEST + 1], order, has_volumes)
     is_whole = not found.unread and len(cell) <= LONGEST

@@ -58,12 +58,13 @@ def convert(given: argparse.Namespace, name: str, out: Output, report_out: Repor
         if left_over.columns:
             left_over.look(record.cells)
         if shortcut.is_open and (found := shortcut.row(record)):
-            line = ("\t".join(found.cells) + "\n").encode()
-            left -= len(line)
-            if left < 0:
-                raise Refused(f"the list would have more than {BYTES} bytes")
-            out.write(line)
-            report.quick(record, found.changes, found.rules, found.read)
+            for cells in found.rows:
+                line = ("\t".join(cells) + "\n").encode()
+                left -= len(line)
+                if left < 0:
+                    raise Refused(f"the list would have more than {BYTES} bytes")
+                out.write(line)
+            report.quick(record, found.changes, found.rules, found.reads)
             continue
         outcome = converter.convert(record)
         for row, _ in outcome.rows:

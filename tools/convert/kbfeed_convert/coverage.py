@@ -8,7 +8,7 @@ import itertools
 import re
 from typing import Iterable, NamedTuple
 
-from . import dates, strict, thresholds
+from . import dates, shapes, strict, thresholds
 from .texts import remembered, with_signs, word_set
 from .tokens import MONTHS, NUMBERS, UNITS, Token, tokens
 
@@ -84,6 +84,11 @@ def read(cell: str, order: str, has_volumes: bool = False, has_quarters: bool = 
     `1990/4` may be a quarter."""
     if len(cell) > LONGEST:
         return Statement((), "", f"a statement of more than {LONGEST} characters")
+    return TEMPLATES.read(cell, lambda it: parsed(it, order, has_volumes, has_quarters))
+
+
+def parsed(cell: str, order: str, has_volumes: bool, has_quarters: bool) -> Statement:
+    """Parses a statement."""
     if not order:
         decided = dates.Order()
         decided.look([cell])
@@ -91,6 +96,10 @@ def read(cell: str, order: str, has_volumes: bool = False, has_quarters: bool = 
     reader = Reader(tokens(with_signs(thresholds.written_out(cell))), order, has_volumes, has_quarters)
     reader.run()
     return reader.statement()
+
+
+# A statement with a shape has no date whose parts may be in another order.
+TEMPLATES = shapes.Templates(Range, Statement)
 
 
 def wall(cell: str, is_last: bool) -> str:

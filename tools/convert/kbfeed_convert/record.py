@@ -68,6 +68,7 @@ ACCESS_NOT_READ = "not read: a year or a limit in a kind of access"
 BESIDE = "not read: the dates count beside it"
 NOT_PAIRED = "several dates that make no pairs: the narrowest range"
 SEVERAL = "several columns have a date: the narrowest counts"
+FURTHER = "a row of its own for a further range"
 MANY_ROWS = f"only {MOST_ROWS} rows of a record are made"
 WIDENING = {NOT_PAIRED, EMBARGO_NOT_READ, REVERSED, PARTLY_READ, STATEMENT_NOT_READ, BESIDE, SEVERAL, MANY_ROWS,
             EMPTY, LOST, MORE_CELLS, CANCELLED, GAP_NOT_READ, YEAR_NOT_READ, ACCESS_NOT_READ, dates.NOT_READ,
@@ -797,7 +798,7 @@ class Converter:
                 if number or not is_end:
                     row[label] = number
         if is_further and one[:2] != (draft.cells[DATES[0]], draft.cells[DATES[1]]):
-            draft.changes.append(Change("coverage", "", coverage.shown([one]), "a row of its own for a further range"))
+            draft.changes.append(Change("coverage", "", coverage.shown([one]), FURTHER))
         return row, strict.row(row)
 
 

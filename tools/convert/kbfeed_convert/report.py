@@ -18,6 +18,7 @@ PLACEHOLDER_BEGIN = re.compile(r"[\[{<%$]")
 PLACEHOLDERS = 100
 # Records dropped for these reasons hold nothing.
 NOTHING_LOST = {"Blank", "Header", "NotHeld"}
+SEVERAL_ROWS = "a record is several rows"
 QUOTES = "quotes around cells are no part of the text"
 # The lines on standard error, unless all are asked for.
 SHORT = 10
@@ -67,7 +68,7 @@ class Report:
             self.converted += 1
             self.rows += len(outcome.rows)
             if len(outcome.rows) > 1:
-                self.note("a record is several rows", number)
+                self.note(SEVERAL_ROWS, number)
         else:
             self.dropped[outcome.dropped] += 1
             said = as_json({"dropped": outcome.dropped, "why": outcome.why, "cells": given.cells[:SHOWN]})[1:-1]
@@ -86,24 +87,29 @@ class Report:
         if self.out:
             self.write_record(given.line, said, [change_text(*it) for it in outcome.changes])
 
-    def quick(self, given: form.Record, changes: list[str], rules: list[str], read: strict.Row) -> None:
-        """Adds a record that is one row and has a good address. Its changes are texts, each with its rule."""
+    def quick(self, given: form.Record, changes: list[str], rules: list[str], reads: list[strict.Row]) -> None:
+        """Adds a record whose rows have a good address. Its changes are texts, each with its rule."""
         self.records += 1
         self.converted += 1
-        self.rows += 1
-        self.addresses += 1
+        self.rows += len(reads)
+        self.addresses += len(reads)
         number = self.records + 1
+        if len(reads) > 1:
+            self.note(SEVERAL_ROWS, number)
         if given.is_quoted:
             self.note(QUOTES, number)
-        # Nothing is noted of a row whose identifiers are not those of the row before.
-        if self.before and self.before[1:3] == read[1:3]:
-            self.volumes(read, number)
-        else:
-            self.before = read
-        for rule in rules:
+        for read in reads:
+            # Nothing is noted of a row whose identifiers are not those of the row before.
+            if self.before and self.before[1:3] == read[1:3]:
+                self.volumes(read, number)
+            else:
+                self.before = read
+        for rule in rules if len(reads) == 1 else dict.fromkeys(rules):
             self.note(rule, number)
         if self.out:
-            self.write_record(given.line, f'"rows": [{self.rows + 1}]', changes)
+            rows = self.rows + 1 if len(reads) == 1 else ", ".join(
+                str(self.rows + 2 - at) for at in range(len(reads), 0, -1))
+            self.write_record(given.line, f'"rows": [{rows}]', changes)
 
     def write_record(self, line: int, said: str, changes: list[str]) -> None:
         """Writes a record of the report."""

@@ -6,7 +6,7 @@ from typing import Any, Callable
 
 from . import coverage, dates, statuses, values
 from .labels import Columns
-from .texts import counted, folded, remembered, word_set, words
+from .texts import SIZE, counted, folded, remembered, word_set, words
 from .tokens import MEANINGS, NONE
 
 KINDS = ("dates", "embargo", "status")
@@ -29,6 +29,8 @@ MOST = 0.5
 CELLS = 5
 # The most different values of a category, and the characters of each.
 VALUES, SHORT = 4, 24
+# The characters of a cell that is not kept.
+LONG = 500
 # Of that many characters one may be a letter in a long cell of dates.
 FEW = 4
 # The beginnings of a list of lists or of objects in JSON, which is not used.
@@ -190,32 +192,37 @@ class Column:
 
     def __init__(self, place: int, header: str, says_held: bool):
         self.place, self.header, self.kind = place, header, "status" if says_held else label_kind(header)
+        self.is_about = bool(ABOUT & {*folded(header).split()})
         self.filled = self.held = 0
         self.counts = dict.fromkeys((*KINDS, "open"), 0)
         self.cells: dict[str, None] = {}
         # The different cells, or more than a category has.
         self.different: dict[str, str] = {}
 
-    def look(self, cell: str) -> None:
-        """Counts a cell that is not empty."""
-        self.filled += 1
-        self.held += statuses.verdict(cell) == "yes"
+    def look(self, cell: str, count: int) -> None:
+        """Counts a cell that is not empty, and that so many records have."""
+        self.filled += count
+        self.held += count * (statuses.verdict(cell) == "yes")
         kind = cell_kind(cell)
         if not kind and self.kind == "dates" and dates.YEARS.search(cell):
             # Its label says what it has, though nobody reads it.
             kind = "dates"
         if kind:
-            self.counts["dates" if kind == "nested" else kind] += 1
+            self.counts["dates" if kind == "nested" else kind] += count
         if len(self.cells) < CELLS:
             self.cells[cell[:100]] = None
         if len(self.different) <= VALUES:
             self.different.setdefault(folded(cell[:100]), cell[:100])
 
+    def may_be_suspect(self) -> bool:
+        """Returns whether the cells of the column matter: its label does not say that it is harmless."""
+        return self.kind != "harmless" or self.is_about
+
     def suspect(self) -> str:
         """Returns what the column looks like, or nothing."""
         if not self.filled or self.kind == "harmless":
             # A category may have `dropped`.
-            return "status" if self.counts["status"] and ABOUT & {*folded(self.header).split()} else ""
+            return "status" if self.counts["status"] and self.is_about else ""
         if self.kind and (self.kind != "dates" or self.counts["dates"] or self.counts["embargo"]):
             return self.kind
         if self.counts["status"] or self.filled > self.held >= MOST * self.filled:
@@ -225,7 +232,6 @@ class Column:
         # `present` is a date beside other dates.
         count = self.counts[kind] + (self.counts["open"] if kind == "dates" and self.counts[kind] else 0)
         return kind if count >= MOST * self.filled else ""
-
 
     def is_category(self, records: int) -> bool:
         """Returns whether a column that looks like nothing has a few short values that repeat, or a mark in some
@@ -242,21 +248,40 @@ class Unused:
     def __init__(self, columns: Columns, uses: Callable[[int, str], bool], held: set[int]):
         self.uses = uses
         self.columns = [Column(place, header.strip(), place in held) for place, header in columns.left_over()]
+        # How many records have each cell of a column that may be a suspect: those that repeat are looked at once.
+        self.cells: list[tuple[Column, dict[str, int]]] = [(it, {}) for it in self.columns if it.may_be_suspect()]
         self.records = 0
 
     def look(self, cells: list[str]) -> None:
         """Counts the cells of a record."""
         self.records += 1
-        for column in self.columns:
-            cell = cells[column.place].strip() if column.place < len(cells) else ""
-            if cell and not self.uses(column.place, cell):
-                column.look(cell)
+        width = len(cells)
+        for column, counts in self.cells:
+            if column.place < width and (cell := cells[column.place]):
+                if cell in counts:
+                    counts[cell] += 1
+                else:
+                    counts[cell] = 1
+                    if len(counts) == SIZE or len(cell) > LONG:
+                        self.look_at(column, counts)
+
+    def look_at(self, column: Column, counts: dict[str, int]) -> None:
+        """Looks at the cells that were counted."""
+        for cell, count in counts.items():
+            if (text := cell.strip()) and not self.uses(column.place, text):
+                column.look(text, count)
+        counts.clear()
+
+    def end(self) -> None:
+        """Looks at all cells that were counted and not looked at."""
+        for column, counts in self.cells:
+            self.look_at(column, counts)
 
     def suspects(self) -> list[dict[str, Any]]:
         """Returns each column that looks like one that counts, with the number of its cells and some of them."""
+        self.end()
         return [{"column": it.header, "looks_like": kind, "filled": it.filled, "cells": list(it.cells)}
                 for it in self.columns if (kind := it.suspect())]
-
 
     def categories(self) -> list[str]:
         """Returns a warning of the columns that may be categories, or none."""
