@@ -453,6 +453,11 @@ class Reader:
         if "wall" in means:
             # `5 years ago to present` begins at the wall.
             self.left, self.is_to, self.is_open = Point(), True, True
+        elif "season" in means:
+            # Of a range the first month begins, and the last one ends.
+            first = dates.SEASONS[token.text]
+            point.months += [first, (first + 1) % 12 + 1]
+            point.month_at.append(point.count)
         elif "month" in means:
             point.months.append(int(MONTHS[token.text]))
             point.month_at.append(point.count)

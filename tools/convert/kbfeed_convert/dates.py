@@ -38,7 +38,8 @@ OPEN = word_set("dates", "open")
 NONE = word_set("dates", "none")
 FILLERS = word_set("dates", "fillers")
 QUARTERS = word_set("dates", "quarter")
-SEASONS = word_set("dates", "season")
+# The first month of each season.
+SEASONS = {word: int(month) for word, month in words("seasons").items()}
 MONTHS = words("months")
 TO = sorted(TABLES["dates"]["to"], key=len, reverse=True)
 TO_APART = "|".join(re.escape(it) for it in TO if it < "\u0250")
@@ -273,9 +274,15 @@ def by_names(now: str, is_last: bool) -> Read | None:
         return Read(date_text(year, months[-1] if is_last else months[0], day), "the name of a month")
     if len(others) == 2 and QUARTERS & set(others) and (digit := next((it for it in others if it in "1234"), "")):
         return Read(date_text(year, int(digit) * 3 if is_last else int(digit) * 3 - 2), "a quarter")
-    if len(others) == 1 and others[0] in SEASONS:
-        return Read(date_text(year), "a season: its year")
+    if others and all(it in SEASONS for it in others):
+        return Read(season(year, others, is_last), "a season")
     return None
+
+
+def season(year: int, names: list[str], is_last: bool) -> str:
+    """Returns the first or the last month of seasons: of a winter the December, or the February, of its year."""
+    first = SEASONS[names[-1 if is_last else 0]]
+    return date_text(year, (first + 1) % 12 + 1 if is_last else first)
 
 
 def by_years(now: str, is_last: bool) -> Read:
@@ -289,7 +296,9 @@ def by_years(now: str, is_last: bool) -> Read:
     if not found:
         return Read(None, NOT_READ)
     rule = "two years in a date" if len(found) > 1 else "a year in a text"
-    return Read(date_text(max(found) if is_last else min(found)), rule)
+    year = max(found) if is_last else min(found)
+    named = [it for it in re.findall(r"[^\W\d]+", folded(now)) if it in SEASONS]
+    return Read(season(year, named, is_last) if named else date_text(year), rule)
 
 
 def range_sides(now: str) -> tuple[str, str] | None:

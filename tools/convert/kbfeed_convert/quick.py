@@ -13,7 +13,7 @@ from .form import Record
 from .record import (DATE, DATES, FURTHER, IN_PAIRS, ISSUES, LONG, NUMBERS, PUBLISHED, SIGNS, VOLUMES, WIDENING,
                      Converter, has_number_beside, has_year_beside)
 from .report import change_text
-from .texts import SIZE
+from .texts import SIZE, folded
 
 # An address that needs no change and no warning: without a placeholder and a byte in percent.
 ADDRESS = re.compile(r"https?://[!#&-;=?-Z\\^_a-z|~]*").fullmatch
@@ -132,6 +132,8 @@ class Shortcut:
         if missing <= 0 or lines > 1 or size > LONG or given[0] == self.first_cell:
             return None
         cells = given if self.is_standard and missing == 1 else list(self.converter.cells_of(given + [""] * missing))
+        if not self.converter.is_kbart and not values.NOTHING.isdisjoint(cells):
+            return None
         title, print_, online = self.texts(cells)
         if not title or "<" in title or "&" in title and values.REFERENCE.search(title):
             return None
@@ -307,7 +309,7 @@ def published(label: str, order: str, cell: str) -> Cell:
 
 def volume(label: str, is_last: bool, cell: str) -> Cell | None:
     """Reads a volume. One with a year beside it may widen the row."""
-    if has_year_beside(cell):
+    if has_year_beside(cell) or cell and folded(cell) in dates.NONE:
         return None
     text = volumes.read(cell, is_last)
     return changed(label, cell, text, "a volume with words", strict.volume(text))

@@ -279,6 +279,8 @@ class Converter:
         cells = dict(zip(strict.LABELS, self.cells_of(padded)))
         for label in self.several:
             cells[label] = self.columns.cell(fields, label)
+        if not self.is_kbart and not values.NOTHING.isdisjoint(cells.values()):
+            cells = {label: "" if it in values.NOTHING else it for label, it in cells.items()}
         return cells
 
     def decided(self, draft: Draft, before: strict.Row | str) -> tuple[str | None, list[tuple[str, str]]]:
@@ -758,6 +760,9 @@ class Converter:
         """Puts the volume and the issue that are beside a date, as in `v.23 n.1 (Jan 5, 1996)`, if no column has them,
         and the day of that date."""
         said = self.read(PART_OF_VOLUME.sub("", cell))
+        if not said.ranges and not dates.SEASONS.keys().isdisjoint(folded(cell).split()):
+            # A winter is no range by itself.
+            said = self.read(f"{'to' if at else 'from'} {PART_OF_VOLUME.sub('', cell)}")
         if said.unread or len(said.ranges) != 1:
             return
         if said.ranges[0][at].startswith(draft.cells[DATES[at]]):
@@ -768,6 +773,9 @@ class Converter:
 
     def volumes(self, draft: Draft) -> None:
         """Puts the volumes of a record, unless the reader would take none of them."""
+        for label in () if self.is_kbart else (*VOLUMES, *ISSUES):
+            if draft.cells[label] and folded(draft.cells[label]) in dates.NONE:
+                draft.put(label, "", "no number")
         old = draft.cells[VOLUMES[0]], draft.cells[VOLUMES[1]]
         new = volumes.read(old[0], False), volumes.read(old[1], True)
         if not any(old) and "volumes" in self.columns.places:

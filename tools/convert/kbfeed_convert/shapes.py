@@ -1,9 +1,9 @@
 """Statements that differ in their numbers alone, as `v.1 (1990)-` and `v.7 (1985)-`: one of each shape is parsed.
 
 A shape has all that decides how a statement is parsed: the text between its numbers, what each number may be (a year, a
-day, a number of one, two or three digits), which of them are equal, and which years are greater, or follow each other. Numbers in
-another form, as `12/1990` and `1995-06`, have no shape. What a shape makes of its numbers is learned from one
-statement, and counts only if it makes the same of other numbers as the parser does."""
+day, a number of one, two or three digits), which of them are equal, and which years are greater, or follow each other.
+Numbers in another form, as `12/1990` and `1995-06`, have no shape. What a shape makes of its numbers is learned from
+one statement, and counts only if it makes the same of other numbers as the parser does."""
 import itertools
 import re
 from typing import Any, Callable, Generic, NamedTuple, Sequence, TypeVar

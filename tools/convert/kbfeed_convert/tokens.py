@@ -80,7 +80,8 @@ def meanings() -> dict[str, frozenset[str]]:
                           *((it, TABLES["dates"][it]) for it in ("open", "after", "before"))]:
         for word in many:
             found.setdefault(folded(word), set()).update({meaning, "to"} if meaning == "ended" else {meaning})
-    for meaning, table in (("month", MONTHS), ("unit", UNITS), ("number", NUMBERS)):
+    for meaning, table in (("month", MONTHS.keys()), ("season", dates.SEASONS.keys()), ("unit", UNITS.keys()),
+                           ("number", NUMBERS.keys())):
         for word in table:
             found.setdefault(word, set()).add(meaning)
     found.pop("", None)

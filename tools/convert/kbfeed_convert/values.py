@@ -95,6 +95,8 @@ def address(cell: str, replaced: dict[str, str], parameters: tuple[str, ...] = (
     return text.replace(" ", "%20")
 
 
+# The signs that stand for an empty cell.
+NOTHING = frozenset(["-", "--", "---", "–", "—", "−", "‐", "―", ".", "..", "...", "/", "//", "－", "ー"])
 STATEMENTS = re.compile(r"[RP][0-9]{1,9}[DMY](?:;[RP][0-9]{1,9}[DMY])?", re.I)
 UNITS = words("units")
 NUMBERS = words("numbers")
@@ -116,7 +118,7 @@ def embargo(cell: str, unit: str = "") -> str:
     if not cell or STATEMENTS.fullmatch(cell.strip(" ")):
         return cell
     text = folded(cell)
-    if text in NO_EMBARGO:
+    if text in NO_EMBARGO or not text and cell.strip() in NOTHING:
         return ""
     if UNCLEAR.search(plain(cell)):
         return cell
