@@ -41,6 +41,8 @@ OWN_STATEMENTS = OWN_WORDS | word_set("own", "statements")
 FREE = word_set("free_lists", "labels")
 
 
+# `N.º` and `N°`
+NUMERO = re.compile(r"\b[Nn]\.? ?[º°]")
 # The label of a bare number by its unit, and the words of a length that is hidden. Of short words for units, as `Y`,
 # none counts.
 UNITS = {word: unit for word, unit in words("units").items() if len(word) >= SHORT}
@@ -62,7 +64,7 @@ def label(cell: str) -> str | None:
         return name
     if len(cell) > LONGEST:
         return None
-    text = folded(cell)
+    text = folded(NUMERO.sub("no", cell))
     if text.replace(" ", "_") in strict.LABELS:
         return text.replace(" ", "_")
     if found := SYNONYMS.get(text.replace(" ", "")):

@@ -17,6 +17,8 @@ ROWS = 1_048_576
 SHEETS = 1_000
 STYLES = 100_000
 LINKS = 100_000
+# The rows that are merged with one at most.
+MERGED = 1_000
 # Formats of dates that have no code in the file, by their number: which of year, month and day they show.
 BUILT_IN = {**dict.fromkeys([14, 22, *range(27, 32), 36, *range(50, 59)], "ymd"), 15: "ymd", 16: "md", 17: "ym",
             **dict.fromkeys([*range(18, 22), *range(32, 36), 45, 46, 47], "")}
@@ -192,7 +194,9 @@ class Workbook:
 
         A row has at most `COLUMNS` cells: what is behind them is left out. Raises `Refused` past a limit."""
         number = 0
-        links = self.links(self.places[sheet])
+        links, merged = self.links(self.places[sheet]), self.merged(self.places[sheet])
+        # The text of each cell that is merged with those below, by its column, and the last row of these.
+        below: dict[int, tuple[int, str]] = {}
         for given, cells in self.raw_rows(self.places[sheet]):
             for _ in range(given - number - 1):
                 yield []
@@ -207,7 +211,35 @@ class Workbook:
                 row += [""] * (cell.column + 1 - len(row))
                 link = links.get((number, cell.column), "") if links else ""
                 row[cell.column] = Linked(text, link) if link else text
+            for column, (last, text) in below.items():
+                if number <= last and not "".join(row[column:column + 1]):
+                    row += [""] * (column + 1 - len(row))
+                    row[column] = text
+            below.update({column: (last, row[column]) for column, last in merged.get(number, ()) if column < len(row)})
             yield row
+
+    def merged(self, part: str) -> dict[int, list[tuple[int, int]]]:
+        """Returns the cells that are merged with those below, by their row: the column, and the last row. They are at
+        the end of a sheet, which is read for them only if it has some."""
+        found: dict[int, list[tuple[int, int]]] = {}
+        count = 0
+
+        def start(tag: str, given: markup.Attributes) -> None:
+            nonlocal count
+            places = [REFERENCE.fullmatch(it) for it in given.get("ref", "").split(":")] if tag == "mergeCell" else []
+            if len(places) == 2 and places[0] and places[1] and count < LINKS:
+                first, last = int(places[0][2]), int(places[1][2])
+                if first < last <= first + MERGED and (column := column_of(places[0][0])) < COLUMNS:
+                    count += 1
+                    found.setdefault(first, []).append((column, last))
+        with self.zip.open(part) as file:
+            before = b""
+            while chunk := file.read(1 << 16):
+                if b"mergeCell " in before + chunk:
+                    self.read(part, start)
+                    break
+                before = chunk[-20:]
+        return found
 
     def links(self, part: str) -> dict[tuple[int, int], str]:
         """Returns the addresses behind cells, by row and column. They are at the end of a sheet."""
