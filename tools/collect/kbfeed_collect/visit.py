@@ -166,7 +166,7 @@ def convert(source: Source, given: pathlib.Path, whole: pathlib.Path, outcome: O
         options = [f"--package={source.package}", *source.options]
         report = converter.convert(converter.arguments([*options, str(given)]), whole.name, out, report_out)
         outcome.rows, outcome.dropped = report.rows, report.lost()
-        outcome.warnings = [report.summary(True)[0], *report.warnings]
+        outcome.warnings = [report.counts(), *report.warnings]
         if not report.rows:
             raise Refused("no record is a row: such a release would hide its package")
         out.finish()

@@ -115,7 +115,7 @@ def run_library(given: argparse.Namespace) -> int:
 
 def status_of(given: argparse.Namespace, report: Report) -> int:
     """Prints the summary, and returns the exit status."""
-    for line in report.summary(given.verbose):
+    for line in report.summary(given.verbose, given.strict):
         ending.say(PROGRAM, line)
     if not report.rows:
         raise Refused("no record is a row: such a release would hide its package")

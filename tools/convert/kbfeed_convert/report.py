@@ -195,11 +195,16 @@ class Report:
         parts += [counted(len(self.suspects), "column")] if self.suspects else []
         return f"coverage may be wider or narrower than the source by {' and '.join(parts)}" if parts else ""
 
-    def summary(self, is_whole: bool) -> list[str]:
-        """Returns the counts and the warnings, at most ten lines unless all are asked for."""
+    def counts(self) -> str:
+        """Returns in words how many records and rows there are, and how many records were dropped, and why."""
         dropped = ", ".join(f"{count} {reason}" for reason, count in self.dropped.items()) or "none"
-        counts = f"{counted(self.records, 'record')}, {counted(self.rows, 'row')}, dropped: {dropped}"
-        lines = [counts, *self.warnings]
+        return f"{counted(self.records, 'record')}, {counted(self.rows, 'row')}, dropped: {dropped}"
+
+    def summary(self, is_whole: bool, is_strict: bool) -> list[str]:
+        """Returns what may be wrong with the coverage, the counts and the warnings, at most ten lines unless all are
+        asked for. With --strict its reason is printed behind them."""
+        doubt = "" if is_strict else self.doubt()
+        lines = [*([f"{doubt}: the report has them as \"widened\""] if doubt else []), self.counts(), *self.warnings]
         if is_whole or len(lines) <= SHORT:
             return lines
         return lines[:SHORT - 1] + [f"and {len(lines) - SHORT + 1} more warnings: -v prints them all"]
